@@ -1,0 +1,1 @@
+// Definitions only: specs/ says what every call answers.

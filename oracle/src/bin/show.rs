@@ -1,0 +1,51 @@
+//! `show FILE`: the listing in FILE as text, what the two loop passes make of it, and its webs or why there are none.
+
+use std::error::Error;
+use std::fs;
+
+use oracle::answers::{self, family_name, NO_FAMILY};
+use oracle::json;
+use oracle::pseudo::PseudoLine;
+
+fn main() -> Result<(), Box<dyn Error>> {
+    let args: Vec<String> = std::env::args().skip(1).collect();
+    let [file] = args.as_slice() else { return Err("usage: show FILE".into()) };
+    let lines = json::read(&fs::read(file)?)?;
+    println!("{}", text(&lines));
+    show_pass("recover_goto_loops", &lines, answers::recover_goto_loops(&lines));
+    show_pass("recover_loops", &lines, answers::recover_loops(&lines));
+    show_webs(&lines);
+    Ok(())
+}
+
+fn text(lines: &[PseudoLine]) -> String {
+    let row = |l: &PseudoLine| {
+        let tokens: String = l.tokens.iter().map(|t| t.t.as_str()).collect();
+        format!("{}{tokens}\n", "    ".repeat(usize::from(l.indent)))
+    };
+    lines.iter().map(row).collect()
+}
+
+fn show_pass(name: &str, before: &[PseudoLine], after: Result<Vec<PseudoLine>, u8>) {
+    match after {
+        Ok(after) if after == before => println!("{name}: unchanged"),
+        Ok(after) => println!("{name}:\n{}", text(&after)),
+        Err(number) => println!("{name}: refused {number}"),
+    }
+}
+
+/// Rows `line token family#web D|U`, one for each token with a family.
+fn show_webs(lines: &[PseudoLine]) {
+    let webs = match answers::webs(lines) {
+        Ok(webs) => webs,
+        Err(number) => return println!("webs: refused {number}"),
+    };
+    println!("webs, after {} sweeps:", webs.sweeps);
+    let places = lines.iter().enumerate().flat_map(|(i, l)| (0..l.tokens.len()).map(move |k| (i, k)));
+    for (((i, k), number), mark) in places.zip(&webs.numbers).zip(&webs.marks) {
+        if *number != NO_FAMILY {
+            let family = family_name(&lines[i].tokens[k]).expect("a token with a number has a family");
+            println!("{i} {k} {family}#{number} {}", if *mark == 1 { 'D' } else { 'U' });
+        }
+    }
+}
