@@ -58,15 +58,17 @@ mark b = if b then 1 else 0
 
 abbrev pub numbered-webs : List Line → List Webs → Numbered
 numbered-webs L ws = record {
-    numbers = per-token no-family (key ws) L;
-    marks = per-token 0 (λ f i k. mark (eqb k 0 && is-def ws f i)) L;
-    sweeps = total-sweeps ws }
+  numbers = per-token no-family (key ws) L;
+  marks = per-token 0 (λ f i k. mark (eqb k 0 && is-def ws f i)) L;
+  sweeps = total-sweeps ws;
+}
 
 abbrev pub numbered-splits : List Line → List Split → Numbered
 numbered-splits L ss = record {
-    numbers = per-token no-family (λ f i k. split-key ss f i) L;
-    marks = per-token 0 (λ f i k. mark (split-starts ss f i)) L;
-    sweeps = 0 }
+  numbers = per-token no-family (λ f i k. split-key ss f i) L;
+  marks = per-token 0 (λ f i k. mark (split-starts ss f i)) L;
+  sweeps = 0;
+}
 
 -- Questions 7 to 9: two lines or more? Does every brace match? Has every goto keyword a symbol after it, the first of which names a label?
 unfoldable pub webs-refusal : List Line → Option ℕ

@@ -17,11 +17,14 @@ pub record Braces : Type 0 where
   pub opens : ℕ
   pub closes : ℕ
 
+abbrev pub closing-brace : Braces → Braces
+closing-brace b =
+    if ltb 0 (b .opens) then record { opens = b .opens - 1; closes = b .closes } else record { opens = b .opens; closes = b .closes + 1 }
+
 unfoldable pub brace : Braces → ℕ → Braces
 brace b c =
     if eqb c 123 then record { opens = b .opens + 1; closes = b .closes }
-    else if eqb c 125 then
-      (if ltb 0 (b .opens) then record { opens = b .opens - 1; closes = b .closes } else record { opens = 0; closes = b .closes + 1 })
+    else if eqb c 125 then closing-brace b
     else b
 
 unfoldable pub braces : Line → Braces
@@ -41,8 +44,9 @@ pub record Open : Type 0 where
 unfoldable pub close : ℕ → ℕ → Open → Option Open
 close i zero o = some o
 close i (suc k) o = elim (o .stack) [
-    [] ↦ none
-  | h ∷ hs ↦ close i k (record { stack = hs; ends = set (o .ends) h (some i); enclosing = o .enclosing }) ]
+  | [] ↦ none
+  | h ∷ hs ↦ close i k (record { stack = hs; ends = set (o .ends) h (some i); enclosing = o .enclosing })
+]
 
 -- Line i opens k blocks; it lies itself in those that were open before.
 abbrev pub enter : ℕ → ℕ → Open → Open

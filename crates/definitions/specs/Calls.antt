@@ -54,10 +54,11 @@ zero-columns out = record { lines = zeros (out .lines); addresses = zeros (out .
 
 abbrev pub packed : List Line → Columns → Columns
 packed M out = record {
-    lines = filled (line-words M) (out .lines);
-    addresses = filled (address-words M) (out .addresses);
-    tokens = filled (token-words M) (out .tokens);
-    text = filled (text-bytes M) (out .text) }
+  lines = filled (line-words M) (out .lines);
+  addresses = filled (address-words M) (out .addresses);
+  tokens = filled (token-words M) (out .tokens);
+  text = filled (text-bytes M) (out .text);
+}
 
 abbrev pub counts : List Line → Limits
 counts M = record { lines = length M; tokens = length (token-words M); text = length (text-bytes M) }
@@ -68,8 +69,9 @@ passed (accepted M) out = record { answer = accepted (counts M); out = packed M 
 
 unfoldable pub pass-call : (List Line → Answer (List Line)) → Columns → Columns → Passed
 pass-call pass c out = elim (pass-refusal c out) [
-    some n ↦ record { answer = refused n; out = out }
-  | none ↦ passed (pass (with-addresses (c .lines) (c .addresses) (listing (c .lines) (c .tokens) (c .text)))) out ]
+  | some n ↦ record { answer = refused n; out = out }
+  | none ↦ passed (pass (with-addresses (c .lines) (c .addresses) (listing (c .lines) (c .tokens) (c .text)))) out
+]
 
 -- Webs: questions 1, 2, 3, 4, 5, 7, 8, 9. Splits: 1, 2, 3, 4. The chooser: 1, 2, 3, 4, 5.
 
@@ -106,13 +108,15 @@ webs-written (accepted r) o = record { answer = accepted (r .sweeps); lent = wri
 -- answers the total number of sweeps
 unfoldable pub web-call : List ℕ → List ℕ → List ℕ → Lent → Called ℕ
 web-call l t x o = elim (web-refusal l t x o) [
-    some n ↦ record { answer = refused n; lent = o }
-  | none ↦ webs-written (webs (listing l t x)) o ]
+  | some n ↦ record { answer = refused n; lent = o }
+  | none ↦ webs-written (webs (listing l t x)) o
+]
 
 unfoldable pub split-call : List ℕ → List ℕ → List ℕ → Lent → Called (Unit {0})
 split-call l t x o = elim (split-refusal l t x o) [
-    some n ↦ record { answer = refused n; lent = o }
-  | none ↦ record { answer = accepted tt; lent = written (splits (listing l t x)) o } ]
+  | some n ↦ record { answer = refused n; lent = o }
+  | none ↦ record { answer = accepted tt; lent = written (splits (listing l t x)) o }
+]
 
 -- which of the two was chosen, webs with the total number of sweeps
 pub data Chosen : Type 0 where
@@ -125,5 +129,6 @@ chosen-written (chose-splits r) o = record { answer = accepted by-splits; lent =
 
 unfoldable pub choose-call : List ℕ → List ℕ → List ℕ → Lent → Called Chosen
 choose-call l t x o = elim (web-refusal l t x o) [
-    some n ↦ record { answer = refused n; lent = o }
-  | none ↦ chosen-written (choose (listing l t x)) o ]
+  | some n ↦ record { answer = refused n; lent = o }
+  | none ↦ chosen-written (choose (listing l t x)) o
+]

@@ -96,9 +96,10 @@ unfoldable pub scan-text : ℕ → ℕ → ℕ → List ℕ → Seen → Seen
 scan-text place pos skip [] r = r
 scan-text place pos (suc skip) (c ∷ s) r = scan-text place (suc pos) skip s r
 scan-text place pos zero (c ∷ s) r = elim (comparison-at (c ∷ s) r) [
-    some o ↦ scan-text place (suc pos) (length (o .op) - 1) s
+  | some o ↦ scan-text place (suc pos) (length (o .op) - 1) s
       (add-found (record { place = place; pos = pos; comparison = o }) (see-logical (c ∷ s) r))
-  | none ↦ scan-text place (suc pos) zero s (see-bracket c (see-logical (c ∷ s) r)) ]
+  | none ↦ scan-text place (suc pos) zero s (see-bracket c (see-logical (c ∷ s) r))
+]
 
 -- Punct tokens are scanned, keyword brackets count, other tokens are passed over.
 unfoldable pub scan-token : ℕ → Token → Seen → Seen
@@ -119,5 +120,6 @@ only-comparison r = if eqb (r .count) 1 then r .found else none
 
 unfoldable pub negate-cond : List Token → List Token
 negate-cond c = elim (only-comparison (scan 0 c nothing-seen)) [
-    some f ↦ on-part (f .place) (f .place + 1) (flip f) c
-  | none ↦ merge (tok (ascii "!(") Punct ∷ (c ++ (tok (ascii ")") Punct ∷ []))) ]
+  | some f ↦ on-part (f .place) (f .place + 1) (flip f) c
+  | none ↦ merge (tok (ascii "!(") Punct ∷ (c ++ (tok (ascii ")") Punct ∷ [])))
+]

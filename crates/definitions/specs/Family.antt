@@ -38,8 +38,9 @@ legacy-family [] s = none
 legacy-family (row ∷ rows) s =
     let later = legacy-family rows s in
     elim (position (s ==_) row) [
-      none ↦ later
-    | some column ↦ some (record { name = getD row 0 []; width = getD widths column 0 }) ]
+      | none ↦ later
+      | some column ↦ some (record { name = getD row 0 []; width = getD widths column 0 })
+    ]
 
 -- ah bh ch dh are 8 bits of their r?x.
 abbrev pub is-high : List ℕ → Bool

@@ -60,14 +60,15 @@ is-case l = is-kw (ascii "case") (token l 0) || is-kw (ascii "default") (token l
 
 unfoldable pub cases : List Line → Blocks → ℕ → List ℕ
 cases L b h = elim (end-of b h) [
-    none ↦ []
-  | some c ↦ filter (λ j. is-switch (line L h) && is-case (line L j)) (range (h + 1) (c - (h + 1))) ]
+  | none ↦ []
+  | some c ↦ filter (λ j. is-switch (line L h) && is-case (line L j)) (range (h + 1) (c - (h + 1)))
+]
 
 -- Break and continue step to the opener, and past the end, of every enclosing loop or switch.
 unfoldable pub leaves : List Line → Blocks → ℕ → List ℕ
 leaves L b i =
     if has-kw (line L i) (ascii "break") || has-kw (line L i) (ascii "continue") then
-      concat (map (λ h. h ∷ past-end b h) (filter (λ h. is-loop (line L h) || is-switch (line L h)) (getD (b .enclosing) i [])))
+    concat (map (λ h. h ∷ past-end b h) (filter (λ h. is-loop (line L h) || is-switch (line L h)) (getD (b .enclosing) i [])))
     else []
 
 -- Each goto steps to its label; of equal labels the last counts.

@@ -37,7 +37,6 @@ use lib.ListN.{length, take, drop, getElem?}
 
 infix 5 if_then_else_
 infixl 1 _>>=_
-
 abbrev pub if_then_else_ : {A : Type 0} → Bool → A → A → A
 if b then x else y = cond b x y
 
@@ -149,7 +148,6 @@ member x xs = any (eqb x) xs
 -- Texts
 
 infix 40 _==_
-
 unfoldable pub _==_ : List ℕ → List ℕ → Bool
 [] == [] = true
 [] == (b ∷ t) = false

@@ -26,8 +26,9 @@ pub data Pass : Type 0 where
 unfoldable pub turns : ℕ → (List Line → ℕ → Turn) → ℕ → ℕ → List Line → Pass
 turns gap turn zero i L = lines L
 turns gap turn (suc k) i L = elim (ltb (i + gap) (length L)) [
-    false ↦ lines L
-  | true ↦ elim (turn L i) [ go j M ↦ turns gap turn k j M | stop ↦ lines L | beyond ↦ overflow ] ]
+  | false ↦ lines L
+  | true ↦ elim (turn L i) [ go j M ↦ turns gap turn k j M | stop ↦ lines L | beyond ↦ overflow ]
+]
 
 abbrev pub pass : ℕ → (List Line → ℕ → Turn) → List Line → Pass
 pass gap turn L = turns gap turn (length L) 0 L

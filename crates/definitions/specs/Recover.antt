@@ -86,7 +86,8 @@ webs-of L preds f =
       reads = read-lines L f;
       reaching = reaching;
       rep = fold (λ r i. link r (getD reaching i [])) (up-to (length L)) (read-lines L f);
-      sweeps = swept .count }
+      sweeps = swept .count;
+    }
 
 -- the families that have a definition, each once
 unfoldable pub distinct : List (List ℕ) → List (List ℕ)
@@ -119,8 +120,9 @@ is-def ws f i = elim (webs-for ws f) [ none ↦ false | some w ↦ member i (w .
 
 unfoldable pub key : List Webs → List ℕ → ℕ → ℕ → ℕ
 key ws f i k = elim (webs-for ws f) [
-    none ↦ 0
-  | some w ↦ (if eqb k 0 && member i (w .defs) then web-number w i else if member i (w .reads) then read-number w i else 0) ]
+  | none ↦ 0
+  | some w ↦ (if eqb k 0 && member i (w .defs) then web-number w i else if member i (w .reads) then read-number w i else 0)
+]
 
 abbrev pub total-sweeps : List Webs → ℕ
 total-sweeps ws = fold (λ n w. n + w .sweeps) 0 ws

@@ -105,8 +105,9 @@ rewritten L h b =
 
 unfoldable pub looped : List Line → ℕ → Turn
 looped L h = elim (back-edge L h) [
-    none ↦ go (h + 1) L
-  | some b ↦ (if ltb (h + 1) b && not (enters L h b) then rewritten L h b else go (h + 1) L) ]
+  | none ↦ go (h + 1) L
+  | some b ↦ (if ltb (h + 1) b && not (enters L h b) then rewritten L h b else go (h + 1) L)
+]
 
 -- `lines[h].indent + 1` is worked out for every label with at least two lines after it.
 unfoldable pub goto-turn : List Line → ℕ → Turn

@@ -48,8 +48,9 @@ close-at L i w = elim (guarded L i w) [ none ↦ go (i + 1) L | some c ↦ rebui
 -- The close is the first non-label line from i + 2 with indent at most one above the guard's; if there is none the whole pass stops.
 unfoldable pub close : List Line → ℕ → Turn
 close L i = elim (position-from (i + 2) (λ l. leb (l .indent) (line L i .indent + 1) && not (is-label l)) L) [
-    none ↦ stop
-  | some w ↦ close-at L i w ]
+  | none ↦ stop
+  | some w ↦ close-at L i w
+]
 
 -- `ind + 1` is worked out wherever the next line has the keyword do, whatever line i itself is.
 unfoldable pub loop-turn : List Line → ℕ → Turn

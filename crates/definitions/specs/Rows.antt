@@ -177,20 +177,20 @@ abbrev pub rows : List Row
 rows =
     -- 1: a register that is set twice has two webs
     row webs-call
-      (function (at 1 (set "rax" "1") ∷ at 1 (call "rax") ∷ at 1 (set "rax" "2") ∷ at 1 (kw "return" ∷ p " " ∷ reg "rax" ∷ p ";" ∷ []) ∷ []))
-      (numbers (o 2 0 "rax" 1 D ∷ o 3 2 "rax" 1 U ∷ o 4 0 "rax" 2 D ∷ o 5 2 "rax" 2 U ∷ []))
+    (function (at 1 (set "rax" "1") ∷ at 1 (call "rax") ∷ at 1 (set "rax" "2") ∷ at 1 (kw "return" ∷ p " " ∷ reg "rax" ∷ p ";" ∷ []) ∷ []))
+    (numbers (o 2 0 "rax" 1 D ∷ o 3 2 "rax" 1 U ∷ o 4 0 "rax" 2 D ∷ o 5 2 "rax" 2 U ∷ []))
     -- 2: what both branches set is one web
     ∷ row webs-call
-      (function (
-        at 1 (kw "if" ∷ p " (" ∷ reg "rbx" ∷ p ") {" ∷ []) ∷ at 2 (set "rax" "1") ∷ at 1 (p "} " ∷ kw "else" ∷ p " {" ∷ []) ∷ at 2 (set "rax" "2")
-        ∷ at 1 brace ∷ at 1 (kw "return" ∷ p " " ∷ reg "rax" ∷ p ";" ∷ []) ∷ []))
-      (numbers (o 2 2 "rbx" 0 U ∷ o 3 0 "rax" 1 D ∷ o 5 0 "rax" 1 D ∷ o 7 2 "rax" 1 U ∷ []))
+    (function (
+    at 1 (kw "if" ∷ p " (" ∷ reg "rbx" ∷ p ") {" ∷ []) ∷ at 2 (set "rax" "1") ∷ at 1 (p "} " ∷ kw "else" ∷ p " {" ∷ []) ∷ at 2 (set "rax" "2")
+    ∷ at 1 brace ∷ at 1 (kw "return" ∷ p " " ∷ reg "rax" ∷ p ";" ∷ []) ∷ []))
+    (numbers (o 2 2 "rbx" 0 U ∷ o 3 0 "rax" 1 D ∷ o 5 0 "rax" 1 D ∷ o 7 2 "rax" 1 U ∷ []))
     -- 3: no edge arrives at the else line, so nothing reaches its rcx
     ∷ row webs-call
-      (function (
-        at 1 (set "rcx" "1") ∷ at 1 (kw "if" ∷ p " (" ∷ reg "rax" ∷ p ") {" ∷ []) ∷ at 2 call-g
-        ∷ at 1 (p "} " ∷ kw "else" ∷ p " " ∷ kw "if" ∷ p " (" ∷ reg "rcx" ∷ p ") {" ∷ []) ∷ at 2 call-g ∷ at 1 brace ∷ []))
-      (numbers (o 2 0 "rcx" 1 D ∷ o 3 2 "rax" 0 U ∷ o 5 5 "rcx" 0 U ∷ []))
+    (function (
+    at 1 (set "rcx" "1") ∷ at 1 (kw "if" ∷ p " (" ∷ reg "rax" ∷ p ") {" ∷ []) ∷ at 2 call-g
+    ∷ at 1 (p "} " ∷ kw "else" ∷ p " " ∷ kw "if" ∷ p " (" ∷ reg "rcx" ∷ p ") {" ∷ []) ∷ at 2 call-g ∷ at 1 brace ∷ []))
+    (numbers (o 2 0 "rcx" 1 D ∷ o 3 2 "rax" 0 U ∷ o 5 5 "rcx" 0 U ∷ []))
     -- 4: a guarded do-while with initialiser and step is a for
     ∷ row loops-call (init ∷ guarded-loop) (lines for-loop)
     -- 5: the initialiser 4 lines up, and 5 lines up
@@ -198,8 +198,8 @@ rows =
     ∷ row loops-call (init ∷ (four-between ++ guarded-loop)) (lines (init ∷ (four-between ++ while-loop)))
     -- 6: the leading test becomes the negated condition
     ∷ row goto-loops-call goto-loop
-      (lines (
-        at 2 (kw "while" ∷ p " (" ∷ reg "rax" ∷ p " != " ∷ num "0" ∷ p ") {" ∷ []) ∷ at 3 call-g ∷ at 2 brace ∷ at 1 (label "L2") ∷ at 2 return ∷ []))
+    (lines (
+    at 2 (kw "while" ∷ p " (" ∷ reg "rax" ∷ p " != " ∷ num "0" ∷ p ") {" ∷ []) ∷ at 3 call-g ∷ at 2 brace ∷ at 1 (label "L2") ∷ at 2 return ∷ []))
     -- 7: unchanged
     ∷ row goto-loops-call one-line-after (lines one-line-after)
     ∷ row goto-loops-call own-goto (lines own-goto)
@@ -207,31 +207,31 @@ rows =
     ∷ row goto-loops-call (at 255 (label "L1") ∷ at 1 call-g ∷ at 1 call-g ∷ []) (refused-with 6)
     -- 9: eax = 1; defines, ax = 1; and rax = rax + 1; do not
     ∷ row webs-call
-      (function (at 1 (set "eax" "1") ∷ at 1 (set "ax" "1") ∷ at 1 (reg "rax" ∷ p " = " ∷ reg "rax" ∷ p " + " ∷ num "1" ∷ p ";" ∷ []) ∷ []))
-      (numbers (o 2 0 "rax" 1 D ∷ o 3 0 "rax" 1 U ∷ o 4 0 "rax" 1 U ∷ o 4 2 "rax" 1 U ∷ []))
+    (function (at 1 (set "eax" "1") ∷ at 1 (set "ax" "1") ∷ at 1 (reg "rax" ∷ p " = " ∷ reg "rax" ∷ p " + " ∷ num "1" ∷ p ";" ∷ []) ∷ []))
+    (numbers (o 2 0 "rax" 1 D ∷ o 3 0 "rax" 1 U ∷ o 4 0 "rax" 1 U ∷ o 4 2 "rax" 1 U ∷ []))
     -- 10: one line; a brace that does not match
     ∷ row webs-call (at 0 (p "}" ∷ []) ∷ []) (refused-with 7)
     ∷ row webs-call (at 0 (kw "int" ∷ p " " ∷ sym "f" ∷ p "()" ∷ []) ∷ at 0 brace ∷ []) (refused-with 8)
     -- Trap: a read that three definitions reach links all three, and not only the first two. (Only two linked: webs 1, 1, 2.)
     ∷ row webs-call
-      (function (
-        at 1 (set "rax" "1") ∷ at 1 (kw "if" ∷ p " (" ∷ reg "rbx" ∷ p ") {" ∷ []) ∷ at 2 (set "rax" "2") ∷ at 1 brace
-        ∷ at 1 (kw "if" ∷ p " (" ∷ reg "rcx" ∷ p ") {" ∷ []) ∷ at 2 (set "rax" "3") ∷ at 1 brace ∷ at 1 (call "rax") ∷ []))
-      (numbers (o 2 0 "rax" 1 D ∷ o 3 2 "rbx" 0 U ∷ o 4 0 "rax" 1 D ∷ o 6 2 "rcx" 0 U ∷ o 7 0 "rax" 1 D ∷ o 9 2 "rax" 1 U ∷ []))
+    (function (
+    at 1 (set "rax" "1") ∷ at 1 (kw "if" ∷ p " (" ∷ reg "rbx" ∷ p ") {" ∷ []) ∷ at 2 (set "rax" "2") ∷ at 1 brace
+    ∷ at 1 (kw "if" ∷ p " (" ∷ reg "rcx" ∷ p ") {" ∷ []) ∷ at 2 (set "rax" "3") ∷ at 1 brace ∷ at 1 (call "rax") ∷ []))
+    (numbers (o 2 0 "rax" 1 D ∷ o 3 2 "rbx" 0 U ∷ o 4 0 "rax" 1 D ∷ o 6 2 "rcx" 0 U ∷ o 7 0 "rax" 1 D ∷ o 9 2 "rax" 1 U ∷ []))
     -- Trap: a value does not come round through line 0. (Come round, the definition would reach the read: web 0 and not 1.)
     ∷ row webs-call (at 0 (label "L1") ∷ at 1 (call "rax") ∷ at 1 (set "rax" "1") ∷ at 1 (goto "L1") ∷ [])
-      (numbers (o 1 2 "rax" 0 U ∷ o 2 0 "rax" 1 D ∷ []))
+    (numbers (o 1 2 "rax" 0 U ∷ o 2 0 "rax" 1 D ∷ []))
     -- Trap: no edge leads from the end of a branch into `} else {`. (With it the definition would reach the other branch: web 0 and not 1.)
     ∷ row webs-call
-      (function (
-        at 1 (kw "if" ∷ p " (" ∷ reg "rbx" ∷ p ") {" ∷ []) ∷ at 2 (set "rax" "1") ∷ at 1 (p "} " ∷ kw "else" ∷ p " {" ∷ []) ∷ at 2 (call "rax")
-        ∷ at 1 brace ∷ []))
-      (numbers (o 2 2 "rbx" 0 U ∷ o 3 0 "rax" 1 D ∷ o 5 2 "rax" 0 U ∷ []))
+    (function (
+    at 1 (kw "if" ∷ p " (" ∷ reg "rbx" ∷ p ") {" ∷ []) ∷ at 2 (set "rax" "1") ∷ at 1 (p "} " ∷ kw "else" ∷ p " {" ∷ []) ∷ at 2 (call "rax")
+    ∷ at 1 brace ∷ []))
+    (numbers (o 2 2 "rbx" 0 U ∷ o 3 0 "rax" 1 D ∷ o 5 2 "rax" 0 U ∷ []))
     -- Trap: of two equal labels the last counts. (By the first, the definition would reach the read on line 2: web 0 and not 1.)
     ∷ row webs-call
-      (at 0 (kw "int" ∷ p " " ∷ sym "f" ∷ p "()" ∷ []) ∷ at 0 (label "L1") ∷ at 1 (call "rax") ∷ at 1 (set "rax" "1") ∷ at 1 (goto "L1") ∷ at 0 (label "L1")
-      ∷ at 1 return ∷ [])
-      (numbers (o 2 2 "rax" 0 U ∷ o 3 0 "rax" 1 D ∷ []))
+    (at 0 (kw "int" ∷ p " " ∷ sym "f" ∷ p "()" ∷ []) ∷ at 0 (label "L1") ∷ at 1 (call "rax") ∷ at 1 (set "rax" "1") ∷ at 1 (goto "L1") ∷ at 0 (label "L1")
+    ∷ at 1 return ∷ [])
+    (numbers (o 2 2 "rax" 0 U ∷ o 3 0 "rax" 1 D ∷ []))
     ∷ []
 
 pub rows-hold : map (λ r. shown (r .call) (r .listing)) rows ≡ map (λ r. r .answer) rows

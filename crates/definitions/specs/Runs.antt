@@ -28,8 +28,9 @@ pub record Read : Type 0 where
 -- token k of line l as a read: it has a family, neither rsp nor `var_`, and is not the register that the line defines
 unfoldable pub read-at : Line → ℕ → List Read
 read-at l k = elim (fam-of (token l k)) [
-    none ↦ []
-  | some x ↦ cond (is-read-family (x .name) && not (eqb k 0 && is-some (defines l))) (record { place = k; family = x .name } ∷ []) [] ]
+  | none ↦ []
+  | some x ↦ cond (is-read-family (x .name) && not (eqb k 0 && is-some (defines l))) (record { place = k; family = x .name } ∷ []) []
+]
 
 unfoldable pub reads-on : List Line → ℕ → List Read
 reads-on L i = concat (map (read-at (line L i)) (up-to (length (line L i .tokens))))

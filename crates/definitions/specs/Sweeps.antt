@@ -42,8 +42,9 @@ sweeps-from preds defs zero out = record { out = out; count = 0 }
 sweeps-from preds defs (suc k) out =
     let next = sweep preds defs out in
     elim (same-sets next out) [
-      true ↦ record { out = next; count = 1 }
-    | false ↦ one-more (sweeps-from preds defs k next) ]
+      | true ↦ record { out = next; count = 1 }
+      | false ↦ one-more (sweeps-from preds defs k next)
+    ]
 
 -- All sets are empty at first. One sweep more than there are lines is enough.
 unfoldable pub sweeps : List (List ℕ) → List ℕ → Swept
