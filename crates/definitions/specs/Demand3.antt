@@ -62,7 +62,7 @@ Chain-numbers L G numbers =
     → is-definition (defines-at L f) a ≡ true → is-definition (defines-at L f) b ≡ true
     → (definition-number L numbers a ≡ definition-number L numbers b) ↔ Chain (steps G) (defines-at L f) (reads-at L f) a b
 
-pub Demand-3 {ℓ} : Type (ℓ + 1)
+abbrev pub Demand-3 {ℓ} : Type (ℓ + 1)
 Demand-3 =
     (L : List Line) (G : List (List ℕ)) (r : Numbered) → webs L ≡ accepted r → flow-graph L ≡ some G
     → Two-runs {ℓ} L G (r .numbers) × Chain-numbers L G (r .numbers)
