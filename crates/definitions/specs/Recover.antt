@@ -3,7 +3,7 @@
 --   address-taken L f                the address of f is taken
 --   Webs                             the webs of one family
 --   recover L                        the webs of every family that has a definition and is not address-taken
---   key ws L f i k                   the web number of the family f at token k of line i
+--   key ws f i k                     the web number of the family f at token k of line i
 --   is-def ws f i                    line i starts a fresh value of f
 -- Assumes nothing.
 use Prim.Native.Nat.{ℕ, zero, suc, _+_, _-_}

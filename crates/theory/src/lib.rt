@@ -1,0 +1,1 @@
+// The theory of webs: no code, only theorems over the definitions. See proofs/Lib.antt.
