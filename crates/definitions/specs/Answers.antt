@@ -5,14 +5,14 @@
 --   choose L                 webs, or splits where webs refuses, and which
 -- Assumes nothing.
 use Prim.Native.Nat.{ℕ}
-use mathlib.Core.Bool.{Bool, true, false, _&&_, not}
-use mathlib.Core.List.{List, [], _∷_, map}
+use mathlib.Core.Bool.{Bool, _&&_, not}
+use mathlib.Core.List.{List, [], map}
 use mathlib.Core.Option.{Option, none, some}
 use lib.Dec.{eqb, leb}
 use lib.ListN.{length}
 use Rattle.definitions.specs.Lists.{if_then_else_, is-some, or-else, concat, up-to}
 use Rattle.definitions.specs.Model.{Line, token, line}
-use Rattle.definitions.specs.Family.{Family, fam-of}
+use Rattle.definitions.specs.Family.{fam-of}
 use Rattle.definitions.specs.Passes.{Pass, lines, overflow}
 use Rattle.definitions.specs.RecoverLoops.{recover-loops}
 use Rattle.definitions.specs.RecoverGotoLoops.{recover-goto-loops}

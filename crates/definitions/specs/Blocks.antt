@@ -3,13 +3,12 @@
 --   blocks L     for each line the line that closes its block, and the openers of the blocks around it; none where a brace does not match
 -- Assumes nothing.
 use Prim.Native.Nat.{ℕ, zero, suc, _+_, _-_}
-use mathlib.Core.Bool.{Bool, true, false}
 use mathlib.Core.List.{List, [], _∷_, _++_}
 use mathlib.Core.Option.{Option, none, some}
 use lib.Dec.{eqb, ltb}
 use lib.ListN.{length, set, replicate}
 use Rattle.definitions.specs.Lists.{if_then_else_, _>>=_, require, filter, fold, _==_}
-use Rattle.definitions.specs.Model.{Token, Line, text, Punct}
+use Rattle.definitions.specs.Model.{Line, text, Punct}
 
 -- Only braces in punct tokens count; a `}` first cancels a `{` earlier on its line.
 

@@ -5,12 +5,11 @@
 --   web-call, split-call, choose-call
 -- Assumes nothing.
 use Prim.Native.Nat.{ℕ, _-_}
-use mathlib.Core.Bool.{Bool, true, false, _&&_}
+use mathlib.Core.Bool.{Bool, _&&_}
 use mathlib.Core.List.{List, [], _∷_, _++_}
 use mathlib.Core.Option.{Option, none, some}
 use lib.Dec.{eqb, leb}
 use lib.ListN.{length, replicate}
-use Rattle.definitions.specs.Lists.{if_then_else_}
 use Rattle.definitions.specs.Model.{Line}
 use Rattle.definitions.specs.Columns.{listing, with-addresses, line-words, address-words, token-words, text-bytes}
 use Rattle.definitions.specs.Questions.{Limits, limits, question-1, question-2, question-3, question-4, question-5, pass-room, refusal}

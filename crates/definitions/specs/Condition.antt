@@ -4,10 +4,10 @@
 -- Assumes nothing.
 use Prim.Native.Nat.{ℕ, zero, suc, _+_, _-_}
 use Prim.Native.String.{String}
-use mathlib.Core.Bool.{Bool, true, false, _&&_, _||_, not}
+use mathlib.Core.Bool.{Bool, _&&_, _||_, not}
 use mathlib.Core.List.{List, [], _∷_, _++_}
 use mathlib.Core.Option.{Option, none, some}
-use lib.Dec.{eqb, leb}
+use lib.Dec.{eqb}
 use lib.ListN.{length, take, drop, getElem?}
 use Rattle.definitions.specs.Lists.{if_then_else_, _>>=_, require, position, find, filter, count, last, on-first, on-last, on-part, starts-with, ends-with, ascii}
 use Rattle.definitions.specs.Model.{Token, Line, tok, Keyword, Punct}

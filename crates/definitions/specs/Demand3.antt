@@ -8,7 +8,7 @@
 use Prim.Native.Nat.{ℕ, zero, suc, _<_}
 use mathlib.Core.Path.{_≡_}
 use mathlib.Core.Logic.{_↔_}
-use mathlib.Core.Bool.{Bool, true, false, _&&_}
+use mathlib.Core.Bool.{Bool, true, false}
 use mathlib.Core.List.{List, [], _∷_}
 use mathlib.Core.Option.{Option, none, some}
 use lib.ListN.{length, getD}
@@ -17,7 +17,7 @@ use Rattle.definitions.specs.Model.{Line, line}
 use Rattle.definitions.specs.Statements.{defines}
 use Rattle.definitions.specs.FlowGraph.{flow-graph, steps}
 use Rattle.definitions.specs.Recover.{def-lines, read-lines, address-taken, is-read-family}
-use Rattle.definitions.specs.Answers.{Answer, accepted, Numbered, webs}
+use Rattle.definitions.specs.Answers.{accepted, Numbered, webs}
 use Rattle.definitions.specs.Reaching.{is-definition, Chain}
 use Rattle.definitions.specs.Runs.{family-run, web-run, number-at}
 

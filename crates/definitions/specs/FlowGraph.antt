@@ -7,13 +7,13 @@
 --   gotos-lead L        every goto keyword has a symbol after it, the first of which names a label
 -- Assumes nothing.
 use Prim.Native.Nat.{ℕ, zero, suc, _+_, _-_}
-use mathlib.Core.Bool.{Bool, true, false, _&&_, _||_}
+use mathlib.Core.Bool.{Bool, false, _&&_, _||_}
 use mathlib.Core.List.{List, [], _∷_, _++_, map}
 use mathlib.Core.Option.{Option, none, some}
 use lib.Dec.{eqb, ltb}
 use lib.ListN.{length, getD}
 use Rattle.definitions.specs.Lists.{if_then_else_, _>>=_, require, is-some, to-list, any, all, filter, concat, last-position, range, up-to, member, _==_, contains, ascii}
-use Rattle.definitions.specs.Model.{Token, Line, token, line, Punct}
+use Rattle.definitions.specs.Model.{Line, token, line, Punct}
 use Rattle.definitions.specs.Statements.{is-kw, has-kw, is-label, label, goto-targets}
 use Rattle.definitions.specs.Blocks.{Blocks, blocks}
 

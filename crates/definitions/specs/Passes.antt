@@ -10,7 +10,7 @@ use mathlib.Core.Bool.{Bool, true, false}
 use mathlib.Core.List.{List, [], _∷_, _++_}
 use lib.Dec.{ltb}
 use lib.ListN.{length}
-use Rattle.definitions.specs.Lists.{if_then_else_, _==_, ascii}
+use Rattle.definitions.specs.Lists.{_==_, ascii}
 use Rattle.definitions.specs.Model.{Token, Line, tok, text, Keyword, Punct}
 
 pub data Turn : Type 0 where

@@ -3,13 +3,12 @@
 --   refusal qs                  the number of the first of the questions that is answered no
 -- Assumes nothing.
 use Prim.Native.Nat.{ℕ, _+_, _*_, _/_, _%_}
-use mathlib.Core.Bool.{Bool, true, false, _&&_, not}
+use mathlib.Core.Bool.{Bool, _&&_}
 use mathlib.Core.List.{List, [], _∷_}
 use mathlib.Core.Option.{Option, none, some}
 use lib.Dec.{eqb, leb}
 use lib.ListN.{length}
 use Rattle.definitions.specs.Lists.{if_then_else_, all}
-use Rattle.definitions.specs.Model.{Token}
 use Rattle.definitions.specs.Utf8.{is-utf8}
 use Rattle.definitions.specs.Columns.{token-list}
 

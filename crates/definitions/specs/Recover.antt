@@ -6,18 +6,18 @@
 --   key ws f i k                     the web number of the family f at token k of line i
 --   is-def ws f i                    line i starts a fresh value of f
 -- Assumes nothing.
-use Prim.Native.Nat.{ℕ, zero, suc, _+_, _-_}
-use mathlib.Core.Bool.{Bool, true, false, _&&_, _||_, not}
-use mathlib.Core.List.{List, [], _∷_, _++_, map}
+use Prim.Native.Nat.{ℕ, _+_, _-_}
+use mathlib.Core.Bool.{Bool, false, _&&_, _||_, not}
+use mathlib.Core.List.{List, [], _∷_, map}
 use mathlib.Core.Option.{Option, none, some}
 use lib.Dec.{eqb, leb, ltb}
 use lib.ListN.{length, drop, getD}
 use Rattle.definitions.specs.Lists.{if_then_else_, _>>=_, require, is-some, to-list, or-else, any, filter, find, count, first, fold, concat, range, up-to, member, _==_, ends-with, ascii}
-use Rattle.definitions.specs.Model.{Token, Line, token, line}
+use Rattle.definitions.specs.Model.{Token, Line, line}
 use Rattle.definitions.specs.Family.{names}
 use Rattle.definitions.specs.Statements.{defines, is-var}
 use Rattle.definitions.specs.FlowGraph.{flow-graph, predecessors}
-use Rattle.definitions.specs.Sweeps.{incoming, Swept, sweeps}
+use Rattle.definitions.specs.Sweeps.{incoming, sweeps}
 
 -- From line 1 on, a definition; any other register token with a family is a read, rsp, `var_` and line 0 excepted.
 

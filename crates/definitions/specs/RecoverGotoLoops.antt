@@ -1,18 +1,18 @@
 -- Label and goto loops, to be read beside `recover_goto_loops` of pseudo_types.rs.
 --   recover-goto-loops L    the listing with `h: body; goto h;` made `while (..) { body }`, or `for`
 -- Assumes nothing.
-use Prim.Native.Nat.{ℕ, zero, suc, _+_, _-_}
-use mathlib.Core.Bool.{Bool, true, false, _&&_, _||_, not}
+use Prim.Native.Nat.{ℕ, _+_}
+use mathlib.Core.Bool.{Bool, false, _&&_, _||_, not}
 use mathlib.Core.List.{List, [], _∷_, _++_}
 use mathlib.Core.Option.{Option, none, some, Option·map}
 use lib.Dec.{eqb, ltb}
 use lib.ListN.{take, drop, set, getElem?}
-use Rattle.definitions.specs.Lists.{if_then_else_, _>>=_, require, is-some, or-else, any, all, filter, take-while, position, last-position, first, last, part, remove, insert, on-first, on-last, on-part, _==_, starts-with, ends-with, ascii}
+use Rattle.definitions.specs.Lists.{if_then_else_, _>>=_, require, is-some, or-else, any, all, filter, take-while, position, last-position, first, last, part, remove, insert, on-first, on-part, _==_, starts-with, ends-with, ascii}
 use Rattle.definitions.specs.Model.{Token, Line, tok, pseudo-line, token, line, text, Number, Keyword, Punct}
 use Rattle.definitions.specs.Statements.{is-kw, is-label, label, merge, goto-target}
 use Rattle.definitions.specs.Condition.{cut-front, cut, negate-cond}
 use Rattle.definitions.specs.ToFor.{to-for}
-use Rattle.definitions.specs.Passes.{Turn, go, stop, beyond, Pass, pass, while-head}
+use Rattle.definitions.specs.Passes.{Turn, go, beyond, Pass, pass, while-head}
 
 -- line l has a goto, and its target passes p
 unfoldable pub goes-to : (List ℕ → Bool) → Line → Bool

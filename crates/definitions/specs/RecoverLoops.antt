@@ -2,12 +2,12 @@
 --   recover-loops L    the listing with `if (C) { do { B } while (C); }` made `while (C) { B }`, or `for`
 -- Assumes nothing.
 use Prim.Native.Nat.{ℕ, _+_, _-_}
-use mathlib.Core.Bool.{Bool, true, false, _&&_, not}
+use mathlib.Core.Bool.{Bool, _&&_, not}
 use mathlib.Core.List.{List}
 use mathlib.Core.Option.{Option, none, some}
 use lib.Dec.{eqb, leb, ltb}
 use lib.ListN.{length, set}
-use Rattle.definitions.specs.Lists.{if_then_else_, _>>=_, require, is-some, all, position-from, first, part, remove, on-part, _==_, ends-with, ascii}
+use Rattle.definitions.specs.Lists.{if_then_else_, _>>=_, require, all, position-from, part, remove, on-part, _==_, ends-with, ascii}
 use Rattle.definitions.specs.Model.{Token, Line, pseudo-line, token, line, text}
 use Rattle.definitions.specs.Statements.{is-kw, has-kw, is-label}
 use Rattle.definitions.specs.Condition.{condition}

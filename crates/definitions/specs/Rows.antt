@@ -6,14 +6,13 @@
 use Prim.Native.Nat.{ℕ, _+_}
 use Prim.Native.String.{String}
 use mathlib.Core.Path.{_≡_, refl}
-use mathlib.Core.Bool.{Bool, true, false}
 use mathlib.Core.List.{List, [], _∷_, _++_, map}
-use mathlib.Core.Option.{Option, none, some}
+use mathlib.Core.Option.{none, some}
 use lib.Dec.{eqb}
 use lib.ListN.{length, getD, take}
 use Rattle.definitions.specs.Lists.{if_then_else_, concat, up-to, ascii}
 use Rattle.definitions.specs.Model.{Token, Line, tok, pseudo-line, token, line, Register, Number, Keyword, Symbol, Punct}
-use Rattle.definitions.specs.Family.{Family, fam-of}
+use Rattle.definitions.specs.Family.{fam-of}
 use Rattle.definitions.specs.Columns.{all-tokens}
 use Rattle.definitions.specs.Answers.{Numbered}
 use Rattle.definitions.specs.Computed.{Call, loops-call, goto-loops-call, webs-call, Result, refused, rewritten, by-webs, by-splits, answer}

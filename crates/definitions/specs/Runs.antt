@@ -6,15 +6,15 @@
 --   web-run                    the values read with one cell per family and web number
 -- The rule takes a place in the list, the values read there and a family, and gives the family a new value or none.
 -- Assumes nothing.
-use Prim.Native.Nat.{ℕ, zero, suc, _+_}
-use mathlib.Core.Bool.{Bool, true, false, cond, _&&_, not}
+use Prim.Native.Nat.{ℕ, suc, _+_}
+use mathlib.Core.Bool.{Bool, cond, _&&_, not}
 use mathlib.Core.List.{List, [], _∷_, _++_, map}
 use mathlib.Core.Option.{Option, none, some, Option·getD}
 use lib.Dec.{eqb}
 use lib.ListN.{length, take, getD}
-use Rattle.definitions.specs.Lists.{is-some, or-else, any, position, filter, concat, up-to, to-list}
-use Rattle.definitions.specs.Model.{Token, Line, token, line}
-use Rattle.definitions.specs.Family.{Family, fam-of, names}
+use Rattle.definitions.specs.Lists.{is-some, or-else, any, position, concat, up-to}
+use Rattle.definitions.specs.Model.{Line, token, line}
+use Rattle.definitions.specs.Family.{fam-of, names}
 use Rattle.definitions.specs.Statements.{defines}
 use Rattle.definitions.specs.Columns.{all-tokens}
 use Rattle.definitions.specs.Recover.{is-read-family}

@@ -4,12 +4,12 @@
 --   split-starts ss f i    line i is one of them and defines f
 -- Assumes nothing.
 use Prim.Native.Nat.{ℕ}
-use mathlib.Core.Bool.{Bool, true, false, _&&_, _||_, not}
-use mathlib.Core.List.{List, [], _∷_, map}
-use mathlib.Core.Option.{Option, none, some, Option·map}
+use mathlib.Core.Bool.{Bool, _&&_, _||_, not}
+use mathlib.Core.List.{List, map}
+use mathlib.Core.Option.{Option·map}
 use lib.Dec.{eqb, leb, ltb}
 use lib.ListN.{length}
-use Rattle.definitions.specs.Lists.{if_then_else_, to-list, any, filter, count, concat, up-to, _==_}
+use Rattle.definitions.specs.Lists.{to-list, any, filter, count, concat, up-to, _==_}
 use Rattle.definitions.specs.Model.{Line, line}
 use Rattle.definitions.specs.Statements.{defines}
 use Rattle.definitions.specs.FlowGraph.{jumps}

@@ -10,14 +10,14 @@
 --   defines l          the family that line l defines
 -- Assumes nothing.
 use Prim.Native.Nat.{ℕ, _+_, _-_}
-use mathlib.Core.Bool.{Bool, true, false, _&&_, _||_, not}
-use mathlib.Core.List.{List, [], _∷_, _++_, map}
+use mathlib.Core.Bool.{Bool, _&&_, _||_, not}
+use mathlib.Core.List.{List, [], _∷_, _++_}
 use mathlib.Core.Option.{Option, none, some, Option·map}
 use lib.Dec.{eqb, leb}
 use lib.ListN.{length, take, drop}
 use Rattle.definitions.specs.Lists.{if_then_else_, _>>=_, require, any, position, find, last, _==_, starts-with, ends-with, ascii}
 use Rattle.definitions.specs.Model.{Token, Line, tok, token, Text, Register, Keyword, Symbol, Punct}
-use Rattle.definitions.specs.Family.{Family, fam-of, names}
+use Rattle.definitions.specs.Family.{fam-of, names}
 
 abbrev pub is-kw : List ℕ → Token → Bool
 is-kw w t = eqb (t .kind) Keyword && (t .text == w)

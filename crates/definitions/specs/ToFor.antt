@@ -3,15 +3,15 @@
 --   pop s         a text without its last code point
 -- Assumes nothing.
 use Prim.Native.Nat.{ℕ, zero, suc, _+_, _-_}
-use mathlib.Core.Bool.{Bool, true, false, _&&_, _||_, not}
+use mathlib.Core.Bool.{Bool, _&&_, _||_, not}
 use mathlib.Core.List.{List, [], _∷_, _++_, reverse}
 use mathlib.Core.Option.{Option, none, some}
 use lib.Dec.{eqb, leb, ltb}
-use lib.ListN.{length, drop, set}
+use lib.ListN.{drop, set}
 use Rattle.definitions.specs.Lists.{if_then_else_, _>>=_, require, is-some, or-else, any, position-from, first, part, remove, on-last, _==_, starts-with, ascii}
 use Rattle.definitions.specs.Model.{Token, Line, tok, pseudo-line, line, text, Keyword, Punct}
-use Rattle.definitions.specs.Family.{Family, fam-of, names}
-use Rattle.definitions.specs.Statements.{has-kw, is-label, call-at, Assignment, assignment, merge}
+use Rattle.definitions.specs.Family.{fam-of, names}
+use Rattle.definitions.specs.Statements.{has-kw, is-label, call-at, assignment, merge}
 use Rattle.definitions.specs.Condition.{condition}
 
 -- A step: `++;`, `--;`, ` += ` or ` -= ` behind the register.
