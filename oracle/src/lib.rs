@@ -8,6 +8,7 @@
 //! | `columns` | a listing as four columns of words, and back |
 //! | `questions` | the questions of document 01 and each call's refusal |
 //! | `answers` | the reference answers of one listing |
+//! | `leaves` | the original, function by function |
 //! | `json` | strict reader and writer of document 01's JSON |
 //! | `notation` | a line from its text, split into tokens as the original prints it |
 //! | `random`, `generate` | listings by kind, seed and index |
@@ -17,6 +18,7 @@ pub mod answers;
 pub mod columns;
 pub mod generate;
 pub mod json;
+pub mod leaves;
 pub mod model;
 pub mod notation;
 pub mod passes;

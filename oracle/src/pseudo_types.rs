@@ -15,7 +15,7 @@ fn tok(t: impl Into<String>, k: TokenKind) -> Token {
 }
 
 /// The condition tokens of `if (C) {` / `} while (C);`.
-fn condition(l: &PseudoLine, kw: &str) -> Option<Vec<Token>> {
+pub(crate) fn condition(l: &PseudoLine, kw: &str) -> Option<Vec<Token>> {
     let k = l.tokens.iter().position(|t| t.k == TokenKind::Keyword && t.t == kw)?;
     let open = l.tokens.get(k + 1)?;
     let last = l.tokens.last()?;

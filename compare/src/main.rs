@@ -1,0 +1,48 @@
+//! `compare WORD DIR`: every `*.json` listing in DIR through the proved library and through the original Rust.
+//!
+//! Prints each difference with the file's name, last `N listings, M differences`; exit status 0 only for 0 differences.
+//! WORD: `leaves`, the reading layer function by function.
+
+mod leaves;
+
+use std::error::Error;
+use std::fs;
+use std::path::{Path, PathBuf};
+use std::process::ExitCode;
+
+use oracle::json;
+use oracle::pseudo::PseudoLine;
+
+fn main() -> Result<ExitCode, Box<dyn Error>> {
+    let args: Vec<String> = std::env::args().skip(1).collect();
+    let [word, dir] = args.as_slice() else { return Err("usage: compare WORD DIR".into()) };
+    let differences: fn(&[PseudoLine]) -> Vec<String> = match word.as_str() {
+        "leaves" => leaves::differences,
+        _ => return Err(format!("{word}: the words are: leaves").into()),
+    };
+    let (mut listings, mut lines, mut wrong) = (0, 0, 0);
+    for file in json_files(Path::new(dir))? {
+        let found = match json::read(&fs::read(&file)?) {
+            Ok(listing) => {
+                lines += listing.len();
+                differences(&listing)
+            }
+            Err(why) => vec![format!("no listing: {why}")],
+        };
+        listings += 1;
+        wrong += usize::from(!found.is_empty());
+        let name = file.file_name().expect("a file has a name").to_string_lossy().into_owned();
+        found.iter().for_each(|d| println!("{name}: {d}"));
+    }
+    println!("{lines} lines");
+    println!("{listings} listings, {wrong} differences");
+    Ok(ExitCode::from(u8::from(wrong != 0)))
+}
+
+fn json_files(dir: &Path) -> Result<Vec<PathBuf>, Box<dyn Error>> {
+    let files: Result<Vec<PathBuf>, _> = fs::read_dir(dir)?.map(|entry| entry.map(|e| e.path())).collect();
+    let mut files = files?;
+    files.retain(|f| f.extension().is_some_and(|x| x == "json"));
+    files.sort();
+    Ok(files)
+}

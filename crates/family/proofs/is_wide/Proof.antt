@@ -1,0 +1,47 @@
+-- `family::is_wide` meets its contract.
+-- Assumes nothing.
+use Rattle.family.proofs.FamilyNames.{name-rules}
+use borrow.Author.Needs.{needs}
+use Rattle.family.proofs.is_wide.Statement.{statement}
+use Rattle.family.proofs.is_wide.Tie as tie
+
+enum-known-r : tie.Need-enum-known-r
+enum-known-r c = search needs
+
+enum-known-r-2 : tie.Need-enum-known-r-2
+enum-known-r-2 c = search needs
+
+enum-told : tie.Need-enum-told
+enum-told c = search needs
+
+enum-told-2 : tie.Need-enum-told-2
+enum-told-2 c = search needs
+
+returns : tie.Need-returns
+returns c = search (name-rules, needs)
+
+returns-2 : tie.Need-returns-2
+returns-2 c = search (name-rules, needs)
+
+returns-3 : tie.Need-returns-3
+returns-3 c = search (name-rules, needs)
+
+returns-4 : tie.Need-returns-4
+returns-4 c = search needs
+
+returns-5 : tie.Need-returns-5
+returns-5 c = search needs
+
+pub is-wide-spec : {M : Type 1} → statement M
+is-wide-spec =
+    tie.close
+    (tie.spec
+    enum-known-r
+    enum-known-r-2
+    enum-told
+    enum-told-2
+    returns
+    returns-2
+    returns-3
+    returns-4
+    returns-5)

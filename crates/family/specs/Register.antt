@@ -1,0 +1,95 @@
+-- What an answer of the code says of a text, as the definitions' families.
+--   letters cell         the name in a cell of three bytes: without a 0 at its end
+--   column s row k       the column of the name s in a row of cells, from column k on
+--   found n k            k, where it is below n
+--   digit-count s        how many digits s starts with
+--   above-zero w         w, where it is not 0
+--   family-of s r        the family and the width that the answer r gives the text s
+--   high-row s           the row of ah, bh, ch or dh, 4 for another text
+--   row-name i           the name of the family in row i of the table
+--   row r                where the name of r's family stands: its row of the table; 8, in the text; 9, nowhere
+--   own-name s r         the part of the text s that is its family's name, where it stands there
+--   same-name o p        both are families, of one name
+--   names-family o t     o is a family, and the token t names it
+--   named p o            o is a family, and p holds of its name
+--   is-rsp o, is-var-family o, is-wide o    o is the family rsp; a `var_`; a family, of width 32 or more
+-- Assumes nothing.
+use Prim.Native.Nat.{ℕ}
+use mathlib.Core.Bool.{Bool, false}
+use mathlib.Core.List.{List, [], map}
+use mathlib.Core.Option.{Option, none, some}
+use lib.Dec.{eqb, leb, ltb}
+use lib.ListN.{length, take, getD}
+use Rattle.definitions.specs.Lists.{if_then_else_, part, position-from, _==_, ascii}
+use Rattle.definitions.specs.Model.{Token}
+use Rattle.definitions.specs.Family.{Family, legacy, digits, names}
+use Rattle.definitions.specs.Statements.{is-var}
+use Rattle.family.specs.declared.Register.{Register}
+use Rattle.family.specs.declared.Register.the-variants.{Legacy, Numbered, Var, Nothing}
+
+abbrev pub letters : List ℕ → List ℕ
+letters cell = if eqb (getD cell 2 0) 0 then take 2 cell else cell
+
+unfoldable pub column : List ℕ → List (List ℕ) → ℕ → Option ℕ
+column s row k = position-from k (s ==_) (map letters row)
+
+abbrev pub found : ℕ → ℕ → Option ℕ
+found n k = if ltb k n then some k else none
+
+unfoldable pub digit-count : List ℕ → ℕ
+digit-count s = length (digits s)
+
+abbrev pub above-zero : ℕ → Option ℕ
+above-zero w = if eqb w 0 then none else some w
+
+abbrev pub row-name : ℕ → List ℕ
+row-name i = getD (getD legacy i []) 0 []
+
+abbrev pub family-of : List ℕ → Register → Option Family
+family-of s (Legacy i w) = if ltb i 8 then some (record { name = row-name i; width = w }) else none
+family-of s (Numbered n w) = some (record { name = part 0 n s; width = w })
+family-of s Var = some (record { name = s; width = 64 })
+family-of s Nothing = none
+
+abbrev pub high-row : List ℕ → ℕ
+high-row s =
+    if s == ascii "ah" then 0
+    else if s == ascii "bh" then 1
+    else if s == ascii "ch" then 2
+    else if s == ascii "dh" then 3
+    else 4
+
+abbrev pub row : Register → ℕ
+row (Legacy i w) = if ltb i 8 then i else 9
+row (Numbered n w) = 8
+row Var = 8
+row Nothing = 9
+
+abbrev pub own-name : List ℕ → Register → List ℕ
+own-name s (Legacy i w) = []
+own-name s (Numbered n w) = part 0 n s
+own-name s Var = s
+own-name s Nothing = []
+
+abbrev pub same-name : Option Family → Option Family → Bool
+same-name none p = false
+same-name (some f) none = false
+same-name (some f) (some g) = f .name == g .name
+
+abbrev pub names-family : Option Family → Token → Bool
+names-family none t = false
+names-family (some f) t = names (f .name) t
+
+abbrev pub named : (List ℕ → Bool) → Option Family → Bool
+named p none = false
+named p (some f) = p (f .name)
+
+abbrev pub is-rsp : Option Family → Bool
+is-rsp o = named (_== ascii "rsp") o
+
+abbrev pub is-var-family : Option Family → Bool
+is-var-family o = named is-var o
+
+abbrev pub is-wide : Option Family → Bool
+is-wide none = false
+is-wide (some f) = leb 32 (f .width)

@@ -1,0 +1,311 @@
+// Registers: `family` and `fam_of` of pseudo_opt.rs. An answer is a `Register`: it holds no text, so family names are compared where they
+// stand, in the table or in the text that was looked up.
+//
+// A look-up compares the text with at most 36 names and scans no byte behind the token's text; a test on an answer compares at most one
+// name. Contracts cite `family`, `fam-of` and `names` of Rattle.definitions.specs.Family; `family-of` of this crate's specs/ says which family
+// an answer gives a text.
+ghost use mathlib.Core.Path.{_≡_};
+ghost use mathlib.Core.Bool.{true};
+ghost use Prim.Native.Nat.{_+_, _<_};
+ghost use lib.ListN.{drop};
+ghost use Rattle.definitions.specs.Lists.{_==_};
+ghost use Rattle.definitions.specs.Model.{tok};
+ghost use Rattle.definitions.specs.Family.{legacy, legacy-family, suffix-width, is-numbered, numbered-family, other-family, family, fam-of};
+ghost use Rattle.family.specs.Register.{letters, column, found, digit-count, above-zero, family-of, high-row, row, row-name, own-name, same-name, names-family, is-rsp, is-var-family, is-wide};
+
+pub enum Register {
+    // The row of the table, and the width in bits.
+    Legacy(usize, usize),
+    // How many bytes of the text the family's name is, and the width.
+    Numbered(usize, usize),
+    // The whole text is the family's name; the width is 64.
+    Var,
+    Nothing,
+}
+
+// A row is a family, a column a width. A name of two letters is filled up with a 0.
+const LEGACY: [[[u8; 3]; 4]; 8] = [
+    [*b"rax", *b"eax", *b"ax\0", *b"al\0"],
+    [*b"rbx", *b"ebx", *b"bx\0", *b"bl\0"],
+    [*b"rcx", *b"ecx", *b"cx\0", *b"cl\0"],
+    [*b"rdx", *b"edx", *b"dx\0", *b"dl\0"],
+    [*b"rsi", *b"esi", *b"si\0", *b"sil"],
+    [*b"rdi", *b"edi", *b"di\0", *b"dil"],
+    [*b"rbp", *b"ebp", *b"bp\0", *b"bpl"],
+    [*b"rsp", *b"esp", *b"sp\0", *b"spl"],
+];
+
+const WIDTHS: [usize; 4] = [64, 32, 16, 8];
+
+// The text is the name in a cell of the table.
+fn is_name(cell: [u8; 3], s: &[u8]) -> bool
+    ensures { λ r. ⌜ r ≡ (now (s .entry) == letters cell) ⌝ }
+{
+    if cell[2] == 0 {
+        text::equal(s, &cell[..2])
+    } else {
+        text::equal(s, &cell)
+    }
+}
+
+// The column of the name in a row of the table, 4 where it is not there.
+fn column(row: [[u8; 3]; 4], s: &[u8]) -> usize
+    ensures { λ r. ⌜ found 4 r ≡ column (now (s .entry)) row 0 ⌝ }
+{
+    let mut k = 0;
+    while k < 4 {
+        let cell = row[k];
+        if is_name(cell, s) {
+            return k;
+        }
+        k += 1;
+    }
+    4
+}
+
+// A name of the table.
+fn legacy(s: &[u8]) -> Register
+    ensures { λ r. ⌜ family-of (now (s .entry)) r ≡ legacy-family legacy (now (s .entry)) ⌝ }
+{
+    let table = LEGACY;
+    let mut i = 0;
+    while i < 8 {
+        let row = table[i];
+        let k = column(row, s);
+        if k < 4 {
+            let w = WIDTHS[k];
+            return Register::Legacy(i, w);
+        }
+        i += 1;
+    }
+    Register::Nothing
+}
+
+// The row of ah, bh, ch or dh, 4 for another text.
+fn high_row(s: &[u8]) -> usize
+    ensures { λ r. ⌜ r ≡ high-row (now (s .entry)) ⌝ }
+{
+    if text::equal(s, b"ah") {
+        return 0;
+    }
+    if text::equal(s, b"bh") {
+        return 1;
+    }
+    if text::equal(s, b"ch") {
+        return 2;
+    }
+    if text::equal(s, b"dh") {
+        return 3;
+    }
+    4
+}
+
+// The place behind the digits that follow the first byte.
+fn digits_end(s: &[u8]) -> usize
+    ensures { λ r. ⌜ r ≡ 1 + digit-count (drop 1 (now (s .entry))) ⌝ }
+{
+    let mut i = 1;
+    while i < s.len() {
+        if s[i] < b'0' {
+            return i;
+        }
+        if b'9' < s[i] {
+            return i;
+        }
+        i += 1;
+    }
+    i
+}
+
+// `r` and one or more digits stand at the start.
+fn is_numbered(s: &[u8]) -> bool
+    ensures { λ r. ⌜ r ≡ is-numbered (now (s .entry)) ⌝ }
+{
+    if text::starts_with(s, b"r") {
+        1 < digits_end(s)
+    } else {
+        false
+    }
+}
+
+// The width that what follows the digits says, 0 where it says none.
+fn suffix_width(s: &[u8]) -> usize
+    ensures { λ r. ⌜ above-zero r ≡ suffix-width (now (s .entry)) ⌝ }
+{
+    if text::equal(s, b"") {
+        return 64;
+    }
+    if text::equal(s, b"d") {
+        return 32;
+    }
+    if text::equal(s, b"w") {
+        return 16;
+    }
+    if text::equal(s, b"b") {
+        return 8;
+    }
+    if text::equal(s, b"l") {
+        return 8;
+    }
+    0
+}
+
+// A name that starts with `r` and digits.
+fn numbered(s: &[u8]) -> Register
+    requires { ⌜ is-numbered (now s) ≡ true ⌝ }
+    ensures { λ r. ⌜ family-of (now (s .entry)) r ≡ numbered-family (now (s .entry)) ⌝ }
+{
+    let n = digits_end(s);
+    let w = suffix_width(text::part(s, n, s.len()));
+    if w == 0 {
+        return Register::Nothing;
+    }
+    Register::Numbered(n, w)
+}
+
+// A name that is not in the table.
+fn other(s: &[u8]) -> Register
+    ensures { λ r. ⌜ family-of (now (s .entry)) r ≡ other-family (now (s .entry)) ⌝ }
+{
+    let i = high_row(s);
+    if i < 4 {
+        return Register::Legacy(i, 8);
+    }
+    if is_numbered(s) {
+        return numbered(s);
+    }
+    if text::starts_with(s, b"var_") {
+        return Register::Var;
+    }
+    Register::Nothing
+}
+
+// Where the family's name stands: its row of the table; 8, in the text; 9, nowhere.
+fn row(r: Register) -> usize
+    ensures { λ k. ⌜ k ≡ row r ⌝ }
+{
+    match r {
+        Register::Legacy(i, _) => if i < 8 { i } else { 9 },
+        Register::Numbered(_, _) => 8,
+        Register::Var => 8,
+        Register::Nothing => 9,
+    }
+}
+
+// The family and the width of the register named s.
+pub fn family(s: &[u8]) -> Register
+    ensures { λ r. ⌜ family-of (now (s .entry)) r ≡ family (now (s .entry)) ⌝ }
+{
+    let l = legacy(s);
+    if row(l) == 9 { other(s) } else { l }
+}
+
+// The same of a register token.
+pub fn fam_of(kind: usize, s: &[u8]) -> Register
+    ensures { λ r. ⌜ family-of (now (s .entry)) r ≡ fam-of (tok (now (s .entry)) kind) ⌝ }
+{
+    match kind {
+        0 => Register::Nothing,
+        1 => family(s),
+        2 => Register::Nothing,
+        3 => Register::Nothing,
+        4 => Register::Nothing,
+        5 => Register::Nothing,
+        6 => Register::Nothing,
+        7 => Register::Nothing,
+        _ => Register::Nothing,
+    }
+}
+
+// The part of the text that is the family's name, where it stands there.
+fn own_name(s: &[u8], r: Register) -> &[u8]
+    ensures { λ p. ⌜ now p ≡ own-name (now (s .entry)) r ⌝ }
+{
+    match r {
+        Register::Legacy(_, _) => &s[..0],
+        Register::Numbered(n, _) => text::part(s, 0, n),
+        Register::Var => s,
+        Register::Nothing => &s[..0],
+    }
+}
+
+// The name is that of the family in row i.
+fn is_row(i: usize, name: &[u8]) -> bool
+    requires { ⌜ i < 8 ⌝ }
+    ensures { λ r. ⌜ r ≡ (now (name .entry) == row-name i) ⌝ }
+{
+    let table = LEGACY;
+    let row = table[i];
+    let cell = row[0];
+    is_name(cell, name)
+}
+
+// The answers ra of the text a and rb of the text b are of one family.
+pub fn same_family(a: &[u8], ra: Register, b: &[u8], rb: Register) -> bool
+    ensures { λ r. ⌜ r ≡ same-name (family-of (now (a .entry)) ra) (family-of (now (b .entry)) rb) ⌝ }
+{
+    let i = row(ra);
+    let j = row(rb);
+    if i < 8 {
+        if j < 8 {
+            return i == j;
+        }
+        if j == 8 {
+            return is_row(i, own_name(b, rb));
+        }
+        return false;
+    }
+    if i == 8 {
+        if j < 8 {
+            return is_row(j, own_name(a, ra));
+        }
+        if j == 8 {
+            return text::equal(own_name(a, ra), own_name(b, rb));
+        }
+    }
+    false
+}
+
+// The token with this kind and text s names the family that the answer r of the text a is of.
+pub fn names(kind: usize, s: &[u8], a: &[u8], r: Register) -> bool
+    ensures { λ y. ⌜ y ≡ names-family (family-of (now (a .entry)) r) (tok (now (s .entry)) kind) ⌝ }
+{
+    same_family(s, fam_of(kind, s), a, r)
+}
+
+// The family is rsp.
+pub fn is_rsp(s: &[u8], r: Register) -> bool
+    ensures { λ y. ⌜ y ≡ is-rsp (family-of (now (s .entry)) r) ⌝ }
+{
+    let i = row(r);
+    if i < 8 {
+        return i == 7;
+    }
+    if i == 8 {
+        return text::equal(own_name(s, r), b"rsp");
+    }
+    false
+}
+
+// The family is a `var_`.
+pub fn is_var(s: &[u8], r: Register) -> bool
+    ensures { λ y. ⌜ y ≡ is-var-family (family-of (now (s .entry)) r) ⌝ }
+{
+    let i = row(r);
+    if i == 8 {
+        return text::starts_with(own_name(s, r), b"var_");
+    }
+    false
+}
+
+// The register is 32 bits wide or more.
+pub fn is_wide(s: &[u8], r: Register) -> bool
+    ensures { λ y. ⌜ y ≡ is-wide (family-of (now (s .entry)) r) ⌝ }
+{
+    match r {
+        Register::Legacy(i, w) => if i < 8 { 32 <= w } else { false },
+        Register::Numbered(_, w) => 32 <= w,
+        Register::Var => true,
+        Register::Nothing => false,
+    }
+}

@@ -1,0 +1,5 @@
+pub mod Ands
+pub mod Decode
+pub mod Formed
+pub mod Access
+pub mod Asked

@@ -1,0 +1,128 @@
+// Questions 1 to 3 of document 01, asked of any lent columns whatever. Question 1 takes constant time, question 2 time linear in the
+// words, question 3 time linear in the tokens' bytes. Nothing is copied.
+//
+// Contracts cite `question-1`, `question-2`, `question-3` and `refusal` of Rattle.definitions.specs.Questions.
+ghost use mathlib.Core.Path.{_≡_};
+ghost use Prim.Native.Nat.{_%_, _<_};
+ghost use lib.Dec.{leb};
+ghost use lib.ListN.{getD};
+ghost use Rattle.definitions.specs.Lists.{all};
+ghost use Rattle.definitions.specs.Model.{no-token};
+ghost use Rattle.definitions.specs.Columns.{token-list};
+ghost use Rattle.definitions.specs.Utf8.{is-utf8};
+ghost use Rattle.definitions.specs.Questions.{covers, question-1, question-2, question-3};
+ghost use Rattle.model.specs.Refusals.{at-most, first-questions, refused};
+use crate::columns::token_text;
+
+// How many lines, tokens and text bytes a listing may have.
+pub struct Limits {
+    pub lines: usize,
+    pub tokens: usize,
+    pub text: usize,
+}
+
+// 1: are there at most so many lines, tokens and text bytes?
+pub fn question_1(lines: &[u32], tokens: &[u32], text: &[u8], most: Limits) -> bool
+    ensures { λ r. ⌜ r ≡ question-1 (at-most most) (now (lines .entry)) (now (tokens .entry)) (now (text .entry)) ⌝ }
+{
+    if lines.len() <= most.lines {
+        if tokens.len() <= most.tokens {
+            text.len() <= most.text
+        } else {
+            false
+        }
+    } else {
+        false
+    }
+}
+
+// The ends never fall, and the last of them is n.
+fn covers(ws: &[u32], by: usize, n: usize) -> bool
+    requires { ⌜ 0 < by ⌝ }
+    ensures { λ r. ⌜ r ≡ covers by 0 (now (ws .entry)) n ⌝ }
+{
+    let mut end = 0;
+    let mut i = 0;
+    while i < ws.len() {
+        let e = text::word(ws, i) / by;
+        if e < end {
+            return false;
+        }
+        end = e;
+        i += 1;
+    }
+    end == n
+}
+
+fn is_kind(tokens: &[u32], k: usize) -> bool
+    ensures { λ r. ⌜ r ≡ leb (getD (now (tokens .entry)) k 0 % 256) 7 ⌝ }
+{
+    text::word(tokens, k) % 256 <= 7
+}
+
+fn are_kinds(tokens: &[u32]) -> bool
+    ensures { λ r. ⌜ r ≡ all (λ w. leb (w % 256) 7) (now (tokens .entry)) ⌝ }
+{
+    let n = tokens.len();
+    let mut k = 0;
+    while k < n {
+        if is_kind(tokens, k) {
+            k += 1;
+        } else {
+            return false;
+        }
+    }
+    true
+}
+
+// 2: do the lines cover the tokens, and the tokens the text, in order without gap, kinds at most 7?
+pub fn question_2(lines: &[u32], tokens: &[u32], text: &[u8]) -> bool
+    ensures { λ r. ⌜ r ≡ question-2 (now (lines .entry)) (now (tokens .entry)) (now (text .entry)) ⌝ }
+{
+    if covers(lines, 512, tokens.len()) {
+        if covers(tokens, 256, text.len()) {
+            are_kinds(tokens)
+        } else {
+            false
+        }
+    } else {
+        false
+    }
+}
+
+fn is_text(tokens: &[u32], text: &[u8], k: usize) -> bool
+    ensures { λ r. ⌜ r ≡ is-utf8 (getD (token-list (now (tokens .entry)) (now (text .entry))) k no-token .text) ⌝ }
+{
+    text::is_utf8(token_text(tokens, text, k))
+}
+
+// 3: is each token's text UTF-8?
+pub fn question_3(tokens: &[u32], text: &[u8]) -> bool
+    ensures { λ r. ⌜ r ≡ question-3 (now (tokens .entry)) (now (text .entry)) ⌝ }
+{
+    let n = tokens.len();
+    let mut k = 0;
+    while k < n {
+        if is_text(tokens, text, k) {
+            k += 1;
+        } else {
+            return false;
+        }
+    }
+    true
+}
+
+// The number of the first of the three questions that is answered no, 0 where each is answered yes.
+pub fn refusal(lines: &[u32], tokens: &[u32], text: &[u8], most: Limits) -> usize
+    ensures { λ r. ⌜ refused r ≡ first-questions (at-most most) (now (lines .entry)) (now (tokens .entry)) (now (text .entry)) ⌝ }
+{
+    if question_1(lines, tokens, text, most) {
+        if question_2(lines, tokens, text) {
+            if question_3(tokens, text) { 0 } else { 3 }
+        } else {
+            2
+        }
+    } else {
+        1
+    }
+}

@@ -1,0 +1,159 @@
+-- Braces, as rules for `search`.
+--   brace-open, brace-cancel, brace-close, brace-other    one byte
+--   bytes-next, bytes-end                                 the loop of `in_text`
+--   punct-yes, punct-no, punct-other, within-of, grown-of what a token adds, by its kind
+--   rest, braces-start, braces-next, braces-end           the loop of `line_braces`
+--   braces-within                                         with question 2's answer, the counts are no larger than the text is long
+-- Assumes nothing.
+use mathlib.Core.Path.{_≡_, refl, sym, _∙_}
+use mathlib.Core.Bool.{Bool, true, false, cond, not}
+use mathlib.Core.List.{List, [], _∷_, _++_}
+use Prim.Native.Nat.{ℕ, _+_, _-_, _≤_, _<_}
+use native.Mathlib.Omega.{arith}
+use borrow.Author.Tests.{eq-eqb, ne-eqb, lt-ltb, le-ltb}
+use lib.Dec.{T, eqb, ltb}
+use lib.ListN.{length, getD, drop, length-append}
+use Rattle.definitions.specs.Lists.{if_then_else_, filter, fold}
+use Rattle.definitions.specs.Model.{Token, Line, no-token, text, line, Punct}
+use Rattle.definitions.specs.Columns.{listing}
+use Rattle.definitions.specs.Questions.{question-2}
+use Rattle.definitions.specs.Blocks.{Braces, brace, braces}
+use Rattle.text.proofs.Parts.{drop-step, drop-end}
+use Rattle.model.proofs.Formed.{formed-tokens, line-text}
+
+-- One byte
+
+module _ (o k c : ℕ) where
+  pub brace-open : c ≡ 123 → record { opens = o + 1; closes = k } ≡ brace (record { opens = o; closes = k }) c
+  unfolding brace
+  brace-open e = rw (eq-eqb c 123 e)
+
+  module _ (e : c ≡ 125) where
+    pub brace-cancel : 0 < o → record { opens = o - 1; closes = k } ≡ brace (record { opens = o; closes = k }) c
+    unfolding brace
+    brace-cancel h = rw (e, lt-ltb 0 o h)
+
+    pub brace-close : o ≤ 0 → record { opens = o; closes = k + 1 } ≡ brace (record { opens = o; closes = k }) c
+    unfolding brace
+    brace-close h = rw (e, le-ltb 0 o h)
+
+  pub brace-other : (c ≡ 123 → ⊥) → (c ≡ 125 → ⊥) → record { opens = o; closes = k } ≡ brace (record { opens = o; closes = k }) c
+  unfolding brace
+  brace-other e f = rw (ne-eqb c 123 e, ne-eqb c 125 f)
+
+-- A text
+
+module _ (a : Braces) (s : List ℕ) (k : ℕ) (b : Braces) (inv : fold brace a s ≡ fold brace b (drop k s)) where
+  pub bytes-next : (d : Braces) → d ≡ brace b (getD s k 0) → k < length s → fold brace a s ≡ fold brace d (drop (k + 1) s)
+  unfolding fold
+  bytes-next d e h = inv ∙ rw (drop-step 0 s k, e)
+
+  pub bytes-end : length s ≤ k → b ≡ fold brace a s
+  unfolding fold
+  bytes-end h = sym (inv ∙ rw (drop-end s k))
+
+-- A token, by its kind
+
+T-not : (p : Bool) → T (not p) → p ≡ false
+T-not true h = absurd h
+T-not false h = refl
+
+module _ (k a : ℕ) (e : k ≡ a) (b : Braces) (t : List ℕ) where
+  pub punct-yes : (r : Braces) (s : List ℕ) → k ≡ 6 → r ≡ fold brace b s → s ≡ t → r ≡ (if eqb a Punct then fold brace b t else b)
+  punct-yes r s f g q = rw (← e, eq-eqb k 6 f, ← q) g
+
+  pub punct-no : (k ≡ 6 → ⊥) → b ≡ (if eqb a Punct then fold brace b t else b)
+  punct-no f = rw (← e, ne-eqb k 6 f)
+
+  pub punct-other : (m : ℕ) → k ≡ m → T (not (eqb m 6)) → b ≡ (if eqb a Punct then fold brace b t else b)
+  punct-other m f h = rw (← e, f, T-not (eqb m 6) h)
+
+-- bounds that name a part, said of the text that the part is
+module _ (m n : ℕ) (s t : List ℕ) (q : s ≡ t) where
+  pub within-of : m + length t ≤ n → m + length s ≤ n
+  within-of h = rw q h
+
+  pub grown-of : n ≤ m + length s → n ≤ m + length t
+  grown-of h = rw (← q) h
+
+-- A line
+
+fold-append : (b : Braces) (s t : List ℕ) → fold brace b (s ++ t) ≡ fold brace (fold brace b s) t
+unfolding fold
+fold-append b [] t = refl
+fold-append b (c ∷ s) t = fold-append (brace b c) s t
+
+-- what is left to count from token j on
+unfoldable pub rest : List Token → ℕ → List ℕ
+rest ts j = text (filter (λ t. eqb (t .kind) Punct) (drop j ts))
+
+module _ (l : Line) (j n : ℕ) (b : Braces) (inv : braces l ≡ fold brace b (rest (l .tokens) j)) (e : n ≡ length (l .tokens)) where
+  pub braces-next : (d : Braces)
+      → d ≡ (if eqb (getD (l .tokens) j no-token .kind) Punct then fold brace b (getD (l .tokens) j no-token .text) else b) → j < n
+      → braces l ≡ fold brace d (rest (l .tokens) (j + 1))
+  unfolding rest filter text
+  braces-next d q h =
+      let g : j < length (l .tokens) = omega arith in
+      inv ∙ rw (drop-step no-token (l .tokens) j, q) (go (eqb (getD (l .tokens) j no-token .kind) Punct))
+    where
+      more : List Token
+      more = filter (λ t. eqb (t .kind) Punct) (drop (j + 1) (l .tokens))
+
+      go : (p : Bool) → fold brace b (text (cond p (getD (l .tokens) j no-token ∷ more) more))
+          ≡ fold brace (cond p (fold brace b (getD (l .tokens) j no-token .text)) b) (text more)
+      go true = fold-append b (getD (l .tokens) j no-token .text) (text more)
+      go false = refl
+
+  pub braces-end : n ≤ j → b ≡ braces l
+  unfolding rest filter text fold
+  braces-end h = sym (inv ∙ rw (drop-end (l .tokens) j (omega arith)))
+
+pub braces-start : (l : Line) → braces l ≡ fold brace (record { opens = 0; closes = 0 }) (rest (l .tokens) 0)
+unfolding rest braces
+braces-start l = refl
+
+-- How large the counts get
+
+brace-grows : (b : Braces) (c : ℕ) → brace b c .opens + brace b c .closes ≤ b .opens + b .closes + 1
+unfolding brace
+brace-grows b c = go (eqb c 123) (eqb c 125) (ltb 0 (b .opens))
+  where
+    go : (p q r : Bool)
+        → (let d = cond p (record { opens = b .opens + 1; closes = b .closes })
+        (cond q (cond r (record { opens = b .opens - 1; closes = b .closes }) (record { opens = b .opens; closes = b .closes + 1 })) b) in
+        d .opens + d .closes ≤ b .opens + b .closes + 1)
+    go true q r = omega arith
+    go false true true = omega arith
+    go false true false = omega arith
+    go false false r = omega arith
+
+fold-grows : (b : Braces) (s : List ℕ) → fold brace b s .opens + fold brace b s .closes ≤ b .opens + b .closes + length s
+unfolding fold
+fold-grows b [] = omega arith
+fold-grows b (c ∷ s) = omega (arith, fold-grows (brace b c) s, brace-grows b c)
+
+text-filter : (p : Token → Bool) (ts : List Token) → length (text (filter p ts)) ≤ length (text ts)
+unfolding text filter
+text-filter p [] = omega arith
+text-filter p (t ∷ ts) = go (text-filter p ts) (p t)
+  where
+    go : length (text (filter p ts)) ≤ length (text ts) → (b : Bool)
+        → length (text (cond b (t ∷ filter p ts) (filter p ts))) ≤ length (t .text ++ text ts)
+    go h true = omega (arith, length-append (t .text) (text (filter p ts)), length-append (t .text) (text ts))
+    go h false = omega (arith, length-append (t .text) (text ts))
+
+pub braces-within : (l t x : List ℕ) (i : ℕ) → question-2 l t x ≡ true
+    → braces (line (listing l t x) i) .opens + braces (line (listing l t x) i) .closes ≤ length x
+unfolding braces
+braces-within l t x i ok =
+    let ts = line (listing l t x) i .tokens in
+    omega (
+      arith,
+      fold-grows (record { opens = 0; closes = 0 }) (text (filter (λ k. eqb (k .kind) Punct) ts)),
+      text-filter (λ k. eqb (k .kind) Punct) ts,
+      line-text t x (formed-tokens l t x ok) l i,
+    )
+
+pub ruleset bytes = (brace-open, brace-cancel, brace-close, brace-other, bytes-next, bytes-end)
+
+pub ruleset counts = (punct-yes, punct-no, punct-other, within-of, grown-of, braces-start, braces-next, braces-end)

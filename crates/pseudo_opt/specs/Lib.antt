@@ -1,0 +1,5 @@
+pub mod Places
+pub mod Braces
+pub mod Assignments
+pub mod Conditions
+pub mod Definitions

@@ -1,0 +1,2 @@
+pub mod CodePoint
+pub mod Zeroed
