@@ -3,3 +3,4 @@ pub mod Decode
 pub mod Formed
 pub mod Access
 pub mod Asked
+pub mod Ascii

@@ -1,3 +1,4 @@
 pub mod Places
 pub mod Addresses
 pub mod Refusals
+pub mod Bounds

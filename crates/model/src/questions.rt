@@ -3,15 +3,16 @@
 //
 // Contracts cite `question-1`, `question-2`, `question-3` and `refusal` of Rattle.definitions.specs.Questions.
 ghost use mathlib.Core.Path.{_≡_};
-ghost use Prim.Native.Nat.{_%_, _<_};
+ghost use Prim.Native.Nat.{_%_, _<_, _≤_};
 ghost use lib.Dec.{leb};
-ghost use lib.ListN.{getD};
+ghost use lib.ListN.{getD, length};
 ghost use Rattle.definitions.specs.Lists.{all};
 ghost use Rattle.definitions.specs.Model.{no-token};
 ghost use Rattle.definitions.specs.Columns.{token-list};
 ghost use Rattle.definitions.specs.Utf8.{is-utf8};
 ghost use Rattle.definitions.specs.Questions.{covers, question-1, question-2, question-3};
 ghost use Rattle.model.specs.Refusals.{at-most, first-questions, refused};
+ghost use Rattle.model.specs.Bounds.{Bounded};
 use crate::columns::token_text;
 
 // How many lines, tokens and text bytes a listing may have.
@@ -96,8 +97,8 @@ fn is_text(tokens: &[u32], text: &[u8], k: usize) -> bool
     text::is_utf8(token_text(tokens, text, k))
 }
 
-// 3: is each token's text UTF-8?
-pub fn question_3(tokens: &[u32], text: &[u8]) -> bool
+// Each token's text is UTF-8, asked token by token.
+fn are_texts(tokens: &[u32], text: &[u8]) -> bool
     ensures { λ r. ⌜ r ≡ question-3 (now (tokens .entry)) (now (text .entry)) ⌝ }
 {
     let n = tokens.len();
@@ -110,6 +111,35 @@ pub fn question_3(tokens: &[u32], text: &[u8]) -> bool
         }
     }
     true
+}
+
+fn larger(a: u8, b: u8) -> u8
+    ensures { λ r. ⌜ (a ≤ r) × (b ≤ r) ⌝ }
+{
+    if a < b { b } else { a }
+}
+
+// No byte is greater than the answer.
+fn bound(s: &[u8]) -> u8
+    ensures { λ r. ⌜ Bounded r (length (now (s .entry))) (now (s .entry)) ⌝ }
+{
+    let mut most = 0;
+    let mut k = 0;
+    while k < s.len() {
+        most = larger(most, s[k]);
+        k += 1;
+    }
+    most
+}
+
+// 3: is each token's text UTF-8? Of a text that is all ASCII it is; one pass over its bytes tells, which the compiler does by vectors.
+pub fn question_3(tokens: &[u32], text: &[u8]) -> bool
+    ensures { λ r. ⌜ r ≡ question-3 (now (tokens .entry)) (now (text .entry)) ⌝ }
+{
+    if bound(text) < 0x80 {
+        return true;
+    }
+    are_texts(tokens, text)
 }
 
 // The number of the first of the three questions that is answered no, 0 where each is answered yes.

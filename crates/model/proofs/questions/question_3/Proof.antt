@@ -1,53 +1,20 @@
--- `model::questions::question_3` meets its contract. The answer is what is left to ask of the tokens from k on. Assumes nothing.
-use mathlib.Core.Path.{_≡_}
-use Prim.Native.Nat.{_-_, _≤_}
+-- `model::questions::question_3` meets its contract. Assumes nothing.
 use borrow.Author.Needs.{needs}
-use lib.ListN.{drop}
-use Rattle.definitions.specs.Lists.{all}
-use Rattle.definitions.specs.Columns.{token-list}
-use Rattle.definitions.specs.Utf8.{is-utf8}
-use Rattle.text.proofs.Loops.{loops}
-use Rattle.model.proofs.Asked.{asked}
+use Rattle.model.proofs.Ascii.{bounds}
 use Rattle.model.proofs.questions.question_3.Statement.{statement}
 use Rattle.model.proofs.questions.question_3.Tie as tie
 
-abbrev Inv-loop : tie.InvT-loop
-Inv-loop tokens text n k₀ k = (k ≤ n) × (all (λ t. is-utf8 (t .text)) (token-list tokens text) ≡ all (λ t. is-utf8 (t .text)) (drop k (token-list tokens text)))
+bound-requires : tie.Need-bound-requires
+bound-requires c κs = search needs
 
-abbrev μ-loop : tie.MeasureT-loop
-μ-loop tokens text n k₀ k = n - k
+returns : tie.Need-returns
+returns c = search (bounds, needs)
 
-loop-holds : tie.Need-loop-holds Inv-loop μ-loop
-loop-holds c = search (loops, asked, needs)
+are-texts-requires : tie.Need-are-texts-requires
+are-texts-requires c κs = search needs
 
-is-text-requires : tie.Need-is-text-requires Inv-loop μ-loop
-is-text-requires c κs = search (loops, asked, needs)
-
-add-k : tie.Need-add-k Inv-loop μ-loop
-add-k c = search (loops, asked, needs)
-
-loop-less : tie.Need-loop-less Inv-loop μ-loop
-loop-less c = search (loops, asked, needs)
-
-loop-again : tie.Need-loop-again Inv-loop μ-loop
-loop-again c = search (loops, asked, needs)
-
-returns : tie.Need-returns Inv-loop μ-loop
-returns c = search (loops, asked, needs)
-
-returns-2 : tie.Need-returns-2 Inv-loop μ-loop
-returns-2 c = search (loops, asked, needs)
+returns-2 : tie.Need-returns-2
+returns-2 c = search needs
 
 pub question-3-spec : {M : Type 1} → statement M
-question-3-spec =
-    tie.close
-    (tie.spec
-    Inv-loop
-    μ-loop
-    loop-holds
-    is-text-requires
-    add-k
-    loop-less
-    loop-again
-    returns
-    returns-2)
+question-3-spec = tie.close (tie.spec bound-requires returns are-texts-requires returns-2)

@@ -1,0 +1,3 @@
+pub mod Words
+pub mod RowLaws
+pub mod EdgeLaws

@@ -1,0 +1,156 @@
+// Bit rows in one lent slice of 64-bit words, and the edges of a flow graph as two matrices of such rows.
+//
+// Bit a of a slice is bit a % 64 of its word a / 64. A row is given by its first word and its number of words; the functions on rows
+// take a step a word. `find_bit` takes a step a word that it looks at.
+//
+// For n lines and rows of r words, n <= 64 r:
+//   words [0, n r)         predecessors: bit i of row j says that line i steps to line j
+//   words [n r, 2 n r)     successors: bit j of row i says the same
+// `add_edge` sets two bits. The contracts cite `bit`, `Filled`, `edges`, `succs` and `Agree` of specs/; `preds-of` gives the predecessor
+// lists that the sweeps of Rattle.definitions.specs.Sweeps are over.
+ghost use mathlib.Core.Path.{_≡_};
+ghost use mathlib.Core.Bool.{false, _||_, not};
+ghost use Prim.Native.Nat.{_+_, _*_, _/_, _<_, _≤_};
+ghost use lib.ListN.{length, getD, set};
+ghost use lib.Dec.{eqb};
+ghost use lib.Count.{trailingZeros};
+ghost use Rattle.bits.specs.Rows.{bit, Filled, WithBit, joined, joined-low, copied, Differs, First};
+ghost use Rattle.bits.specs.Edges.{Matrices, NoEdges, Added};
+
+pub fn get_bit(s: &[u64], a: usize) -> bool
+    requires { ⌜ a / 64 < length (now s) ⌝ }
+    ensures { λ b. ⌜ b ≡ bit (now (s .entry)) a ⌝ }
+{
+    (s[a / 64] >> (a % 64)) % 2 == 1
+}
+
+pub fn set_bit(s: &mut [u64], a: usize)
+    requires { ⌜ a / 64 < length (now s) ⌝ }
+    ensures { λ z. ⌜ WithBit (now (s .entry)) (now (s .exit)) a ⌝ }
+{
+    let w = a / 64;
+    s[w] = s[w] | (1 << (a % 64));
+}
+
+pub fn clear_row(s: &mut [u64], w: usize, r: usize)
+    requires { ⌜ w + r ≤ length (now s) ⌝ }
+    ensures { λ z. ⌜ Filled (now (s .entry)) (now (s .exit)) w r (λ k. false) ⌝ }
+{
+    let mut i = 0;
+    while i < r {
+        s[w + i] = 0;
+        i += 1;
+    }
+}
+
+// Row w joined with row u, which stands before it.
+pub fn or_row(s: &mut [u64], w: usize, u: usize, r: usize)
+    requires { ⌜ (u + r ≤ w) × (w + r ≤ length (now s)) ⌝ }
+    ensures { λ z. ⌜ Filled (now (s .entry)) (now (s .exit)) w r (joined (now (s .entry)) w u) ⌝ }
+{
+    let mut k = 0;
+    while k < r {
+        s[w + k] = s[w + k] | s[u + k];
+        k += 1;
+    }
+}
+
+// The bits of row u up to bit k, joined to row w, which stands after it.
+pub fn or_low(s: &mut [u64], w: usize, u: usize, k: usize)
+    requires { ⌜ (u + (k / 64 + 1) ≤ w) × (w + (k / 64 + 1) ≤ length (now s)) ⌝ }
+    ensures { λ z. ⌜ Filled (now (s .entry)) (now (s .exit)) w (k / 64 + 1) (joined-low (now (s .entry)) w u k) ⌝ }
+{
+    let q = k / 64;
+    or_row(s, w, u, q);
+    let h = 63 - k % 64;
+    s[w + q] = s[w + q] | ((s[u + q] << h) >> h);
+}
+
+pub fn either(a: bool, b: bool) -> bool
+    ensures { λ r. ⌜ r ≡ (a || b) ⌝ }
+{
+    if a { true } else { b }
+}
+
+// The word x at place w; answers whether that is a change.
+fn put(s: &mut [u64], w: usize, x: u64) -> bool
+    requires { ⌜ w < length (now s) ⌝ }
+    ensures { λ t. ⌜ (t ≡ not (eqb (getD (now (s .entry)) w 0) x)) × (now (s .exit) ≡ set (now (s .entry)) w x) ⌝ }
+{
+    if s[w] == x {
+        return false;
+    }
+    s[w] = x;
+    true
+}
+
+// Row u, which stands after row w, copied to row w; answers whether that is a change.
+pub fn store_row(s: &mut [u64], w: usize, u: usize, r: usize) -> bool
+    requires { ⌜ (w + r ≤ u) × (u + r ≤ length (now s)) ⌝ }
+    ensures { λ t. ⌜ Differs (now (s .entry)) w u r t ⌝ }
+    ensures { λ t. ⌜ Filled (now (s .entry)) (now (s .exit)) w r (copied (now (s .entry)) u) ⌝ }
+{
+    let mut changed = false;
+    let mut i = 0;
+    while i < r {
+        let x = s[u + i];
+        let c = put(s, w + i, x);
+        changed = either(c, changed);
+        i += 1;
+    }
+    changed
+}
+
+// How many zeros stand below the lowest set bit.
+fn low_zeros(x: u64) -> usize
+    ensures { λ k. ⌜ (k ≡ trailingZeros 64 x) × (k ≤ 64) ⌝ }
+{
+    u64::trailing_zeros(x) as usize
+}
+
+// The first set bit from a on, below e; e where there is none.
+pub fn find_bit(s: &[u64], a: usize, e: usize) -> usize
+    requires { ⌜ (a ≤ e) × (e ≤ length (now s) * 64) × (e < 1000000000) ⌝ }
+    ensures { λ q. ⌜ First (now (s .entry)) a e q ⌝ }
+{
+    let mut p = a;
+    while p < e {
+        let x = s[p / 64] >> (p % 64);
+        if x != 0 {
+            let q = p + low_zeros(x);
+            if q < e {
+                return q;
+            }
+            return e;
+        }
+        p = (p / 64 + 1) * 64;
+    }
+    e
+}
+
+// The first word of row i of n rows of r words.
+pub fn row(n: usize, r: usize, i: usize) -> usize
+    requires { ⌜ (i < n) × (n * r ≤ 65536) ⌝ }
+    ensures { λ w. ⌜ (w ≡ i * r) × (w + r ≤ n * r) ⌝ }
+{
+    i * r
+}
+
+// Clears both matrices.
+pub fn no_edges(space: &mut [u64], n: usize, r: usize)
+    requires { ⌜ Matrices n r (now space) ⌝ }
+    ensures { λ z. ⌜ NoEdges n r (now (space .entry)) (now (space .exit)) ⌝ }
+{
+    clear_row(space, 0, n * r + n * r);
+}
+
+// The edge from line p to line q, in both matrices.
+pub fn add_edge(space: &mut [u64], n: usize, r: usize, p: usize, q: usize)
+    requires { ⌜ Matrices n r (now space) × (p < n) × (q < n) ⌝ }
+    ensures { λ z. ⌜ Added n r p q (now (space .entry)) (now (space .exit)) ⌝ }
+{
+    let before = row(n, r, q);
+    set_bit(space, before * 64 + p);
+    let after = n * r + row(n, r, p);
+    set_bit(space, after * 64 + q);
+}

@@ -1,0 +1,10 @@
+pub mod Links
+pub mod Stacks
+pub mod Reading
+pub mod Buckets
+pub mod Leads
+pub mod Tests
+pub mod Drawings
+pub mod Falls
+pub mod Edges
+pub mod Graphs

@@ -1,0 +1,129 @@
+// The flow graph of a listing, drawn into the two matrices of Rattle.bits, with questions 8 and 9.
+//
+// Blocks and labels stand in local arrays of 1,024 entries. Beside the steps, which are drawn line by line, the time is linear in the tokens
+// and bytes. Contracts cite `flow-graph` of Rattle.definitions.specs.FlowGraph.
+ghost use mathlib.Core.Path.{_≡_};
+ghost use mathlib.Core.Bool.{true};
+ghost use mathlib.Core.Option.{none};
+ghost use Prim.Native.Nat.{ℕ, _≤_, _<_};
+ghost use lib.ListN.{length, getD};
+ghost use Rattle.definitions.specs.Lists.{member};
+ghost use Rattle.definitions.specs.Columns.{listing};
+ghost use Rattle.definitions.specs.FlowGraph.{successors};
+ghost use Rattle.bits.specs.Edges.{Matrices};
+ghost use Rattle.flow.specs.Structure.{blocks-of};
+ghost use Rattle.flow.specs.Drawing.{Drawn};
+ghost use Rattle.flow.specs.Graph.{Read, Graph, flow-refusal, refused};
+use crate::blocks::blocks;
+use crate::gotos::gotos_lead;
+use crate::labels::index;
+use crate::steps::line_steps;
+
+// What `flow_graph` answers: the graph is drawn, or question 8 or question 9 is answered no.
+pub enum Flow {
+    Drawn,
+    UnmatchedBrace,
+    UnknownLabel,
+}
+
+// The edges of every line.
+fn draw(
+    lines: &[u32],
+    tokens: &[u32],
+    text: &[u8],
+    ends: &[usize],
+    parents: &[usize],
+    heads: &[usize],
+    nexts: &[usize],
+    space: &mut [u64],
+    r: usize,
+)
+    requires { ⌜ Matrices (length (now lines)) r (now space) ⌝ }
+    requires { ⌜ Read (now lines) (now tokens) (now text) (now ends) (now parents) (now heads) (now nexts) ⌝ }
+    ensures { λ z.
+        ⌜ (let L = listing (now (lines .entry)) (now (tokens .entry)) (now (text .entry)) in
+        let n = length (now (lines .entry)) in
+        Drawn n r (now (space .entry)) (now (space .exit)) (λ i j. member j (successors L (blocks-of L) i))) ⌝ }
+{
+    let n = lines.len();
+    let mut i = 0;
+    while i < n {
+        line_steps(
+            lines,
+            tokens,
+            text,
+            ends,
+            parents,
+            heads,
+            nexts,
+            space,
+            r,
+            i,
+        );
+        i += 1;
+    }
+}
+
+// The same as `flow_graph`, with the columns of the blocks and of the labels lent. The buckets of the labels are empty.
+fn flow_graph_in(
+    lines: &[u32],
+    tokens: &[u32],
+    text: &[u8],
+    ends: &mut [usize],
+    parents: &mut [usize],
+    counts: &mut [usize],
+    heads: &mut [usize],
+    nexts: &mut [usize],
+    space: &mut [u64],
+    r: usize,
+) -> Flow
+    requires { ⌜ (let n = length (now lines) in
+        (n ≤ length (now ends)) × (n ≤ length (now parents)) × (n ≤ length (now counts)) × (1024 ≤ length (now heads)) × (n ≤ length (now nexts))) ⌝ }
+    requires { ⌜ ((b : ℕ) → getD (now heads) b 0 ≡ 0) ⌝ }
+    requires { ⌜ Matrices (length (now lines)) r (now space) ⌝ }
+    ensures { λ f. ⌜ refused f ≡ flow-refusal (listing (now (lines .entry)) (now (tokens .entry)) (now (text .entry))) ⌝ }
+    ensures { λ f.
+        ⌜ (let L = listing (now (lines .entry)) (now (tokens .entry)) (now (text .entry)) in
+        (refused f ≡ none → Graph L (length (now (lines .entry))) r (now (space .entry)) (now (space .exit)))) ⌝ }
+{
+    if blocks(lines, tokens, text, ends, parents, counts) {
+        index(lines, tokens, text, heads, nexts);
+        if gotos_lead(lines, tokens, text, heads, nexts) {
+            bits::no_edges(space, lines.len(), r);
+            draw(lines, tokens, text, ends, parents, heads, nexts, space, r);
+            Flow::Drawn
+        } else {
+            Flow::UnknownLabel
+        }
+    } else {
+        Flow::UnmatchedBrace
+    }
+}
+
+// Draws the flow graph, unless a brace does not match or a goto leads to no label. The space has room for the two matrices; what it holds
+// after a refusal is left open.
+pub fn flow_graph(lines: &[u32], tokens: &[u32], text: &[u8], space: &mut [u64], r: usize) -> Flow
+    requires { ⌜ (length (now lines) ≤ 1024) × Matrices (length (now lines)) r (now space) ⌝ }
+    ensures { λ f. ⌜ refused f ≡ flow-refusal (listing (now (lines .entry)) (now (tokens .entry)) (now (text .entry))) ⌝ }
+    ensures { λ f.
+        ⌜ (let L = listing (now (lines .entry)) (now (tokens .entry)) (now (text .entry)) in
+        (refused f ≡ none → Graph L (length (now (lines .entry))) r (now (space .entry)) (now (space .exit)))) ⌝ }
+{
+    let mut ends = [0usize; 1024];
+    let mut parents = [0usize; 1024];
+    let mut counts = [0usize; 1024];
+    let mut heads = [0usize; 1024];
+    let mut nexts = [0usize; 1024];
+    flow_graph_in(
+        lines,
+        tokens,
+        text,
+        &mut ends,
+        &mut parents,
+        &mut counts,
+        &mut heads,
+        &mut nexts,
+        space,
+        r,
+    )
+}

@@ -1,0 +1,16 @@
+pub mod Lists
+pub mod Linking
+pub mod Ranks
+pub mod RepresentativeRules
+pub mod Renaming
+pub mod Finding
+pub mod Hashes
+pub mod Numbered
+pub mod TokenWords
+pub mod ReadRules
+pub mod SetRules
+pub mod ReadLines
+pub mod Taken
+pub mod LinkReads
+pub mod WriteRules
+pub mod FamilyNumbers

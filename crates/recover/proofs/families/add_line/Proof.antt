@@ -1,0 +1,25 @@
+-- `recover::families::add_line` meets its contract. By its calls.
+-- Assumes nothing.
+use Rattle.recover.proofs.Numbered.{place-rules}
+use borrow.Author.Needs.{needs}
+use Rattle.recover.proofs.families.add_line.Statement.{statement}
+use Rattle.recover.proofs.families.add_line.Tie as tie
+
+text-at-requires : tie.Need-text-at-requires
+text-at-requires c κs = search (place-rules, needs)
+
+hash-of-requires : tie.Need-hash-of-requires
+hash-of-requires c κs = search (place-rules, needs)
+
+add-requires : tie.Need-add-requires
+add-requires c κs = search (place-rules, needs)
+
+same-length : tie.Need-same-length
+same-length c = search (place-rules, needs)
+
+returns : tie.Need-returns
+returns c = search (place-rules, needs)
+
+pub add-line-spec : {M : Type 1} → statement M
+add-line-spec =
+    tie.close (tie.spec text-at-requires hash-of-requires add-requires same-length returns)

@@ -1,0 +1,5 @@
+pub mod Numbers
+pub mod Families
+pub mod Tokens
+pub mod Reaching
+pub mod Writing
