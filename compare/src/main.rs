@@ -7,7 +7,7 @@ mod leaves;
 
 use std::error::Error;
 use std::fs;
-use std::path::{Path, PathBuf};
+use std::path::Path;
 use std::process::ExitCode;
 
 use oracle::json;
@@ -21,7 +21,7 @@ fn main() -> Result<ExitCode, Box<dyn Error>> {
         _ => return Err(format!("{word}: the words are: leaves").into()),
     };
     let (mut listings, mut lines, mut wrong) = (0, 0, 0);
-    for file in json_files(Path::new(dir))? {
+    for file in json::files(Path::new(dir))? {
         let found = match json::read(&fs::read(&file)?) {
             Ok(listing) => {
                 lines += listing.len();
@@ -37,12 +37,4 @@ fn main() -> Result<ExitCode, Box<dyn Error>> {
     println!("{lines} lines");
     println!("{listings} listings, {wrong} differences");
     Ok(ExitCode::from(u8::from(wrong != 0)))
-}
-
-fn json_files(dir: &Path) -> Result<Vec<PathBuf>, Box<dyn Error>> {
-    let files: Result<Vec<PathBuf>, _> = fs::read_dir(dir)?.map(|entry| entry.map(|e| e.path())).collect();
-    let mut files = files?;
-    files.retain(|f| f.extension().is_some_and(|x| x == "json"));
-    files.sort();
-    Ok(files)
 }

@@ -4,10 +4,22 @@
 //! `[{"address":null,"indent":1,"tokens":[{"t":"}","k":"punct"}]}]`, white space wherever RFC 8259 allows it, within
 //! question 1's limits. The writer puts no blanks and escapes only quote, backslash and codes below 32.
 
+use std::path::{Path, PathBuf};
+use std::{fs, io};
+
 use crate::columns::KINDS;
 use crate::model::{Token, TokenKind};
 use crate::pseudo::PseudoLine;
 use crate::questions::{MAX_LINES, MAX_TEXT, MAX_TOKENS};
+
+/// The files `*.json` of a folder, in the order of their names.
+pub fn files(dir: &Path) -> io::Result<Vec<PathBuf>> {
+    let files: Result<Vec<PathBuf>, _> = fs::read_dir(dir)?.map(|entry| entry.map(|e| e.path())).collect();
+    let mut files = files?;
+    files.retain(|f| f.extension().is_some_and(|x| x == "json"));
+    files.sort();
+    Ok(files)
+}
 
 /// The names of the kinds, in the order of their numbers.
 const NAMES: [&str; 8] = ["text", "register", "number", "keyword", "symbol", "address", "punct", "prefix"];

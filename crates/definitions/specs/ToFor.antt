@@ -31,7 +31,7 @@ initialiser L ind v (suc n) (suc k) =
     else if any (names v) (line L k .tokens) || is-some (call-at (line L k)) then none
     else earlier
 
--- The last byte of a text and the continuation bytes before it are its last code point.
+-- From the end: continuation bytes, and the byte before them, are a text's last code point.
 
 unfoldable pub pop-reversed : List ℕ → List ℕ
 pop-reversed [] = []

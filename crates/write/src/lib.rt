@@ -2,7 +2,7 @@
 //
 // A cursor says how much of each column is written, and of what kind the open line's last token is. A write that a column has no room for
 // is left out, so that no function asks for room: the contracts say what the columns hold if the listing has room in them at the end.
-// `add_bytes` takes a step a byte, `finish` a step an element behind the cursor, the others constant time.
+// `add_bytes`, `add_token` and `add_merged` take a step a byte, `finish` a step an element behind the cursor, the others constant time.
 //
 // Contracts cite the state of specs/State.antt, lines done and what is open, whose columns are `line-words`, `address-words`,
 // `token-words-from` and `text` of Rattle.definitions.specs; `finish` cites `packed` and `counts` of Rattle.definitions.specs.Calls.
@@ -33,7 +33,7 @@ const MOST_BYTES: usize = 16777216;
 
 const MOST_TOKENS: usize = 8388608;
 
-// Nothing is written.
+// The cursor before the first write.
 pub fn start() -> Cursor
     ensures { λ r. ⌜ ((l a t x : List ℕ) → Holds (done []) (columns l a t x) r) ⌝ }
 {
@@ -45,6 +45,7 @@ pub fn start() -> Cursor
     }
 }
 
+// Stores the bytes at place `from`.
 fn copy(text: &mut [u8], from: usize, bytes: &[u8])
     requires { ⌜ from + length (now bytes) ≤ length (now text) ⌝ }
     ensures { λ _. ⌜ Filled (take from (now (text .entry)) ++ now (bytes .entry)) (from + length (now (bytes .entry))) (now (text .exit)) ⌝ }
@@ -56,7 +57,7 @@ fn copy(text: &mut [u8], from: usize, bytes: &[u8])
     }
 }
 
-// Bytes behind those of the open token.
+// Appends bytes to the open token.
 pub fn add_bytes(text: &mut [u8], c: Cursor, bytes: &[u8]) -> Cursor
     ensures { λ r. ⌜ ((l a t : List ℕ) → Writes (add-bytes (now (bytes .entry))) (columns l a t (now (text .entry))) c (columns l a t (now (text .exit))) r) ⌝ }
 {
@@ -78,7 +79,7 @@ pub fn add_bytes(text: &mut [u8], c: Cursor, bytes: &[u8]) -> Cursor
     }
 }
 
-// The bytes of the open token are a token.
+// Ends the open token.
 pub fn end_token(tokens: &mut [u32], c: Cursor, kind: usize) -> Cursor
     requires { ⌜ kind < 256 ⌝ }
     ensures { λ r. ⌜ ((l a x : List ℕ) → Writes (end-token kind) (columns l a (now (tokens .entry)) x) c (columns l a (now (tokens .exit)) x) r) ⌝ }
@@ -118,7 +119,7 @@ fn joins(last: usize, kind: usize) -> bool
     }
 }
 
-// The bytes of the open token are the end of the last token, which is of the kind.
+// Ends the open token as the end of the last one, which is of the kind.
 fn extend_token(tokens: &mut [u32], c: Cursor, kind: usize)
     requires { ⌜ kind < 256 ⌝ }
     ensures { λ r. ⌜ ((l a x : List ℕ) (s : State) → kinds-join (c .last) kind ≡ true
@@ -139,7 +140,7 @@ fn extend_token(tokens: &mut [u32], c: Cursor, kind: usize)
     tokens[last] = (end * 256 + kind) as u32;
 }
 
-// The bytes of the open token are a token, which joins the last one where `merge` joins them.
+// Ends the open token, which joins the last one where `merge` joins them.
 pub fn end_merged(tokens: &mut [u32], c: Cursor, kind: usize) -> Cursor
     requires { ⌜ kind < 256 ⌝ }
     ensures { λ r. ⌜ ((l a x : List ℕ) → Writes (end-merged kind) (columns l a (now (tokens .entry)) x) c (columns l a (now (tokens .exit)) x) r) ⌝ }
@@ -152,7 +153,7 @@ pub fn end_merged(tokens: &mut [u32], c: Cursor, kind: usize) -> Cursor
     end_token(tokens, c, kind)
 }
 
-// A token.
+// Appends a token.
 pub fn add_token(
     tokens: &mut [u32],
     text: &mut [u8],
@@ -167,7 +168,7 @@ pub fn add_token(
     end_token(tokens, d, kind)
 }
 
-// A token, which joins the last one where `merge` joins them.
+// Appends a token, which joins the last one where `merge` joins them.
 pub fn add_merged(
     tokens: &mut [u32],
     text: &mut [u8],
@@ -201,7 +202,7 @@ fn address_word(addr: Address) -> u64
     }
 }
 
-// The tokens of the open line are a line.
+// Ends the open line.
 pub fn end_line(
     lines: &mut [u32],
     addresses: &mut [u64],
@@ -234,7 +235,7 @@ pub fn end_line(
     }
 }
 
-// Zeros behind the cursor. Nothing is to be open.
+// Zeroes what is behind the cursor. The columns are then `packed`, if no line or token is open.
 pub fn finish(
     lines: &mut [u32],
     addresses: &mut [u64],

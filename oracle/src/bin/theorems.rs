@@ -5,7 +5,7 @@
 
 use std::error::Error;
 use std::fs;
-use std::path::{Path, PathBuf};
+use std::path::PathBuf;
 
 use oracle::{json, theorems};
 
@@ -17,7 +17,7 @@ fn main() -> Result<(), Box<dyn Error>> {
     let [dir, out] = args.as_slice() else { return Err("usage: theorems DIR OUT".into()) };
     let mut names = String::new();
     let mut listings = Vec::new();
-    for file in json_files(dir)? {
+    for file in json::files(dir)? {
         let name = file.file_name().expect("a file has a name").to_string_lossy();
         match json::read(&fs::read(&file)?) {
             Ok(lines) => {
@@ -33,12 +33,4 @@ fn main() -> Result<(), Box<dyn Error>> {
         fs::write(out.join(format!("{n}.antt")), theorems::HEAD.to_string() + &text)?;
     }
     Ok(())
-}
-
-fn json_files(dir: &Path) -> Result<Vec<PathBuf>, Box<dyn Error>> {
-    let files: Result<Vec<PathBuf>, _> = fs::read_dir(dir)?.map(|entry| entry.map(|e| e.path())).collect();
-    let mut files = files?;
-    files.retain(|f| f.extension().is_some_and(|x| x == "json"));
-    files.sort();
-    Ok(files)
 }
