@@ -9,7 +9,6 @@ pub mod ForStep
 pub mod LoopSteps
 pub mod GotoSteps
 pub mod PassSteps
-pub mod PassLoop
 pub mod Comparisons
 pub mod Sums
 pub mod Sizes
