@@ -1,9 +1,11 @@
 //! `compare WORD DIR`: every `*.json` listing in DIR through the proved library and through the original Rust.
 //!
 //! Prints each difference with the file's name, last `N listings, M differences`; exit status 0 only for 0 differences.
-//! WORD: `leaves`, the reading layer function by function.
+//! WORD: `leaves`, the reading layer function by function; `webs`, the web call.
 
 mod leaves;
+mod lent;
+mod webs;
 
 use std::error::Error;
 use std::fs;
@@ -18,7 +20,8 @@ fn main() -> Result<ExitCode, Box<dyn Error>> {
     let [word, dir] = args.as_slice() else { return Err("usage: compare WORD DIR".into()) };
     let differences: fn(&[PseudoLine]) -> Vec<String> = match word.as_str() {
         "leaves" => leaves::differences,
-        _ => return Err(format!("{word}: the words are: leaves").into()),
+        "webs" => webs::differences,
+        _ => return Err(format!("{word}: the words are: leaves, webs").into()),
     };
     let (mut listings, mut lines, mut wrong) = (0, 0, 0);
     for file in json::files(Path::new(dir))? {

@@ -4,6 +4,7 @@ use crate::model::Token;
 use crate::passes::{self, Pass};
 use crate::pseudo::PseudoLine;
 use crate::pseudo_opt::fam_of;
+use crate::pseudo_ssa;
 use crate::pseudo_types::Seg;
 use crate::questions::refuse_lines;
 use crate::sweeps;
@@ -44,6 +45,11 @@ pub fn webs(lines: &[PseudoLine]) -> Result<Webs, u8> {
         (Seg::Webs(_), Some(number)) => panic!("the original accepts what question {number} refuses: {lines:?}"),
         (Seg::Old(_), None) => panic!("the original refuses what the questions accept: {lines:?}"),
     }
+}
+
+/// `recover` by itself, for its cost; whether there are webs.
+pub fn recover(lines: &[PseudoLine]) -> bool {
+    pseudo_ssa::recover(lines).is_some()
 }
 
 /// The splits; sweeps are 0.

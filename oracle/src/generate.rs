@@ -6,6 +6,7 @@
 //! | damaged | plausible ones with one to four faults |
 //! | tiny | a few lines each, walking through every combination of small choices |
 //! | full | near the limits of question 1 |
+//! | scaled | the shapes of `full` with 64 to 96 lines |
 //! | directed | shapes for places that are rarely met |
 
 mod damaged;
@@ -25,6 +26,7 @@ pub enum Kind {
     Damaged,
     Tiny,
     Full,
+    Scaled,
     Directed,
 }
 
@@ -37,8 +39,9 @@ impl FromStr for Kind {
             "damaged" => Kind::Damaged,
             "tiny" => Kind::Tiny,
             "full" => Kind::Full,
+            "scaled" => Kind::Scaled,
             "directed" => Kind::Directed,
-            _ => return Err(format!("{name}: the kinds are plausible, damaged, tiny, full, directed")),
+            _ => return Err(format!("{name}: the kinds are plausible, damaged, tiny, full, scaled, directed")),
         })
     }
 }
@@ -51,9 +54,17 @@ pub fn listing(kind: Kind, seed: u64, index: u64) -> Vec<PseudoLine> {
         Kind::Damaged => damaged::listing(&mut r),
         Kind::Tiny => tiny::listing(seed, index, &mut r),
         Kind::Full => full::listing(index, &mut r),
+        Kind::Scaled => full::scaled(index, &mut r),
         Kind::Directed => directed::listing(index, &mut r),
     }
 }
+
+/// A plausible listing of about so many lines.
+pub fn plausible(seed: u64, lines: usize) -> Vec<PseudoLine> {
+    plausible::sized(&mut Random::new(seed, lines as u64), lines)
+}
+
+pub use full::creeping_back;
 
 #[cfg(test)]
 mod tests {
@@ -62,8 +73,8 @@ mod tests {
     use crate::questions::{question_1, question_2, question_3, question_4_pass, Addresses, Lent};
     use crate::{answers, json};
 
-    const ALL: [(Kind, u64); 5] =
-        [(Kind::Plausible, 500), (Kind::Damaged, 500), (Kind::Tiny, 2_000), (Kind::Full, 9), (Kind::Directed, 2_000)];
+    const ALL: [(Kind, u64); 6] =
+        [(Kind::Plausible, 500), (Kind::Damaged, 500), (Kind::Tiny, 2_000), (Kind::Full, 9), (Kind::Scaled, 90), (Kind::Directed, 2_000)];
 
     /// Every generated listing passes questions 1 to 3, comes back from both forms, and has answers that do not contradict
     /// the questions (`answers` panics if they do).

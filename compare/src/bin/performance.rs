@@ -3,16 +3,24 @@
 use std::hint::black_box;
 use std::time::Instant;
 
+use javrenzu::{working_space, Listing};
 use oracle::columns::encode;
-use oracle::generate::{listing, Kind};
+use oracle::generate::{creeping_back, listing, plausible, Kind};
+use oracle::pseudo::PseudoLine;
+use oracle::{answers, sweeps};
 
 extern "C" {
     fn leaves_refusal(l: *const u32, ln: usize, t: *const u32, tn: usize, x: *const u8, xn: usize) -> usize;
     fn leaves_is_utf8(x: *const u8, xn: usize) -> usize;
 }
 
-/// Nanoseconds of one run: the least of several rounds of runs.
+/// Nanoseconds of one run: the least of several rounds of runs, or the first run where that takes a second.
 fn nanoseconds(mut run: impl FnMut()) -> f64 {
+    let start = Instant::now();
+    run();
+    if start.elapsed().as_secs() >= 1 {
+        return start.elapsed().as_nanos() as f64;
+    }
     let round = |run: &mut dyn FnMut()| {
         let (start, mut runs) = (Instant::now(), 0u32);
         while start.elapsed().as_millis() < 40 {
@@ -29,8 +37,7 @@ fn texts() -> Vec<(&'static str, Vec<u8>)> {
     vec![("ASCII, 262,144 bytes", vec![b'x'; 262_144]), ("three bytes a character, 262,143 bytes", "€".repeat(87_381).into_bytes())]
 }
 
-fn main() {
-    println!("# Performance\n\nMade by `tools/performance`: the proved library beside the original Rust, one run, both optimised.\n");
+fn questions() {
     println!("## Questions 1 to 3\n\nThe original asks none: its text is a `String`. Beside them stands `str::from_utf8` on the same text.\n");
     println!("| what | on | library, ns a byte | `str::from_utf8`, ns a byte | ratio |");
     println!("|---|---|---|---|---|");
@@ -51,4 +58,44 @@ fn main() {
         let on = format!("listing {index}: {} lines, {} tokens, {} bytes", c.lines.len(), c.tokens.len(), c.text.len());
         row("questions 1 to 3", &on, c.text.len(), own, rust);
     }
+}
+
+/// What the web call is timed on.
+fn webs_listings() -> Vec<(&'static str, Vec<PseudoLine>)> {
+    let full = |index| listing(Kind::Full, 1, index);
+    vec![
+        ("plausible", plausible(3, 20)),
+        ("plausible", plausible(1, 200)),
+        ("plausible", plausible(1, 1_000)),
+        ("plausible, widened", full(0)),
+        ("hundreds of families", full(2)),
+        ("deep nesting with breaks", full(3)),
+        ("hundreds of gotos", full(4)),
+        ("hundreds of guarded loops", full(6)),
+        ("a value creeps back, 1 family", creeping_back(1)),
+        ("values creep back, 100 families", creeping_back(100)),
+        ("values creep back, 1,022 families", creeping_back(1_022)),
+    ]
+}
+
+fn webs() {
+    println!("\n## The web call\n\nThe library's call with all its questions and per-token answers, beside the original's `recover` alone.\n");
+    println!("| listing | lines | tokens | bytes | sweeps | library, µs | original, µs | times faster |");
+    println!("|---|---|---|---|---|---|---|---|");
+    for (name, lines) in webs_listings() {
+        let c = encode(&lines);
+        let (mut numbers, mut marks) = (vec![0; c.tokens.len()], vec![0; c.tokens.len()]);
+        let mut space = vec![0; working_space(c.lines.len())];
+        let listing = Listing { lines: &c.lines, tokens: &c.tokens, text: &c.text };
+        let own = nanoseconds(|| _ = black_box(javrenzu::webs(listing, &mut numbers, &mut marks, &mut space)));
+        let rust = nanoseconds(|| _ = black_box(answers::recover(&lines)));
+        let sizes = format!("{} | {} | {} | {}", c.lines.len(), c.tokens.len(), c.text.len(), sweeps(&lines));
+        println!("| {name} | {sizes} | {:.1} | {:.1} | {:.1} |", own / 1e3, rust / 1e3, rust / own);
+    }
+}
+
+fn main() {
+    println!("# Performance\n\nMade by `tools/performance`: the proved library beside the original Rust, one run, both optimised.\n");
+    questions();
+    webs();
 }

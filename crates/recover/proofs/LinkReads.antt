@@ -24,7 +24,7 @@ use Rattle.bits.specs.Edges.{preds-of}
 use Rattle.sweep.specs.Layout.{making, Room}
 use Rattle.sweep.specs.Numbers.{defining-lines}
 use Rattle.sweep.specs.Solved.{Incoming}
-use Rattle.sweep.proofs.LayoutLaws.{room-same, kept-preds}
+use Rattle.sweep.proofs.LayoutLaws.{room-same, kept-preds, kept-both}
 use Rattle.sweep.proofs.Counting.{incoming-kept, incoming-holds}
 use Rattle.recover.specs.Numbers.{Within, earlier, Ranked}
 use Rattle.recover.specs.Reaching.{bits-from, Reached, Swept, Sized, Slices, reach-numbers, linked, Links, FamilyReps, ReadWeb}
@@ -45,6 +45,7 @@ module _ (n r w i : ℕ) (nums l₀ l : List ℕ) (S : Swept n r w nums l₀) (I
   swept-still e = record {
     room = room-same n r w l₀ l e (S .room);
     numbered = S .numbered;
+    agree = kept-both n r w l₀ l (S .room .wide) (incoming-kept n r w i l₀ l I) (S .agree);
     holds = rw same-preds (incoming-holds n r w i l₀ l I nums ((sweeps (preds-of n r l₀) (defining-lines n nums)) .out) (S .numbered) (S .holds));
   }
 

@@ -1,6 +1,7 @@
 -- Rules for `is_rsp` and `address_taken`.
 --   defines-plain               a family that a line defines is no `var_`
 --   rsp-by                      `is_rsp`
+--   family-read                 a family that has a definition is read, but rsp
 --   taken-rsp, taken-lines      `address_taken`
 -- Assumes nothing.
 use Prim.Native.Nat.{ℕ, _+_, _-_, _<_}
@@ -14,7 +15,7 @@ use Rattle.definitions.specs.Lists.{_>>=_, require, any, range, _==_, ascii}
 use Rattle.definitions.specs.Model.{Line, token, line}
 use Rattle.definitions.specs.Family.{Family, fam-of, names}
 use Rattle.definitions.specs.Statements.{Assignment, assignment, defines, is-var}
-use Rattle.definitions.specs.Recover.{takes-address, address-taken}
+use Rattle.definitions.specs.Recover.{takes-address, address-taken, is-read-family}
 use Rattle.theory.proofs.Bools.{and-split, clash, not-so}
 use Rattle.theory.proofs.Lines.{defines-first}
 use Rattle.family.specs.declared.Register.{Register}
@@ -51,6 +52,10 @@ rsp-by L t k i r s y e p q z = z ∙ ap (λ (s : List ℕ). is-rsp (family-of s 
 module _ (L : List Line) (count k : ℕ) (t : List ℕ) (T : Table L count t) (h : k < count) (y : Bool) (e : y ≡ is-rsp (fam-of (token (line L (getD t (1280 + k) 0)) 0))) where
   rsp-is : y ≡ (family-name L k == ascii "rsp")
   rsp-is = let w = defines-first (line L (getD t (1280 + k) 0)) (family-name L k) (T .first k h) in e ∙ ap is-rsp (w .1) ∙ ap (_== ascii "rsp") (w .2)
+
+  -- a family that has a definition is read, but rsp
+  pub family-read : is-read-family (family-name L k) ≡ not y
+  family-read = rw (sym rsp-is, defines-plain (line L (getD t (1280 + k) 0)) (family-name L k) (T .first k h))
 
   pub taken-rsp : y ≡ true → false ≡ address-taken L (family-name L k)
   taken-rsp q = rw (sym rsp-is ∙ q, defines-plain (line L (getD t (1280 + k) 0)) (family-name L k) (T .first k h))

@@ -2,7 +2,8 @@
 --   bits-from l a n           the numbers below n whose bit, counted from bit a of the words l, is set
 --   Put s₀ s m b y k          s is s₀ with b at place m where y is true; k is the place behind
 --   Reached                   what `reaching` does: the first m words of s are the set of line i, and the words l have its row
---   Swept n r w nums l        the outgoing rows hold what the sweeps over the graph in l leave, for the definitions that nums numbers
+--   Swept n r w nums l        the outgoing rows hold what the sweeps over the graph in l leave, for the definitions that nums numbers; both
+--                             matrices of the graph say the same
 --   reach-numbers n r nums l i    the numbers of the definitions that reach line i
 --   linked n r nums l rep is  the representatives rep after the reads on the lines is
 --   Links                     what `link_line` and `link_reads` do
@@ -19,7 +20,7 @@ use Rattle.definitions.specs.Lists.{filter, fold, up-to, member, or-else, first
 use Rattle.definitions.specs.Sweeps.{incoming, sweeps}
 use Rattle.definitions.specs.Recover.{link}
 use Rattle.bits.specs.Rows.{bit}
-use Rattle.bits.specs.Edges.{preds-of}
+use Rattle.bits.specs.Edges.{Agree, preds-of}
 use Rattle.sweep.specs.Layout.{making, Room}
 use Rattle.sweep.specs.Numbers.{defining-lines, line-of, Numbered}
 use Rattle.sweep.specs.Solved.{Holds, Incoming}
@@ -41,6 +42,7 @@ pub record Reached (n r w i nd : ℕ) (l₀ l s : List ℕ) (m : ℕ) : Type 0 w
 pub record Swept (n r w : ℕ) (nums l : List ℕ) : Type 0 where
   pub room : Room n r w l
   pub numbered : Numbered n w nums
+  pub agree : Agree n r l
   pub holds : Holds n r w nums ((sweeps (preds-of n r l) (defining-lines n nums)) .out) l
 
 unfoldable pub reach-numbers : ℕ → ℕ → List ℕ → List ℕ → ℕ → List ℕ

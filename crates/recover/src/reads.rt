@@ -152,7 +152,7 @@ pub fn read_lines(
     reads: &mut [u16],
 ) -> usize
     requires { ⌜ (let L = listing (now lines) (now tokens) (now text) in Waits (now lines) L (now numbers) k × Defs L (now defs)) × (0 < length (now lines)) × (length (now lines) ≤ length (now reads)) × (length (now lines) ≤ 65536) ⌝ }
-    ensures { λ m. ⌜ (let L = listing (now (lines .entry)) (now (tokens .entry)) (now (text .entry)) in take m (now (reads .exit)) ≡ filter (λ i. any (names (family-name L k)) (read-tokens (line L i))) (range 1 (length L - 1))) ⌝ }
+    ensures { λ m. ⌜ (m ≤ length (now (lines .entry))) × (let L = listing (now (lines .entry)) (now (tokens .entry)) (now (text .entry)) in take m (now (reads .exit)) ≡ filter (λ i. any (names (family-name L k)) (read-tokens (line L i))) (range 1 (length L - 1))) ⌝ }
 {
     let mut m = 0;
     let mut i = 1;
@@ -165,7 +165,7 @@ pub fn read_lines(
 }
 
 // Family k is rsp.
-fn is_rsp(lines: &[u32], tokens: &[u32], text: &[u8], table: &[u16], k: usize) -> bool
+pub fn is_rsp(lines: &[u32], tokens: &[u32], text: &[u8], table: &[u16], k: usize) -> bool
     requires { ⌜ k < 1024 ⌝ }
     ensures { λ y. ⌜ (let l = line (listing (now (lines .entry)) (now (tokens .entry)) (now (text .entry))) (getD (now (table .entry)) (1280 + k) 0) in y ≡ is-rsp (fam-of (token l 0))) ⌝ }
 {

@@ -1,4 +1,4 @@
-//! Listings near the limits of question 1, plausible and damaged ones and shapes that cost most.
+//! Listings near the limits of question 1, plausible and damaged ones and shapes that cost most; and the same shapes with fewer lines.
 
 use super::{damaged, plausible};
 use crate::model::{Token, TokenKind};
@@ -7,16 +7,34 @@ use crate::pseudo::PseudoLine;
 use crate::questions::{MAX_LINES, MAX_TEXT, MAX_TOKENS};
 use crate::random::Random;
 
-const SHAPES: [fn(&mut Random) -> Vec<PseudoLine>; 9] =
-    [long, long_damaged, many_families, deep_nesting, many_gotos, creeping, many_loops, many_goto_loops, nested_loops];
+/// A shape of at most so many lines.
+type Shape = fn(&mut Random, usize) -> Vec<PseudoLine>;
+
+const SHAPES: [Shape; 9] = [long, long_damaged, many_families, deep_nesting, many_gotos, creeping, many_loops, many_goto_loops, nested_loops];
+
+fn shaped(index: u64, r: &mut Random, most: usize) -> Vec<PseudoLine> {
+    let mut lines = SHAPES[(index % SHAPES.len() as u64) as usize](r, most);
+    lines.truncate(most);
+    lines
+}
 
 pub fn listing(index: u64, r: &mut Random) -> Vec<PseudoLine> {
-    let mut lines = SHAPES[(index % SHAPES.len() as u64) as usize](r);
-    lines.truncate(MAX_LINES);
+    let mut lines = shaped(index, r, MAX_LINES);
     if r.chance(60) {
         fill(r, &mut lines);
     }
     lines
+}
+
+/// As many lines as the checker computes definitions of.
+pub fn scaled(index: u64, r: &mut Random) -> Vec<PseudoLine> {
+    let most = r.between(64, 96);
+    shaped(index, r, most)
+}
+
+/// So many of the most lines as `part` is of 1,024.
+fn share(most: usize, part: usize) -> usize {
+    most * part / MAX_LINES
 }
 
 /// Widens calls until the listing is at the limits of tokens and bytes, or just below.
@@ -38,13 +56,13 @@ fn fill(r: &mut Random, lines: &mut [PseudoLine]) {
     }
 }
 
-fn long(r: &mut Random) -> Vec<PseudoLine> {
-    let room = r.between(900, 1_000);
+fn long(r: &mut Random, most: usize) -> Vec<PseudoLine> {
+    let room = r.between(share(most, 900), share(most, 1_000));
     plausible::sized(r, room)
 }
 
-fn long_damaged(r: &mut Random) -> Vec<PseudoLine> {
-    let mut lines = long(r);
+fn long_damaged(r: &mut Random, most: usize) -> Vec<PseudoLine> {
+    let mut lines = long(r, most);
     for _ in 0..r.between(1, 40) {
         damaged::damage(r, &mut lines);
     }
@@ -52,25 +70,25 @@ fn long_damaged(r: &mut Random) -> Vec<PseudoLine> {
 }
 
 /// Lines of a body within `int f()`, `{` and `}`.
-fn function(body: impl Iterator<Item = PseudoLine>) -> Vec<PseudoLine> {
+fn function(most: usize, body: impl Iterator<Item = PseudoLine>) -> Vec<PseudoLine> {
     let mut lines = vec![line(0, "int f()"), line(0, "{")];
-    lines.extend(body.take(MAX_LINES - 3));
+    lines.extend(body.take(most - 3));
     lines.push(line(0, "}"));
     lines
 }
 
 /// Hundreds of families, each defined and read.
-fn many_families(r: &mut Random) -> Vec<PseudoLine> {
-    let families = r.between(100, 510);
-    function((0..MAX_LINES).map(|i| {
+fn many_families(r: &mut Random, most: usize) -> Vec<PseudoLine> {
+    let families = r.between(share(most, 100), share(most, 510));
+    function(most, (0..most).map(|i| {
         let k = (i / 2) % families;
         if i % 2 == 0 { line(1, &format!("r{k} = {i};")) } else { line(1, &format!("g(r{});", r.below(families))) }
     }))
 }
 
 /// Loops within loops, each with a break or continue, then all closed.
-fn deep_nesting(r: &mut Random) -> Vec<PseudoLine> {
-    let depth = r.between(200, 250);
+fn deep_nesting(r: &mut Random, most: usize) -> Vec<PseudoLine> {
+    let depth = r.between(share(most, 200), share(most, 250));
     let opens = (0..depth).flat_map(|d| {
         let open = ["while (rax) {", "do {", "switch (rbx) {", "if (rcx) {"][d % 4];
         let inner = ["rax = 1;", "if (rax) break;", "g(rax);", "continue;"];
@@ -78,13 +96,13 @@ fn deep_nesting(r: &mut Random) -> Vec<PseudoLine> {
     });
     let opens: Vec<PseudoLine> = opens.collect();
     let closes = (0..depth).rev().map(|d| line(d as u8 + 1, "}"));
-    function(opens.into_iter().chain(closes))
+    function(most, opens.into_iter().chain(closes))
 }
 
 /// Hundreds of labels and gotos, forward and back.
-fn many_gotos(r: &mut Random) -> Vec<PseudoLine> {
-    let labels = MAX_LINES / 3 - 1;
-    function((0..3 * labels).map(|i| match i % 3 {
+fn many_gotos(r: &mut Random, most: usize) -> Vec<PseudoLine> {
+    let labels = most / 3 - 1;
+    function(most, (0..3 * labels).map(|i| match i % 3 {
         0 => line(0, &format!("L{}:", i / 3)),
         1 => line(1, &format!("if (rcx) goto L{};", r.below(labels))),
         _ if r.chance(30) => line(1, &format!("rax = {i};")),
@@ -93,20 +111,36 @@ fn many_gotos(r: &mut Random) -> Vec<PseudoLine> {
 }
 
 /// Values that creep back one line a sweep: each line closes a loop that the line before opens.
-fn creeping(r: &mut Random) -> Vec<PseudoLine> {
-    let families = r.between(1, 12);
-    let loops = r.between(800, MAX_LINES - 10 - families);
+fn creeping(r: &mut Random, most: usize) -> Vec<PseudoLine> {
+    let families = r.between(1, 12.min(most / 16));
+    let loops = r.between(share(most, 800), most - 10 - families);
     let reads = r.chance(70);
     let turn = |k: usize| if reads { format!("}} while (r{}) {{", k % (families + 1)) } else { "} while (1) {".to_string() };
     let turns = (0..loops).map(|k| line(1, &turn(k)));
     let definitions = (0..families).map(|k| line(2, &format!("r{k} = {k};")));
     let end = [line(2, "g(r0, r1);"), line(1, "}"), line(1, "return r0;")];
-    function(std::iter::once(line(1, "while (1) {")).chain(turns).chain(definitions).chain(end))
+    function(most, std::iter::once(line(1, "while (1) {")).chain(turns).chain(definitions).chain(end))
+}
+
+/// As many lines as there may be, each closing a loop that the line before opens; the last of them define a family each, and each value
+/// creeps back to line 1, one line a sweep.
+pub fn creeping_back(families: usize) -> Vec<PseudoLine> {
+    let token = |t: &str, k| Token { t: t.to_string(), k };
+    let turn = || [token("}", TokenKind::Punct), token("while", TokenKind::Keyword), token("{", TokenKind::Punct)];
+    let body = (1..MAX_LINES - 1).map(|i| {
+        let mut tokens = turn().to_vec();
+        if i + families >= MAX_LINES - 1 {
+            tokens.splice(0..0, [token(&format!("r{i}"), TokenKind::Register), token(" = ", TokenKind::Punct)]);
+            tokens.push(token(";", TokenKind::Punct));
+        }
+        PseudoLine { address: None, indent: 1, tokens }
+    });
+    std::iter::once(line(0, "while (1) {")).chain(body).chain([line(0, "}")]).collect()
 }
 
 /// Guarded do-while loops one after another, most with initialiser and step.
-fn many_loops(r: &mut Random) -> Vec<PseudoLine> {
-    function((0..MAX_LINES / 7 - 1).flat_map(|_| {
+fn many_loops(r: &mut Random, most: usize) -> Vec<PseudoLine> {
+    function(most, (0..most / 7 - 1).flat_map(|_| {
         let v = r.pick(&["rcx", "rax", "r8", "var_8"]);
         let init = line(1, &format!("{} = 0;", if r.chance(80) { v } else { "rbx" }));
         let test = format!("{v} < {}", r.below(9));
@@ -117,8 +151,8 @@ fn many_loops(r: &mut Random) -> Vec<PseudoLine> {
 }
 
 /// Goto loops one after another; the number of lines lets no pass be quadratic unnoticed.
-fn many_goto_loops(r: &mut Random) -> Vec<PseudoLine> {
-    function((0..MAX_LINES / 7 - 1).flat_map(|k| {
+fn many_goto_loops(r: &mut Random, most: usize) -> Vec<PseudoLine> {
+    function(most, (0..most / 7 - 1).flat_map(|k| {
         let v = r.pick(&["rcx", "rax", "r8"]);
         let test = line(1, &format!("if ({v} >= {}) goto E{k};", r.below(9)));
         let (head, exit) = (line(0, &format!("L{k}:")), line(0, &format!("E{k}:")));
@@ -128,8 +162,8 @@ fn many_goto_loops(r: &mut Random) -> Vec<PseudoLine> {
 }
 
 /// Guarded loops within each other, up to the largest indents.
-fn nested_loops(r: &mut Random) -> Vec<PseudoLine> {
-    let depth = r.between(100, 126);
+fn nested_loops(r: &mut Random, most: usize) -> Vec<PseudoLine> {
+    let depth = r.between(share(most, 100), share(most, 126));
     let opens = (0..depth).flat_map(|k| {
         let d = 2 * k as u8 + 1;
         [line(d, &format!("r{k} = 0;")), line(d, &format!("if (r{k} < 4) {{")), line(d + 1, "do {"), line(d + 2, "g();")]
@@ -138,5 +172,5 @@ fn nested_loops(r: &mut Random) -> Vec<PseudoLine> {
         let d = 2 * k as u8 + 1;
         [line(d + 2, &format!("r{k}++;")), line(d + 1, &format!("}} while (r{k} < 4);")), line(d, "}")]
     });
-    function(opens.chain(closes))
+    function(most, opens.chain(closes))
 }

@@ -1,0 +1,35 @@
+/* The proved calls for C. Link libjavrenzu_calls.a (`rt staticlib javrenzu_calls`).
+ *
+ * A listing is lent as columns:
+ *   lines   one word a line    token_end * 512 + has_address * 256 + indent
+ *   tokens  one word a token   text_end * 256 + kind (0 text, 1 register, 2 number, 3 keyword, 4 symbol, 5 address, 6 punct, 7 prefix)
+ *   text    the tokens' UTF-8, end to end
+ * A line's tokens run from the end of the line before (0 for the first) to its own end; a token's bytes likewise.
+ *
+ * A call answers 0, or the number of the first question that it refuses by:
+ *   1  more than 1,024 lines, 16,384 tokens or 262,144 bytes of text
+ *   2  the ends fall, do not cover the column below, or a kind is above 7
+ *   3  a token's text is no UTF-8
+ *   4  an output is too short
+ *   5  the working space is too short
+ *   7  fewer than two lines
+ *   8  a brace does not match
+ *   9  a goto leads to no label
+ * 1 to 5 write nothing. 7 to 9 leave all lent output and working memory zero. After 0 the outputs are filled in order, what is
+ * beyond the results is zero, and the working space is zero. No slice may overlap another. */
+#ifndef JAVRENZU_H
+#define JAVRENZU_H
+
+#include <stddef.h>
+#include <stdint.h>
+
+#define JAVRENZU_NO_FAMILY UINT32_MAX
+/* The words of working space for n lines. */
+#define JAVRENZU_WORKING_SPACE(n) (4 * (size_t)(n) * (((size_t)(n) + 63) / 64) + 8 * (size_t)(n) + 64)
+
+/* The web call: numbers and marks take one entry a token, the web number (JAVRENZU_NO_FAMILY where the token has no register family)
+ * and 1 where it is a definition. *sweeps is the total number of sweeps, 0 on refusal. */
+size_t javrenzu_webs(const uint32_t *lines, size_t lines_len, const uint32_t *tokens, size_t tokens_len, const uint8_t *text, size_t text_len,
+                     uint32_t *numbers, size_t numbers_len, uint8_t *marks, size_t marks_len, uint64_t *space, size_t space_len, size_t *sweeps);
+
+#endif

@@ -1,0 +1,47 @@
+//! The proved calls. A listing is lent as columns of words; what a call writes, and when, is in include/javrenzu.h.
+
+/// The number of the question that a listing, an output or a working space was refused by, 1 to 9.
+pub type Refusal = u8;
+
+/// A listing in memory.
+#[derive(Debug, Clone, Copy)]
+pub struct Listing<'a> {
+    /// One word a line: `token_end * 512 + has_address * 256 + indent`.
+    pub lines: &'a [u32],
+    /// One word a token: `text_end * 256 + kind`.
+    pub tokens: &'a [u32],
+    /// The tokens' UTF-8, end to end.
+    pub text: &'a [u8],
+}
+
+/// The number of a token that has no family.
+pub const NO_FAMILY: u32 = u32::MAX;
+
+/// The words of working space that the web call asks for a listing of n lines.
+pub const fn working_space(n: usize) -> usize {
+    4 * n * n.div_ceil(64) + 8 * n + 64
+}
+
+mod library {
+    extern "C" {
+        #[allow(clippy::too_many_arguments)] // a slice is a pointer and a length
+        pub fn javrenzu_webs(
+            lines: *const u32, lines_len: usize, tokens: *const u32, tokens_len: usize, text: *const u8, text_len: usize,
+            numbers: *mut u32, numbers_len: usize, marks: *mut u8, marks_len: usize, space: *mut u64, space_len: usize, sweeps: *mut usize,
+        ) -> usize;
+    }
+}
+
+/// Web numbers and definition marks, one of each a token; answers the total of sweeps.
+pub fn webs(listing: Listing, numbers: &mut [u32], marks: &mut [u8], space: &mut [u64]) -> Result<usize, Refusal> {
+    let Listing { lines, tokens, text } = listing;
+    let mut sweeps = 0;
+    // SAFETY: each pointer goes with the length of its slice, `sweeps` is a word of its own, and the library is proved to stay within them.
+    let refusal = unsafe {
+        library::javrenzu_webs(
+            lines.as_ptr(), lines.len(), tokens.as_ptr(), tokens.len(), text.as_ptr(), text.len(),
+            numbers.as_mut_ptr(), numbers.len(), marks.as_mut_ptr(), marks.len(), space.as_mut_ptr(), space.len(), &mut sweeps,
+        )
+    };
+    if refusal == 0 { Ok(sweeps) } else { Err(refusal as Refusal) }
+}

@@ -1,0 +1,4 @@
+pub mod Asking
+pub mod Written
+pub mod Budget
+pub mod Demand

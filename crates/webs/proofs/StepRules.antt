@@ -1,0 +1,190 @@
+-- Rules for `steps`.
+--   reads-rsp, reads-other                  `family_reads`
+--   zeros-by, writes-by                     `write_zeros` and `write_family`
+--   known-waits, reads-below                `family_free`: the tokens wait, the reading lines are lines
+--   free-done, free-over                    its answers
+--   taken-done                              a family whose address is taken
+--   scratch-still                           the lent words are as many as before
+-- Assumes nothing.
+use Prim.Native.Nat.{ℕ, _+_, _-_, _<_, _≤_}
+use mathlib.Core.Path.{_≡_, refl, sym, ap, _∙_}
+use mathlib.Core.Logic.{inl, inr}
+use mathlib.Core.Bool.{Bool, true, false, cond, _&&_}
+use mathlib.Core.List.{List, [], _∷_}
+use native.Mathlib.Omega.{arith}
+use lib.Dec.{eqb}
+use borrow.Author.Tests.{le-leb}
+use lib.ListN.{length, getD, take, length-map}
+use Rattle.definitions.specs.Lists.{any, filter, range, up-to, _==_}
+use Rattle.definitions.specs.Model.{Line, token, line}
+use Rattle.definitions.specs.Family.{fam-of, names}
+use Rattle.definitions.specs.Columns.{listing}
+use Rattle.definitions.specs.Recover.{read-lines, read-tokens, address-taken, defined-families, key}
+use Rattle.definitions.specs.Demand3.{defines-at}
+use Rattle.definitions.specs.Answers.{no-family}
+use Rattle.text.specs.Zeroed.{zeroed}
+use Rattle.family.specs.Register.{is-rsp}
+use Rattle.theory.proofs.ListLaws.{length-range, replicate-default}
+use Rattle.theory.proofs.FamilyWebs.{read-line-inside}
+use Rattle.bits.specs.Edges.{edges, preds-of}
+use Rattle.sweep.proofs.ListFacts.{getD-member}
+use Rattle.sweep.specs.Solved.{answer}
+use Rattle.sweep.specs.declared.Sweeps.{Sweeps}
+use Rattle.sweep.specs.declared.Sweeps.the-variants.{Done, OverBudget}
+use Rattle.model.proofs.Decode.{length-listing}
+use Rattle.recover.specs.Families.{Table, Defs}
+use Rattle.recover.specs.Tokens.{family-name, Waits}
+use Rattle.recover.specs.Writing.{lines-written, lines-marked}
+use Rattle.recover.proofs.Finding.{unique-families, place-here}
+use Rattle.recover.proofs.Numbered.{place-cases}
+use Rattle.recover.proofs.Taken.{family-read}
+use Rattle.webs.specs.Progress.{webs-over, number-after, family-sweeps}
+use Rattle.webs.specs.Lines.{Below, LineNumbers, FamilyLines, Scratch}
+use Rattle.webs.specs.Steps.{Known, State, Writes, FamilyDone}
+use Rattle.webs.proofs.Places.{per-token-length}
+use Rattle.webs.proofs.Progress.{key-none}
+use Rattle.webs.proofs.LineRules.{answer-over}
+use Rattle.webs.proofs.Family.{family-count, family-keys}
+use Rattle.webs.proofs.Next.{waits-by, numbers-next, marks-next, marks-taken}
+
+-- `family_reads`
+
+filter-none : (xs : List ℕ) → filter (λ x. false) xs ≡ []
+unfolding filter
+filter-none [] = refl
+filter-none (x ∷ xs) = filter-none xs
+
+module _ (L : List Line) (count k : ℕ) (t : List ℕ) (T : Table L count t) (h : k < count) (y : Bool) (e : y ≡ is-rsp (fam-of (token (line L (getD t (1280 + k) 0)) 0))) where
+  pub reads-rsp : y ≡ true → (s : List ℕ) → take 0 s ≡ read-lines L (family-name L k)
+  reads-rsp q s = sym (rw (family-read L count k t T h y e, q) (filter-none (range 1 (length L - 1))))
+
+  pub reads-other : y ≡ false → (s : List ℕ) (m : ℕ) → take m s ≡ filter (λ i. any (names (family-name L k)) (read-tokens (line L i))) (range 1 (length L - 1)) → take m s ≡ read-lines L (family-name L k)
+  reads-other q s m z = z ∙ sym (rw (family-read L count k t T h y e, q))
+
+-- `write_zeros` and `write_family`
+
+pub zeros-by : (l t ds own read zo zr ns₀ ns : List ℕ) (k w n : ℕ) → w ≡ k → n ≡ length l → zo ≡ zeroed 0 own → zr ≡ zeroed 0 read → ns ≡ lines-written l t w ds zo zr ns₀ (up-to n)
+    → ns ≡ lines-written l t k ds (zeroed 0 own) (zeroed 0 read) ns₀ (up-to (length l))
+zeros-by l t ds own read zo zr ns₀ ns k w n e z a b q = rw (e, z, a, b) at q
+
+pub writes-by : (l t ds own read ns₀ ns ms₀ ms : List ℕ) (k w : ℕ) → w ≡ k → ns ≡ lines-written l t w ds own read ns₀ (up-to (length l)) → ms ≡ lines-marked l w ds ms₀ (up-to (length l))
+    → Writes l t k ds own read ns₀ ns ms₀ ms
+writes-by l t ds own read ns₀ ns ms₀ ms k w e q z = record { numbers = rw e at q; marks = rw e at z }
+
+-- What is known of family k
+
+-- one predecessor list for each line
+pub preds-size : (l t x : List ℕ) (r : ℕ) (space : List ℕ) → length (preds-of (length l) r space) ≡ length (listing l t x)
+unfolding preds-of
+preds-size l t x r space = length-map (up-to (length l)) (λ j. filter (λ i. edges (length l) r space i j) (up-to (length l))) ∙ length-range 0 (length l) ∙ sym (length-listing l t x)
+
+module _ (l t x table ds : List ℕ) (count r k : ℕ) (K : Known l t x table ds count r) (h : k < count) (space₀ ns₀ ms₀ : List ℕ) (S : State l t x r k space₀ ns₀ ms₀) where
+  abbrev L : List Line
+  L = listing l t x
+
+  abbrev f : List ℕ
+  f = family-name L k
+
+  abbrev preds : List (List ℕ)
+  preds = preds-of (length l) r space₀
+
+  inside : k < length (defined-families L)
+  inside = omega (arith, K .finds .all)
+
+  low : k < 1024
+  low = omega (arith, K .finds .few)
+
+  pos : 0 < length L
+  pos = omega (arith, length-listing l t x, K .some)
+
+  few : length L ≤ 1024
+  few = omega (arith, length-listing l t x, K .few)
+
+  size : length preds ≡ length L
+  size = preds-size l t x r space₀
+
+  has : any (λ g. g == f) (defined-families L) ≡ true
+  has = elim (place-cases (defined-families L) f) [
+    | inl p ↦ absurd (omega (arith, p .0, place-here (defined-families L) f k (unique-families L) inside refl))
+    | inr p ↦ p .4
+  ]
+
+  pub known-waits : Waits l L ns₀ k
+  known-waits = waits-by l t x (K .ok) preds size pos few k inside low ns₀ (S .numbers)
+
+  pub known-length : length ns₀ ≡ length t
+  known-length = ap length (S .numbers) ∙ per-token-length l t x (K .ok) no-family (number-after L (webs-over L preds) k)
+
+  pub reads-below : (is : List ℕ) → is ≡ read-lines L f → Below (length l) is
+  reads-below is e = record {
+    at = λ j b. omega (arith, length-listing l t x, read-line-inside L f (getD is j 0) (rw e (getD-member (read-lines L f) j 0 (rw e at b))) .1);
+  }
+
+  -- `family_free`
+
+  module _ (free : address-taken L f ≡ false) (budget : ℕ) (space is own read : List ℕ) (a : Sweeps) (reads : is ≡ read-lines L f)
+      (F : FamilyLines (length l) r k ds budget space₀ space is own read a) where
+    sweeps-are : a ≡ answer budget (family-sweeps L preds f)
+    sweeps-are = F .solved .answers ∙ ap (answer budget) (family-count L ds (K .defs) k inside free (length l) r budget space₀ space is own read a (sym (length-listing l t x)) F)
+
+    numbers-at : family-sweeps L preds f ≤ budget → LineNumbers (length l) r (F .w) (F .nums) space₀ space is own read
+    numbers-at q = F .solved .done (rw (family-count L ds (K .defs) k inside free (length l) r budget space₀ space is own read a (sym (length-listing l t x)) F) q)
+
+    pub free-done : (s : ℕ) (ns ms : List ℕ) → a ≡ Done s → Writes l t k ds own read ns₀ ns ms₀ ms → FamilyDone l t x r k budget space₀ space ns ms (Done s)
+    free-done s ns ms e W = record {
+      answers = sym e ∙ sweeps-are;
+      preds = λ q. numbers-at q .preds;
+      state = λ q. record {
+        agree = numbers-at q .swept .agree;
+        numbers = rw (numbers-at q .preds)
+            (numbers-next l t x (K .ok) preds size pos few k inside low ds own read (K .defs)
+            (family-keys L ds (K .defs) k inside free (length l) r budget space₀ space is own read a (sym (length-listing l t x)) F pos reads has (numbers-at q))
+            ns₀ ns (S .numbers) (W .numbers));
+        marks = rw (numbers-at q .preds) (marks-next l t x (K .ok) preds size pos few k inside low ds (K .defs) has free ms₀ ms (S .marks) (W .marks));
+      };
+    }
+
+    pub free-over : (ns ms : List ℕ) → a ≡ OverBudget → FamilyDone l t x r k budget space₀ space ns ms OverBudget
+    free-over ns ms e = record {
+      answers = sym e ∙ sweeps-are;
+      preds = λ q. absurd (answer-over _ budget (sym sweeps-are ∙ e) q);
+      state = λ q. absurd (answer-over _ budget (sym sweeps-are ∙ e) q);
+    }
+
+  -- a family whose address is taken
+
+  pub taken-done : address-taken L f ≡ true → (budget : ℕ) (own read ns : List ℕ) → ns ≡ lines-written l t k ds (zeroed 0 own) (zeroed 0 read) ns₀ (up-to (length l))
+      → FamilyDone l t x r k budget space₀ space₀ ns ms₀ (Done 0)
+  unfolding family-sweeps
+  taken-done taken budget own read ns e = record {
+    answers = rw (taken, le-leb 0 budget (omega arith));
+    preds = λ q. refl;
+    state = λ q. record {
+      agree = S .agree;
+      numbers = numbers-next l t x (K .ok) preds size pos few k inside low ds (zeroed 0 own) (zeroed 0 read) (K .defs) zeros ns₀ ns (S .numbers) e;
+      marks = marks-taken l t x (K .ok) preds size pos few k inside low taken ms₀ (S .marks);
+    };
+  }
+    where
+      both : (b : Bool) → cond {A = ℕ} b 0 0 ≡ 0
+      both true = refl
+      both false = refl
+
+      zeros : (i j : ℕ) → cond (defines-at L f i && eqb j 0) (getD (zeroed 0 own) i 0) (getD (zeroed 0 read) i 0) ≡ key (webs-over L preds) f i j
+      zeros i j = rw (replicate-default {A = ℕ} (length own - 0) i 0, replicate-default {A = ℕ} (length read - 0) i 0) (both (defines-at L f i && eqb j 0)) ∙ sym (key-none L preds f (inr taken) i j)
+
+-- the lent words are as many as before
+pub scratch-still : (n : ℕ) (nums rep rank set seen own read nums′ rep′ rank′ set′ seen′ own′ read′ : List ℕ) → Scratch n nums rep rank set seen own read
+    → length nums′ ≡ length nums → length rep′ ≡ length rep → length rank′ ≡ length rank → length set′ ≡ length set → length seen′ ≡ length seen
+    → length own′ ≡ length own → length read′ ≡ length read → Scratch n nums′ rep′ rank′ set′ seen′ own′ read′
+scratch-still n nums rep rank set seen own read nums′ rep′ rank′ set′ seen′ own′ read′ F a b c d e f g = record {
+  nums-room = rw a (F .nums-room);
+  rep-room = rw b (F .rep-room);
+  rank-room = rw c (F .rank-room);
+  set-room = rw d (F .set-room);
+  seen-room = rw e (F .seen-room);
+  own-room = f ∙ F .own-room;
+  read-room = g ∙ F .read-room;
+}
+
+pub ruleset step-rules = (reads-rsp, reads-other, zeros-by, writes-by)

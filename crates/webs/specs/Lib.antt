@@ -1,0 +1,3 @@
+pub mod Progress
+pub mod Lines
+pub mod Steps
