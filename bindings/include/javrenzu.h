@@ -32,4 +32,15 @@
 size_t javrenzu_webs(const uint32_t *lines, size_t lines_len, const uint32_t *tokens, size_t tokens_len, const uint8_t *text, size_t text_len,
                      uint32_t *numbers, size_t numbers_len, uint8_t *marks, size_t marks_len, uint64_t *space, size_t space_len, size_t *sweeps);
 
+/* The split call: the same outputs, the count of split points of the token's family up to its line, and 1 where the line is one. It needs no
+ * working space and asks questions 1 to 4. */
+size_t javrenzu_splits(const uint32_t *lines, size_t lines_len, const uint32_t *tokens, size_t tokens_len, const uint8_t *text, size_t text_len,
+                       uint32_t *numbers, size_t numbers_len, uint8_t *marks, size_t marks_len);
+
+/* The chooser: webs, or splits where webs would be refused 7, 8 or 9; it asks questions 1 to 5. *choice is 1 for webs, 2 for splits, 0 on
+ * refusal; *sweeps is the total number of sweeps of webs, else 0. */
+size_t javrenzu_choose(const uint32_t *lines, size_t lines_len, const uint32_t *tokens, size_t tokens_len, const uint8_t *text, size_t text_len,
+                       uint32_t *numbers, size_t numbers_len, uint8_t *marks, size_t marks_len, uint64_t *space, size_t space_len,
+                       size_t *choice, size_t *sweeps);
+
 #endif

@@ -29,7 +29,23 @@ mod library {
             lines: *const u32, lines_len: usize, tokens: *const u32, tokens_len: usize, text: *const u8, text_len: usize,
             numbers: *mut u32, numbers_len: usize, marks: *mut u8, marks_len: usize, space: *mut u64, space_len: usize, sweeps: *mut usize,
         ) -> usize;
+        #[allow(clippy::too_many_arguments)]
+        pub fn javrenzu_splits(
+            lines: *const u32, lines_len: usize, tokens: *const u32, tokens_len: usize, text: *const u8, text_len: usize,
+            numbers: *mut u32, numbers_len: usize, marks: *mut u8, marks_len: usize,
+        ) -> usize;
+        #[allow(clippy::too_many_arguments)]
+        pub fn javrenzu_choose(
+            lines: *const u32, lines_len: usize, tokens: *const u32, tokens_len: usize, text: *const u8, text_len: usize,
+            numbers: *mut u32, numbers_len: usize, marks: *mut u8, marks_len: usize, space: *mut u64, space_len: usize,
+            choice: *mut usize, sweeps: *mut usize,
+        ) -> usize;
     }
+}
+
+/// What a call answers whose refusal is that number, 0 for none.
+fn answered<T>(refusal: usize, value: T) -> Result<T, Refusal> {
+    if refusal == 0 { Ok(value) } else { Err(refusal as Refusal) }
 }
 
 /// Web numbers and definition marks, one of each a token; answers the total of sweeps.
@@ -43,5 +59,40 @@ pub fn webs(listing: Listing, numbers: &mut [u32], marks: &mut [u8], space: &mut
             numbers.as_mut_ptr(), numbers.len(), marks.as_mut_ptr(), marks.len(), space.as_mut_ptr(), space.len(), &mut sweeps,
         )
     };
-    if refusal == 0 { Ok(sweeps) } else { Err(refusal as Refusal) }
+    answered(refusal, sweeps)
+}
+
+/// Split numbers and marks, one of each a token.
+pub fn splits(listing: Listing, numbers: &mut [u32], marks: &mut [u8]) -> Result<(), Refusal> {
+    let Listing { lines, tokens, text } = listing;
+    // SAFETY: each pointer goes with the length of its slice, and the library is proved to stay within them.
+    let refusal = unsafe {
+        library::javrenzu_splits(
+            lines.as_ptr(), lines.len(), tokens.as_ptr(), tokens.len(), text.as_ptr(), text.len(),
+            numbers.as_mut_ptr(), numbers.len(), marks.as_mut_ptr(), marks.len(),
+        )
+    };
+    answered(refusal, ())
+}
+
+/// What the chooser chose: webs, with the total of sweeps, or splits.
+#[derive(Debug, Clone, Copy, PartialEq, Eq)]
+pub enum Chosen {
+    Webs(usize),
+    Splits,
+}
+
+/// Webs, or splits where webs refuse 7, 8 or 9.
+pub fn choose(listing: Listing, numbers: &mut [u32], marks: &mut [u8], space: &mut [u64]) -> Result<Chosen, Refusal> {
+    let Listing { lines, tokens, text } = listing;
+    let (mut choice, mut sweeps) = (0, 0);
+    // SAFETY: each pointer goes with the length of its slice, `choice` and `sweeps` are words of their own, and the library is proved to stay
+    // within them.
+    let refusal = unsafe {
+        library::javrenzu_choose(
+            lines.as_ptr(), lines.len(), tokens.as_ptr(), tokens.len(), text.as_ptr(), text.len(),
+            numbers.as_mut_ptr(), numbers.len(), marks.as_mut_ptr(), marks.len(), space.as_mut_ptr(), space.len(), &mut choice, &mut sweeps,
+        )
+    };
+    answered(refusal, if choice == 1 { Chosen::Webs(sweeps) } else { Chosen::Splits })
 }

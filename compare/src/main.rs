@@ -1,11 +1,11 @@
 //! `compare WORD DIR`: every `*.json` listing in DIR through the proved library and through the original Rust.
 //!
 //! Prints each difference with the file's name, last `N listings, M differences`; exit status 0 only for 0 differences.
-//! WORD: `leaves`, the reading layer function by function; `webs`, the web call.
+//! WORD: `leaves`, the reading layer function by function; `webs`, `splits` and `choose`, those calls with every lent word.
 
 mod leaves;
 mod lent;
-mod webs;
+mod numbers;
 
 use std::error::Error;
 use std::fs;
@@ -20,8 +20,10 @@ fn main() -> Result<ExitCode, Box<dyn Error>> {
     let [word, dir] = args.as_slice() else { return Err("usage: compare WORD DIR".into()) };
     let differences: fn(&[PseudoLine]) -> Vec<String> = match word.as_str() {
         "leaves" => leaves::differences,
-        "webs" => webs::differences,
-        _ => return Err(format!("{word}: the words are: leaves, webs").into()),
+        "webs" => numbers::webs,
+        "splits" => numbers::splits,
+        "choose" => numbers::choose,
+        _ => return Err(format!("{word}: the words are: leaves, webs, splits, choose").into()),
     };
     let (mut listings, mut lines, mut wrong) = (0, 0, 0);
     for file in json::files(Path::new(dir))? {

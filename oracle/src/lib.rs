@@ -13,6 +13,7 @@
 //! | `notation` | a line from its text, split into tokens as the original prints it |
 //! | `random`, `generate` | listings by kind, seed and index |
 //! | `theorems` | reference answers as theorems about the definitions |
+//! | `vectors` | reference answers as the lines that the program `replay` is to print |
 
 pub mod answers;
 pub mod columns;
@@ -30,5 +31,6 @@ pub mod questions;
 pub mod random;
 mod sweeps;
 pub mod theorems;
+pub mod vectors;
 
 pub use sweeps::sweeps;

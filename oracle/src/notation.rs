@@ -13,6 +13,16 @@ const KEYWORDS: [&str; 17] = [
     "__int64", "__asm",
 ];
 
+/// The listings of a file, each with its name: a row `# NAME: what it shows` starts one, and the rows up to the next such row are its lines.
+pub fn listings(file: &str) -> Vec<(String, Vec<PseudoLine>)> {
+    let named = |part: &str| {
+        let (title, rows) = part.split_once('\n').unwrap_or((part, ""));
+        let name = title.split(':').next().expect("a split has a first part");
+        (name.to_string(), listing(rows))
+    };
+    format!("\n{file}").split("\n# ").skip(1).map(named).collect()
+}
+
 /// A listing of lines `INDENT TEXT`, one to a row; rows may be indented, empty rows are passed over.
 pub fn listing(rows: &str) -> Vec<PseudoLine> {
     let row = |r: &str| {

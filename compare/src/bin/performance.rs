@@ -66,7 +66,7 @@ fn webs_listings() -> Vec<(&'static str, Vec<PseudoLine>)> {
     vec![
         ("plausible", plausible(3, 20)),
         ("plausible", plausible(1, 200)),
-        ("plausible", plausible(1, 1_000)),
+        ("plausible", plausible(2, 800)),
         ("plausible, widened", full(0)),
         ("hundreds of families", full(2)),
         ("deep nesting with breaks", full(3)),
@@ -94,8 +94,35 @@ fn webs() {
     }
 }
 
+/// What the split call is timed on.
+fn splits_listings() -> Vec<(&'static str, Vec<PseudoLine>)> {
+    vec![
+        ("plausible", plausible(3, 20)),
+        ("plausible", plausible(1, 200)),
+        ("plausible", plausible(2, 800)),
+        ("hundreds of gotos, most definitions crossed", listing(Kind::Full, 1, 4)),
+        ("hundreds of families", listing(Kind::Full, 1, 2)),
+    ]
+}
+
+fn splits() {
+    println!("\n## The split call\n\nThe library's call with its questions, beside the original's `Seg` with the key and the mark of every token.\n");
+    println!("| listing | lines | tokens | bytes | library, µs | original, µs | times faster |");
+    println!("|---|---|---|---|---|---|---|");
+    for (name, lines) in splits_listings() {
+        let c = encode(&lines);
+        let (mut numbers, mut marks) = (vec![0; c.tokens.len()], vec![0; c.tokens.len()]);
+        let listing = Listing { lines: &c.lines, tokens: &c.tokens, text: &c.text };
+        let own = nanoseconds(|| _ = black_box(javrenzu::splits(listing, &mut numbers, &mut marks)));
+        let rust = nanoseconds(|| _ = black_box(answers::splits(&lines)));
+        let sizes = format!("{} | {} | {}", c.lines.len(), c.tokens.len(), c.text.len());
+        println!("| {name} | {sizes} | {:.1} | {:.1} | {:.1} |", own / 1e3, rust / 1e3, rust / own);
+    }
+}
+
 fn main() {
     println!("# Performance\n\nMade by `tools/performance`: the proved library beside the original Rust, one run, both optimised.\n");
     questions();
     webs();
+    splits();
 }

@@ -1,15 +1,23 @@
--- The web call's equation, as it crosses to C and Rust.
---   accepted-crossed, refused-crossed    the number of the refusal, the sweeps and the lent words
+-- The calls' equations, as they cross to C and Rust: the number of the refusal, the other values, the lent words.
+--   accepted-crossed, refused-crossed    the web call
+--   written-crossed, unwritten-crossed   the split call
+--   webs-crossed, splits-crossed, unchosen-crossed    the chooser
 -- Assumes nothing.
 use Prim.Native.Nat.{ℕ}
 use mathlib.Core.Path.{_≡_, refl, ap}
 use mathlib.Core.List.{List}
 use Rattle.definitions.specs.Answers.{Answer}
-use Rattle.definitions.specs.Calls.{Lent, Called}
+use Rattle.definitions.specs.Calls.{Lent, Called, Chosen}
 use Rattle.pseudo_ssa.specs.declared.Webs.{Webs}
 use Rattle.pseudo_ssa.specs.declared.Webs.the-variants.{Accepted, Refused}
 use Rattle.pseudo_ssa.specs.Answers.{answer-of, lent, called}
-use Rattle.javrenzu_calls.specs.Crossing.{refusal-number, sweeps-of}
+use Rattle.splits.specs.declared.call.Splits.{Splits}
+use Rattle.splits.specs.declared.call.Splits.the-variants.{Written, Refused as Unwritten}
+use Rattle.splits.specs.Call.{answer-of as split-answer-of, lent as split-lent, called as split-called}
+use Rattle.choose.specs.declared.Choice.{Choice}
+use Rattle.choose.specs.declared.Choice.the-variants.{ByWebs, BySplits, Refused as Unchosen}
+use Rattle.choose.specs.Choices.{answer-of as choice-answer-of, called as choice-called}
+use Rattle.javrenzu_calls.specs.Crossing.{refusal-number, sweeps-of, choice-of, chosen-sweeps}
 
 module _ (W : Called ℕ) (a : Webs) (ns ms ws : List ℕ) (equation : called a ns ms ws ≡ W) where
   answer : answer-of a ≡ W .answer
@@ -25,3 +33,40 @@ module _ (W : Called ℕ) (a : Webs) (ns ms ws : List ℕ) (equation : called a 
   pub refused-crossed : (n : ℕ) → a ≡ Refused n → (n ≡ refusal-number (W .answer)) × ((0 ≡ sweeps-of (W .answer)) × (lent ns ms ws ≡ W .lent))
   unfolding refusal-number sweeps-of
   refused-crossed n e = rw (← answer, e) (refl, (refl, words))
+
+module _ (S : Called (Unit {0})) (a : Splits) (ns ms : List ℕ) (equation : split-called a ns ms ≡ S) where
+  split-words : split-lent ns ms ≡ S .lent
+  split-words = ap (λ (c : Called (Unit {0})). c .lent) equation
+
+  split-answer : split-answer-of a ≡ S .answer
+  split-answer = ap (λ (c : Called (Unit {0})). c .answer) equation
+
+  pub written-crossed : a ≡ Written → (0 ≡ refusal-number (S .answer)) × (split-lent ns ms ≡ S .lent)
+  unfolding refusal-number
+  written-crossed e = rw (← split-answer, e) (refl, split-words)
+
+  pub unwritten-crossed : (n : ℕ) → a ≡ Unwritten n → (n ≡ refusal-number (S .answer)) × (split-lent ns ms ≡ S .lent)
+  unfolding refusal-number
+  unwritten-crossed n e = rw (← split-answer, e) (refl, split-words)
+
+module _ (C : Called Chosen) (a : Choice) (ns ms ws : List ℕ) (equation : choice-called a ns ms ws ≡ C) where
+  chosen-words : lent ns ms ws ≡ C .lent
+  chosen-words = ap (λ (c : Called Chosen). c .lent) equation
+
+  chosen-answer : choice-answer-of a ≡ C .answer
+  chosen-answer = ap (λ (c : Called Chosen). c .answer) equation
+
+  abbrev pub Crossed : ℕ → ℕ → ℕ → Type 0
+  Crossed n i s = (n ≡ refusal-number (C .answer)) × ((i ≡ choice-of (C .answer)) × ((s ≡ chosen-sweeps (C .answer)) × (lent ns ms ws ≡ C .lent)))
+
+  pub webs-crossed : (s : ℕ) → a ≡ ByWebs s → Crossed 0 1 s
+  unfolding refusal-number choice-of chosen-sweeps
+  webs-crossed s e = rw (← chosen-answer, e) (refl, (refl, (refl, chosen-words)))
+
+  pub splits-crossed : a ≡ BySplits → Crossed 0 2 0
+  unfolding refusal-number choice-of chosen-sweeps
+  splits-crossed e = rw (← chosen-answer, e) (refl, (refl, (refl, chosen-words)))
+
+  pub unchosen-crossed : (n : ℕ) → a ≡ Unchosen n → Crossed n 0 0
+  unfolding refusal-number choice-of chosen-sweeps
+  unchosen-crossed n e = rw (← chosen-answer, e) (refl, (refl, (refl, chosen-words)))

@@ -1,9 +1,12 @@
 -- Answers as numbers.
 --   refusal-number a    the number of the refusal, 0 where there is none
 --   sweeps-of a         the total of sweeps, 0 on refusal
+--   choice-of a         1 for webs, 2 for splits, 0 on refusal
+--   chosen-sweeps a     the total of sweeps of webs, else 0
 -- Assumes nothing.
 use Prim.Native.Nat.{ℕ}
 use Rattle.definitions.specs.Answers.{Answer, refused, accepted}
+use Rattle.definitions.specs.Calls.{Chosen, by-webs, by-splits}
 
 unfoldable pub refusal-number : {A : Type 0} → Answer A → ℕ
 refusal-number (refused n) = n
@@ -12,3 +15,13 @@ refusal-number (accepted r) = 0
 unfoldable pub sweeps-of : Answer ℕ → ℕ
 sweeps-of (refused n) = 0
 sweeps-of (accepted s) = s
+
+unfoldable pub choice-of : Answer Chosen → ℕ
+choice-of (refused n) = 0
+choice-of (accepted (by-webs s)) = 1
+choice-of (accepted by-splits) = 2
+
+unfoldable pub chosen-sweeps : Answer Chosen → ℕ
+chosen-sweeps (refused n) = 0
+chosen-sweeps (accepted (by-webs s)) = s
+chosen-sweeps (accepted by-splits) = 0

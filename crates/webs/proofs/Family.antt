@@ -3,7 +3,7 @@
 --   family-lines            the lines that `number` numbers are the family's defining lines
 --   line-keys               the numbers of a line's tokens
 -- Assumes nothing.
-use Prim.Native.Nat.{ℕ, zero, suc, _+_, _-_, _*_, _<_, _≤_}
+use Prim.Native.Nat.{ℕ, zero, suc, _+_, _-_, _<_}
 use mathlib.Core.Path.{_≡_, refl, sym, ap, _∙_}
 use mathlib.Core.Bool.{Bool, true, false, cond, _&&_, not}
 use mathlib.Core.List.{List}
@@ -12,7 +12,7 @@ use native.Mathlib.Omega.{arith}
 use lib.Dec.{eqb}
 use borrow.Author.Tests.{ne-eqb}
 use lib.ListN.{length, getD}
-use Rattle.definitions.specs.Lists.{any, filter, range, up-to, member, _==_}
+use Rattle.definitions.specs.Lists.{any, range, up-to, member, _==_}
 use Rattle.definitions.specs.Model.{Line, line}
 use Rattle.definitions.specs.Statements.{defines}
 use Rattle.definitions.specs.Sweeps.{sweeps}
@@ -24,13 +24,13 @@ use Rattle.theory.proofs.FamilyWebs.{def-line-inside}
 use Rattle.bits.specs.Edges.{preds-of}
 use Rattle.sweep.specs.Numbers.{defining-lines, lines-of, Numbered}
 use Rattle.sweep.specs.declared.Sweeps.{Sweeps}
-use Rattle.recover.specs.Families.{place, place-defined, defined-at, Defs}
+use Rattle.recover.specs.Families.{place-defined, defined-at, Defs}
 use Rattle.recover.specs.Tokens.{family-name}
 use Rattle.recover.specs.Reaching.{linked}
 use Rattle.recover.proofs.Lists.{filter-same}
 use Rattle.recover.proofs.FamilyNumbers.{lines-of-family, web-number-is, read-number-is}
 use Rattle.webs.specs.Progress.{webs-over, family-sweeps}
-use Rattle.webs.specs.Lines.{own-number, read-number, LineNumbers, FamilyLines}
+use Rattle.numbering.specs.Lines.{own-number, read-number, LineNumbers, FamilyLines}
 use Rattle.webs.proofs.Progress.{place-is, key-of}
 
 module _ (L : List Line) (ds : List ℕ) (D : Defs L ds) (k : ℕ) (h : k < length (defined-families L)) where

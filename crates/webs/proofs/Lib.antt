@@ -1,7 +1,6 @@
 pub mod Places
 pub mod Progress
 pub mod Written
-pub mod LineRules
 pub mod Family
 pub mod Next
 pub mod StepRules

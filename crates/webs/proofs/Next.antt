@@ -4,9 +4,9 @@
 --   marks-next            the marks, with one family more
 --   marks-taken           a family whose address is taken has no mark
 -- Assumes nothing.
-use Prim.Native.Nat.{ℕ, zero, suc, _+_, _<_, _≤_}
+use Prim.Native.Nat.{ℕ, _+_, _<_, _≤_}
 use mathlib.Core.Path.{_≡_, refl, sym, ap, _∙_, fun-ext}
-use mathlib.Core.Logic.{inl, inr}
+use mathlib.Core.Logic.{inr}
 use mathlib.Core.Bool.{Bool, true, false, cond, _&&_, and-false}
 use mathlib.Core.List.{List}
 use mathlib.Core.Option.{Option, none, some}
@@ -22,11 +22,9 @@ use Rattle.definitions.specs.Questions.{covers}
 use Rattle.definitions.specs.Recover.{Webs, defined-families, address-taken, key, is-def}
 use Rattle.definitions.specs.Demand3.{defines-at}
 use Rattle.definitions.specs.Answers.{no-family, per-token, mark}
-use Rattle.theory.proofs.Bools.{and-split, clash}
 use Rattle.theory.proofs.ListLaws.{==-true, ==-self}
 use Rattle.theory.proofs.Tokens.{token-inside}
 use Rattle.theory.proofs.Lines.{line-defines, defines-first}
-use Rattle.model.specs.Places.{line-start}
 use Rattle.model.proofs.Decode.{length-listing}
 use Rattle.recover.specs.Families.{Defs}
 use Rattle.recover.specs.Tokens.{family-name, Waits}

@@ -9,22 +9,22 @@
 use Prim.Native.Nat.{ℕ, zero, suc, _+_, _-_, _<_, _≤_}
 use mathlib.Core.Path.{_≡_, refl, sym, ap, _∙_, fun-ext}
 use mathlib.Core.Logic.{_⊎_, inl, inr}
-use mathlib.Core.Bool.{Bool, true, false, cond, _&&_, _||_, not, and-false, and-true}
+use mathlib.Core.Bool.{Bool, true, false, cond, _&&_, _||_, not, and-false}
 use mathlib.Core.List.{List, [], _∷_, map}
 use mathlib.Core.Option.{Option, none, some}
 use native.Mathlib.Omega.{arith}
 use native.Mathlib.Numerals.{add-one}
 use lib.Dec.{eqb, leb}
 use borrow.Author.Tests.{eqb-true, eq-eqb, ne-eqb, leb-true, le-leb, lt-leb}
-use lib.ListN.{length, getD, take, drop}
+use lib.ListN.{length, getD}
 use Rattle.definitions.specs.Lists.{any, filter, find, first, range, member, or-else, _==_}
-use Rattle.definitions.specs.Model.{Line, token, line}
+use Rattle.definitions.specs.Model.{Line, line}
 use Rattle.definitions.specs.Reaching.{is-definition}
-use Rattle.definitions.specs.Recover.{Webs, is-def-of, webs-of, webs-for, address-taken, def-lines, read-lines, defined-families, key, is-def, web-number, read-number}
+use Rattle.definitions.specs.Recover.{Webs, is-def-of, webs-of, webs-for, address-taken, def-lines, defined-families, key, is-def, web-number, read-number}
 use Rattle.definitions.specs.Demand3.{defines-at, reads-at}
 use Rattle.definitions.specs.Answers.{mark}
 use Rattle.theory.proofs.Bools.{clash, and-split, same-test, lt-or-ge}
-use Rattle.theory.proofs.ListLaws.{any-filter, member-head, count-all, length-range, filter-passes, ==-true, ==-self}
+use Rattle.theory.proofs.ListLaws.{any-filter, member-head, count-all, length-range, ==-true, ==-self}
 use Rattle.theory.proofs.OneDefinition.{enters}
 use Rattle.theory.proofs.Paths.{reaches-definition, line-definition}
 use Rattle.theory.proofs.Numbering.{Lawful, number-bound, number-entry}

@@ -32,18 +32,18 @@ use Rattle.sweep.specs.Solved.{answer}
 use Rattle.sweep.specs.declared.Sweeps.{Sweeps}
 use Rattle.sweep.specs.declared.Sweeps.the-variants.{Done, OverBudget}
 use Rattle.model.proofs.Decode.{length-listing}
-use Rattle.recover.specs.Families.{Table, Defs}
+use Rattle.recover.specs.Families.{Table}
 use Rattle.recover.specs.Tokens.{family-name, Waits}
 use Rattle.recover.specs.Writing.{lines-written, lines-marked}
 use Rattle.recover.proofs.Finding.{unique-families, place-here}
 use Rattle.recover.proofs.Numbered.{place-cases}
 use Rattle.recover.proofs.Taken.{family-read}
 use Rattle.webs.specs.Progress.{webs-over, number-after, family-sweeps}
-use Rattle.webs.specs.Lines.{Below, LineNumbers, FamilyLines, Scratch}
+use Rattle.numbering.specs.Lines.{Below, LineNumbers, FamilyLines, Scratch}
 use Rattle.webs.specs.Steps.{Known, State, Writes, FamilyDone}
 use Rattle.webs.proofs.Places.{per-token-length}
 use Rattle.webs.proofs.Progress.{key-none}
-use Rattle.webs.proofs.LineRules.{answer-over}
+use Rattle.numbering.proofs.LineRules.{answer-over}
 use Rattle.webs.proofs.Family.{family-count, family-keys}
 use Rattle.webs.proofs.Next.{waits-by, numbers-next, marks-next, marks-taken}
 

@@ -25,7 +25,7 @@ use Rattle.sweep.specs.declared.Sweeps.the-variants.{Done, OverBudget}
 use Rattle.recover.specs.Tokens.{family-name}
 use Rattle.webs.specs.Progress.{webs-over, family-sweeps, sweeps-before}
 use Rattle.webs.specs.Steps.{Known, State, FamilyDone, Going, AllDone}
-use Rattle.webs.proofs.LineRules.{answer-done, answer-over}
+use Rattle.numbering.proofs.LineRules.{answer-done, answer-over}
 use Rattle.webs.proofs.Progress.{number-end, mark-end}
 use Rattle.webs.proofs.StepRules.{preds-size}
 

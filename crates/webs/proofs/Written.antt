@@ -5,7 +5,7 @@
 --   marked-at                       all lines marked
 -- Assumes nothing.
 use Prim.Native.Nat.{ℕ, zero, suc, _+_, _-_, _<_, _≤_}
-use mathlib.Core.Path.{_≡_, refl, sym, ap, _∙_}
+use mathlib.Core.Path.{_≡_, refl, ap, _∙_}
 use mathlib.Core.Logic.{_⊎_, inl, inr}
 use mathlib.Core.Bool.{Bool, true, false, cond, _&&_}
 use mathlib.Core.List.{List, _++_, map}
@@ -23,7 +23,6 @@ use Rattle.theory.proofs.ListLaws.{fold-up-to}
 use Rattle.text.proofs.Parts.{part-get, length-part}
 use Rattle.sweep.proofs.ListFacts.{getD-inside}
 use Rattle.model.specs.Places.{start-from, line-start, line-end}
-use Rattle.model.proofs.Decode.{line-length}
 use Rattle.recover.specs.Writing.{chosen, line-written, lines-written, line-marked, lines-marked}
 use Rattle.webs.proofs.Places.{start-within, line-next, other-line}
 

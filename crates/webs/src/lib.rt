@@ -21,7 +21,6 @@ use recover::tokens::number_tokens;
 use steps::all_families;
 use sweep::Sweeps;
 
-pub mod lines;
 pub mod steps;
 
 // All families, with the words that they share.

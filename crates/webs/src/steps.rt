@@ -1,4 +1,5 @@
-// One family after the other, in the order of their first definition: its sweeps, its webs, the numbers and marks of its tokens.
+// One family after the other, in the order of their first definition: its sweeps, its webs, the numbers and marks of its tokens. A family takes
+// the steps of `numbering::family_lines`, and one a token of the listing for its address, for its reads and for writing.
 //
 // Contracts cite `recover` of Rattle.definitions.specs.Recover and `numbered-webs` of Rattle.definitions.specs.Answers.
 ghost use mathlib.Core.Path.{_≡_};
@@ -16,9 +17,9 @@ ghost use Rattle.recover.specs.Families.{Table, Defs};
 ghost use Rattle.recover.specs.Tokens.{family-name, Waits};
 ghost use Rattle.recover.specs.Writing.{lines-written};
 ghost use Rattle.webs.specs.Progress.{webs-over};
-ghost use Rattle.webs.specs.Lines.{Scratch};
+ghost use Rattle.numbering.specs.Lines.{Scratch};
 ghost use Rattle.webs.specs.Steps.{Known, State, Writes, FamilyDone, AllDone};
-use crate::lines::family_lines;
+use numbering::family_lines;
 use recover::reads::address_taken;
 use recover::reads::is_rsp;
 use recover::reads::read_lines;

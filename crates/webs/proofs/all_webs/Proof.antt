@@ -1,69 +1,53 @@
+-- `webs::all_webs` meets its contract. Fresh arrays have room for 1024 lines.
+-- Assumes nothing.
 use mathlib.Core.Path.{sym}
 use Rattle.webs.proofs.Whole.{fresh-part}
 use borrow.Author.Needs.{needs}
 use Rattle.webs.proofs.all_webs.Statement.{statement}
 use Rattle.webs.proofs.all_webs.Tie as tie
-use Rattle.webs.proofs.all_webs.Reads as reads
-use Rattle.webs.proofs.all_webs.Lts as lts
-use Rattle.webs.proofs.steps.all_families.Reads as all-families-reads
 
--- src/lib.rt:64:9
 slice-aggregate-all-families : tie.Need-slice-aggregate-all-families
 slice-aggregate-all-families c = search needs
 
--- src/lib.rt:65:9
 slice-aggregate-all-families-2 : tie.Need-slice-aggregate-all-families-2
 slice-aggregate-all-families-2 c = search needs
 
--- src/lib.rt:66:9
 slice-aggregate-all-families-3 : tie.Need-slice-aggregate-all-families-3
 slice-aggregate-all-families-3 c = search needs
 
--- src/lib.rt:67:9
 slice-aggregate-all-families-4 : tie.Need-slice-aggregate-all-families-4
 slice-aggregate-all-families-4 c = search needs
 
--- src/lib.rt:68:9
 slice-aggregate-all-families-5 : tie.Need-slice-aggregate-all-families-5
 slice-aggregate-all-families-5 c = search needs
 
--- src/lib.rt:69:9
 slice-aggregate-all-families-6 : tie.Need-slice-aggregate-all-families-6
 slice-aggregate-all-families-6 c = search needs
 
--- src/lib.rt:70:9
 array-borrow-prefix-own : tie.Need-array-borrow-prefix-own
 array-borrow-prefix-own c = search needs
 
--- src/lib.rt:70:9
 slice-aggregate-all-families-7 : tie.Need-slice-aggregate-all-families-7
 slice-aggregate-all-families-7 c = sym (fresh-part _ (c .before .before .before .before .before .before .before .before .before .before .before .before .before .before .before .before .before .before .pre .0 .few))
 
--- src/lib.rt:71:9
 array-borrow-prefix-read : tie.Need-array-borrow-prefix-read
 array-borrow-prefix-read c = search needs
 
--- src/lib.rt:71:9
 slice-aggregate-all-families-8 : tie.Need-slice-aggregate-all-families-8
 slice-aggregate-all-families-8 c = sym (fresh-part _ (c .before .before .before .before .before .before .before .before .before .before .before .before .before .before .before .before .before .before .before .pre .0 .few))
 
--- src/lib.rt:52:5
 all-families-requires : tie.Need-all-families-requires
 all-families-requires c κs = ((c .before .before .before .before .before .before .before .before .before .before .before .before .before .before .before .before .before .before .before .pre .0, c .before .before .before .before .before .before .before .before .before .before .before .before .before .before .before .before .before .before .before .pre .1), (c .before .before .before .before .before .before .before .before .before .before .before .before .before .before .before .before .before .before .before .pre .2, c .before .before .before .before .before .before .before .before .before .before .before .before .before .before .before .before .before .before .before .pre .0 .few, record { nums-room = c .before .before .before .before .before .before .before .before .before .before .before .before .before .before .before .before .before .before .before .pre .0 .few; rep-room = c .before .before .before .before .before .before .before .before .before .before .before .before .before .before .before .before .before .before .before .pre .0 .few; rank-room = c .before .before .before .before .before .before .before .before .before .before .before .before .before .before .before .before .before .before .before .pre .0 .few; set-room = c .before .before .before .before .before .before .before .before .before .before .before .before .before .before .before .before .before .before .before .pre .0 .few; seen-room = c .before .before .before .before .before .before .before .before .before .before .before .before .before .before .before .before .before .before .before .pre .0 .few; own-room = fresh-part _ (c .before .before .before .before .before .before .before .before .before .before .before .before .before .before .before .before .before .before .before .pre .0 .few); read-room = fresh-part _ (c .before .before .before .before .before .before .before .before .before .before .before .before .before .before .before .before .before .before .before .pre .0 .few) }))
 
--- src/lib.rt:27:1
 same-length : tie.Need-same-length
 same-length c = search needs
 
--- src/lib.rt:27:1
 same-length-2 : tie.Need-same-length-2
 same-length-2 c = search needs
 
--- src/lib.rt:27:1
 same-length-3 : tie.Need-same-length-3
 same-length-3 c = search needs
 
--- src/lib.rt:27:1
 returns : tie.Need-returns
 returns c = search needs
 

@@ -1,63 +1,46 @@
+-- `webs::recover` meets its contract. By its calls.
+-- Assumes nothing.
 use Rattle.webs.proofs.Whole.{finds-all, known-by, state-start, whole-by}
 use borrow.Author.Needs.{needs}
 use Rattle.webs.proofs.recover.Statement.{statement}
 use Rattle.webs.proofs.recover.Tie as tie
-use Rattle.webs.proofs.recover.Reads as reads
-use Rattle.webs.proofs.recover.Lts as lts
-use Rattle.recover.proofs.families.families.Reads as families-reads
-use Rattle.recover.proofs.tokens.number_tokens.Reads as number-tokens-reads
-use Rattle.text.proofs.zero_bytes.Reads as zero-bytes-reads
-use Rattle.webs.proofs.all_webs.Reads as all-webs-reads
 
--- src/lib.rt:92:47
 slice-aggregate-families : tie.Need-slice-aggregate-families
 slice-aggregate-families c = search needs
 
--- src/lib.rt:92:59
 slice-aggregate-families-2 : tie.Need-slice-aggregate-families-2
 slice-aggregate-families-2 c = search needs
 
--- src/lib.rt:92:9
 families-requires : tie.Need-families-requires
 families-requires c κs = search needs
 
--- src/lib.rt:93:40
 slice-aggregate-number-tokens : tie.Need-slice-aggregate-number-tokens
 slice-aggregate-number-tokens c = search needs
 
--- src/lib.rt:93:5
 number-tokens-requires : tie.Need-number-tokens-requires
 number-tokens-requires c κs = (finds-all _ _ _ _ _ _ (c .before .before .before .before .families .ensures), c .before .before .before .before .before .before .before .before .before .before .before .before .before .pre .1 .1, c .before .before .before .before .before .before .before .before .before .before .before .before .before .pre .0 .2)
 
--- src/lib.rt:94:5
 zero-bytes-requires : tie.Need-zero-bytes-requires
 zero-bytes-requires c κs = search needs
 
--- src/lib.rt:95:35
 slice-aggregate-all-webs : tie.Need-slice-aggregate-all-webs
 slice-aggregate-all-webs c = search needs
 
--- src/lib.rt:95:50
 slice-aggregate-all-webs-2 : tie.Need-slice-aggregate-all-webs-2
 slice-aggregate-all-webs-2 c = search needs
 
--- src/lib.rt:95:5
 all-webs-requires : tie.Need-all-webs-requires
 all-webs-requires c κs = (known-by _ _ _ _ _ _ (c .before .before .before .before .before .before .before .before .before .before .before .before .before .before .before .before .families .ensures) _ (c .before .before .before .before .before .before .before .before .before .before .before .before .before .before .before .before .before .before .before .before .before .before .before .before .before .pre .0 .2) (c .before .before .before .before .before .before .before .before .before .before .before .before .before .before .before .before .before .before .before .before .before .before .before .before .before .pre .0 .0) (c .before .before .before .before .before .before .before .before .before .before .before .before .before .before .before .before .before .before .before .before .before .before .before .before .before .pre .0 .3), state-start _ _ _ _ _ (c .before .before .before .before .before .before .before .before .before .before .before .before .before .before .before .before .before .before .before .before .before .before .before .before .before .args .marks .now) (c .before .before .before .before .before .before .before .before .before .before .before .before .before .before .before .before .before .before .before .before .before .before .before .before .before .pre .0 .2) (c .before .before .before .before .before .before .before .before .before .before .before .before .before .before .before .before .before .before .before .before .before .before .before .before .before .pre .0 .0) (c .before .before .before .before .before .before .before .before .before .before .before .before .before .before .before .before .before .before .before .before .before .before .before .before .before .pre .0 .1) _ _ (c .before .before .before .before .before .before .before .before .before .before .before .before .before .before .before .before .before .before .before .before .before .before .before .before .before .pre .1 .3) (c .before .before .before .before .before .before .before .before .before .before .before .before .before .before .before .before .before .before .before .before .before .before .before .before .before .pre .1 .2) (c .before .before .before .before .before .before .before .zero-bytes .ensures) (c .before .before .before .before .before .before .before .before .before .before .before .number-tokens .ensures), c .before .before .before .before .before .before .before .before .before .before .before .before .before .before .before .before .before .before .before .before .before .before .before .before .before .pre .1 .0)
 
--- src/lib.rt:76:1
 same-length : tie.Need-same-length
 same-length c = search needs
 
--- src/lib.rt:76:1
 same-length-2 : tie.Need-same-length-2
 same-length-2 c = search needs
 
--- src/lib.rt:76:1
 same-length-3 : tie.Need-same-length-3
 same-length-3 c = search needs
 
--- src/lib.rt:76:1
 returns : tie.Need-returns
 returns c = whole-by _ _ _ _ _ _ _ _ _ (c .before .before .before .before .before .before .before .before .before .before .before .before .before .before .before .before .before .before .before .before .before .before .before .before .before .before .before .before .before .before .before .before .pre .0 .0) (c .before .before .before .before .before .before .before .before .before .before .before .before .before .before .before .before .before .before .before .before .before .before .before .before .before .before .before .before .before .before .before .before .pre .1 .3) (c .before .before .before .before .before .before .all-webs .ensures)
 

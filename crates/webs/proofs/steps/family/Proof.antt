@@ -1,88 +1,66 @@
-use Rattle.webs.proofs.StepRules.{known-waits, known-length, taken-done}
-use native.Mathlib.Omega.{arith}
+-- `webs::steps::family` meets its contract. By the test.
+-- Assumes nothing.
 use mathlib.Core.Path.{sym, _∙_}
+use native.Mathlib.Omega.{arith}
+use Rattle.webs.proofs.StepRules.{known-waits, known-length, taken-done}
 use borrow.Author.Needs.{needs}
 use Rattle.webs.proofs.steps.family.Statement.{statement}
 use Rattle.webs.proofs.steps.family.Tie as tie
-use Rattle.webs.proofs.steps.family.Reads as reads
-use Rattle.webs.proofs.steps.family.Lts as lts
-use Rattle.recover.proofs.reads.address_taken.Reads as address-taken-reads
-use Rattle.webs.proofs.steps.family_free.Reads as family-free-reads
-use Rattle.webs.proofs.steps.write_zeros.Reads as write-zeros-reads
 
--- src/steps.rt:172:8
 address-taken-requires : tie.Need-address-taken-requires
 address-taken-requires c κs = (c .before .before .before .before .before .before .before .before .before .before .before .before .before .before .before .before .before .pre .0 .0 .finds .table, c .before .before .before .before .before .before .before .before .before .before .before .before .before .before .before .before .before .pre .0 .1, known-waits _ _ _ _ _ _ _ _ (c .before .before .before .before .before .before .before .before .before .before .before .before .before .before .before .before .before .pre .0 .0) (c .before .before .before .before .before .before .before .before .before .before .before .before .before .before .before .before .before .pre .0 .1) _ _ _ (c .before .before .before .before .before .before .before .before .before .before .before .before .before .before .before .before .before .pre .0 .2))
 
--- src/steps.rt:173:9
 write-zeros-requires : tie.Need-write-zeros-requires
 write-zeros-requires c κs = (known-length _ _ _ _ _ _ _ _ (c .before .before .before .before .before .before .before .before .before .before .before .before .before .before .before .before .before .before .before .before .before .before .pre .0 .0) (c .before .before .before .before .before .before .before .before .before .before .before .before .before .before .before .before .before .before .before .before .before .before .pre .0 .1) _ _ _ (c .before .before .before .before .before .before .before .before .before .before .before .before .before .before .before .before .before .before .before .before .before .before .pre .0 .2), omega (arith, c .before .before .before .before .before .before .before .before .before .before .before .before .before .before .before .before .before .before .before .before .before .before .pre .0 .1, c .before .before .before .before .before .before .before .before .before .before .before .before .before .before .before .before .before .before .before .before .before .before .pre .0 .0 .finds .few))
 
--- src/steps.rt:174:9
 same-length : tie.Need-same-length
 same-length c = search needs
 
--- src/steps.rt:174:9
 same-length-2 : tie.Need-same-length-2
 same-length-2 c = search needs
 
--- src/steps.rt:174:9
 same-length-3 : tie.Need-same-length-3
 same-length-3 c = search needs
 
--- src/steps.rt:174:9
 returns : tie.Need-returns
 returns c = taken-done _ _ _ _ _ _ _ _ (c .before .before .before .before .before .before .before .before .before .before .before .before .before .before .before .before .before .before .before .before .before .before .before .before .before .before .before .before .before .pre .0 .0) (c .before .before .before .before .before .before .before .before .before .before .before .before .before .before .before .before .before .before .before .before .before .before .before .before .before .before .before .before .before .pre .0 .1) _ _ _ (c .before .before .before .before .before .before .before .before .before .before .before .before .before .before .before .before .before .before .before .before .before .before .before .before .before .before .before .before .before .pre .0 .2) (sym (c .before .before .before .before .before .before .before .before .before .before .before .address-taken .ensures) ∙ c .before .before .before .before .before .before .before .before .before .before .if1 .taken) _ (c .before .before .before .before .before .before .before .before .before .before .before .before .before .before .before .before .before .before .before .before .before .before .before .before .before .before .before .before .before .args .own .now) (c .before .before .before .before .before .before .before .before .before .before .before .before .before .before .before .before .before .before .before .before .before .before .before .before .before .before .before .before .before .args .read .now) _ (c .before .before .before .before .before .before .write-zeros .ensures)
 
--- src/steps.rt:176:5
 family-free-requires : tie.Need-family-free-requires
 family-free-requires c κs = (c .before .before .before .before .before .before .before .before .before .before .before .before .before .before .before .before .before .before .before .before .before .before .before .before .before .before .before .before .before .before .pre .0, ((sym (c .before .before .before .before .before .before .before .before .before .before .before .before .address-taken .ensures) ∙ c .before .before .before .before .before .before .before .before .before .before .before .if1 .left, c .before .before .before .before .before .before .before .before .before .before .before .before .before .before .before .before .before .before .before .before .before .before .before .before .before .before .before .before .before .before .pre .1 .0), (c .before .before .before .before .before .before .before .before .before .before .before .before .before .before .before .before .before .before .before .before .before .before .before .before .before .before .before .before .before .before .pre .1 .1, c .before .before .before .before .before .before .before .before .before .before .before .before .before .before .before .before .before .before .before .before .before .before .before .before .before .before .before .before .before .before .pre .1 .2)))
 
--- src/steps.rt:146:1
 same-length-4 : tie.Need-same-length-4
 same-length-4 c = search needs
 
--- src/steps.rt:146:1
 same-length-5 : tie.Need-same-length-5
 same-length-5 c = search needs
 
--- src/steps.rt:146:1
 same-length-6 : tie.Need-same-length-6
 same-length-6 c = search needs
 
--- src/steps.rt:146:1
 same-length-7 : tie.Need-same-length-7
 same-length-7 c = search needs
 
--- src/steps.rt:146:1
 same-length-8 : tie.Need-same-length-8
 same-length-8 c = search needs
 
--- src/steps.rt:146:1
 same-length-9 : tie.Need-same-length-9
 same-length-9 c = search needs
 
--- src/steps.rt:146:1
 same-length-10 : tie.Need-same-length-10
 same-length-10 c = search needs
 
--- src/steps.rt:146:1
 same-length-11 : tie.Need-same-length-11
 same-length-11 c = search needs
 
--- src/steps.rt:146:1
 same-length-12 : tie.Need-same-length-12
 same-length-12 c = search needs
 
--- src/steps.rt:146:1
 same-length-13 : tie.Need-same-length-13
 same-length-13 c = search needs
 
--- src/steps.rt:146:1
 same-length-14 : tie.Need-same-length-14
 same-length-14 c = search needs
 
--- src/steps.rt:146:1
 returns-2 : tie.Need-returns-2
 returns-2 c = search needs
 

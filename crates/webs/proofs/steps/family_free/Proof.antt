@@ -1,133 +1,100 @@
-use Rattle.webs.proofs.StepRules.{known-waits, known-length, reads-below, free-done, free-over}
-use lib.ListN.{length-take}
-use native.Mathlib.Omega.{arith}
+-- `webs::steps::family_free` meets its contract. By the answer of `family_lines`.
+-- Assumes nothing.
 use mathlib.Core.Path.{sym, _∙_}
+use native.Mathlib.Omega.{arith}
+use lib.ListN.{length-take}
+use Rattle.webs.proofs.StepRules.{known-waits, known-length, reads-below, free-done, free-over}
 use borrow.Author.Needs.{needs}
 use Rattle.webs.proofs.steps.family_free.Statement.{statement}
 use Rattle.webs.proofs.steps.family_free.Tie as tie
-use Rattle.webs.proofs.steps.family_free.Reads as reads
-use Rattle.webs.proofs.steps.family_free.Lts as lts
-use Rattle.webs.proofs.lines.family_lines.Reads as family-lines-reads
-use Rattle.webs.proofs.steps.family_reads.Reads as family-reads-reads
-use Rattle.webs.proofs.steps.write_family.Reads as write-family-reads
 
--- src/steps.rt:121:9
 family-reads-requires : tie.Need-family-reads-requires
 family-reads-requires c κs = ((c .before .before .before .before .before .before .before .before .before .before .before .before .before .before .before .before .before .before .pre .0 .0 .finds .table, c .before .before .before .before .before .before .before .before .before .before .before .before .before .before .before .before .before .before .pre .0 .1, known-waits _ _ _ _ _ _ _ _ (c .before .before .before .before .before .before .before .before .before .before .before .before .before .before .before .before .before .before .pre .0 .0) (c .before .before .before .before .before .before .before .before .before .before .before .before .before .before .before .before .before .before .pre .0 .1) _ _ _ (c .before .before .before .before .before .before .before .before .before .before .before .before .before .before .before .before .before .before .pre .0 .2), c .before .before .before .before .before .before .before .before .before .before .before .before .before .before .before .before .before .before .pre .0 .0 .defs), (c .before .before .before .before .before .before .before .before .before .before .before .before .before .before .before .before .before .before .pre .0 .0 .some, c .before .before .before .before .before .before .before .before .before .before .before .before .before .before .before .before .before .before .pre .1 .1 .0, omega (arith, c .before .before .before .before .before .before .before .before .before .before .before .before .before .before .before .before .before .before .pre .0 .0 .few)))
 
--- src/steps.rt:130:9
 slice-reshare-prefix-family-lines : tie.Need-slice-reshare-prefix-family-lines
 slice-reshare-prefix-family-lines c = search needs
 
--- src/steps.rt:130:9
 slice-aggregate-family-lines : tie.Need-slice-aggregate-family-lines
 slice-aggregate-family-lines c = sym (length-take (c .before .before .before .before .family-reads .result) _ ∙ omega (arith, c .before .before .before .before .family-reads .ensures .0, c .before .before .before .before .family-reads .kept .1 .1 .1 .1 .1 .1 .1 .1 .0, c .before .before .before .before .before .before .before .before .before .before .before .before .before .before .before .before .before .before .before .before .before .before .before .pre .1 .1 .0))
 
--- src/steps.rt:123:27
 family-lines-requires : tie.Need-family-lines-requires
 family-lines-requires c κs = ((c .before .before .before .before .before .before .before .before .before .before .before .before .before .before .before .before .before .before .before .before .before .before .before .before .before .before .before .before .before .before .pre .0 .0 .some, c .before .before .before .before .before .before .before .before .before .before .before .before .before .before .before .before .before .before .before .before .before .before .before .before .before .before .before .before .before .before .pre .0 .0 .few, c .before .before .before .before .before .before .before .before .before .before .before .before .before .before .before .before .before .before .before .before .before .before .before .before .before .before .before .before .before .before .pre .0 .0 .words, c .before .before .before .before .before .before .before .before .before .before .before .before .before .before .before .before .before .before .before .before .before .before .before .before .before .before .before .before .before .before .pre .1 .0 .1, c .before .before .before .before .before .before .before .before .before .before .before .before .before .before .before .before .before .before .before .before .before .before .before .before .before .before .before .before .before .before .pre .0 .2 .agree, reads-below _ _ _ _ _ _ _ _ (c .before .before .before .before .before .before .before .before .before .before .before .before .before .before .before .before .before .before .before .before .before .before .before .before .before .before .before .before .before .before .pre .0 .0) (c .before .before .before .before .before .before .before .before .before .before .before .before .before .before .before .before .before .before .before .before .before .before .before .before .before .before .before .before .before .before .pre .0 .1) _ _ _ (c .before .before .before .before .before .before .before .before .before .before .before .before .before .before .before .before .before .before .before .before .before .before .before .before .before .before .before .before .before .before .pre .0 .2) _ (c .before .before .before .before .before .before .before .before .before .before .before .family-reads .ensures .1)), (omega (arith, c .before .before .before .before .before .before .before .before .before .before .before .before .before .before .before .before .before .before .before .before .before .before .before .before .before .before .before .before .before .before .pre .0 .1, c .before .before .before .before .before .before .before .before .before .before .before .before .before .before .before .before .before .before .before .before .before .before .before .before .before .before .before .before .before .before .pre .0 .0 .finds .few), c .before .before .before .before .before .before .before .before .before .before .before .before .before .before .before .before .before .before .before .before .before .before .before .before .before .before .before .before .before .before .pre .0 .0 .room, c .before .before .before .before .before .before .before .before .before .before .before .before .before .before .before .before .before .before .before .before .before .before .before .before .before .before .before .before .before .before .pre .1 .1 .1))
 
--- src/steps.rt:123:22
 enum-known-s : tie.Need-enum-known-s
 enum-known-s c = search needs
 
--- src/steps.rt:139:9
 enum-told : tie.Need-enum-told
 enum-told c = search needs
 
--- src/steps.rt:139:9
 same-length : tie.Need-same-length
 same-length c = search needs
 
--- src/steps.rt:139:9
 same-length-2 : tie.Need-same-length-2
 same-length-2 c = search needs
 
--- src/steps.rt:139:9
 same-length-3 : tie.Need-same-length-3
 same-length-3 c = search needs
 
--- src/steps.rt:139:9
 same-length-4 : tie.Need-same-length-4
 same-length-4 c = search needs
 
--- src/steps.rt:139:9
 same-length-5 : tie.Need-same-length-5
 same-length-5 c = search needs
 
--- src/steps.rt:139:9
 same-length-6 : tie.Need-same-length-6
 same-length-6 c = search needs
 
--- src/steps.rt:139:9
 same-length-7 : tie.Need-same-length-7
 same-length-7 c = search needs
 
--- src/steps.rt:139:9
 same-length-8 : tie.Need-same-length-8
 same-length-8 c = search needs
 
--- src/steps.rt:139:9
 same-length-9 : tie.Need-same-length-9
 same-length-9 c = search needs
 
--- src/steps.rt:139:9
 same-length-10 : tie.Need-same-length-10
 same-length-10 c = search needs
 
--- src/steps.rt:139:9
 returns : tie.Need-returns
 returns c = free-over _ _ _ _ _ _ _ _ (c .before .before .before .before .before .before .before .before .before .before .before .before .before .before .before .before .before .before .before .before .before .before .before .before .before .before .before .before .before .before .before .before .before .before .before .before .before .before .before .before .before .before .before .before .before .before .before .before .before .pre .0 .0) (c .before .before .before .before .before .before .before .before .before .before .before .before .before .before .before .before .before .before .before .before .before .before .before .before .before .before .before .before .before .before .before .before .before .before .before .before .before .before .before .before .before .before .before .before .before .before .before .before .before .pre .0 .1) _ _ _ (c .before .before .before .before .before .before .before .before .before .before .before .before .before .before .before .before .before .before .before .before .before .before .before .before .before .before .before .before .before .before .before .before .before .before .before .before .before .before .before .before .before .before .before .before .before .before .before .before .before .pre .0 .2) (c .before .before .before .before .before .before .before .before .before .before .before .before .before .before .before .before .before .before .before .before .before .before .before .before .before .before .before .before .before .before .before .before .before .before .before .before .before .before .before .before .before .before .before .before .before .before .before .before .before .pre .1 .0 .0) _ _ _ _ _ _ (c .before .before .before .before .before .before .before .before .before .before .before .before .before .before .before .before .before .before .before .before .before .before .before .before .before .before .before .before .before .before .family-reads .ensures .1) (c .before .before .before .before .before .before .before .before .before .before .before .before .before .before .before .before .before .before .family-lines .ensures) _ _ (c .enum-told .given .1)
 
--- src/steps.rt:141:5
 write-family-requires : tie.Need-write-family-requires
 write-family-requires c κs = (known-length _ _ _ _ _ _ _ _ (c .before .before .before .before .before .before .before .before .before .before .before .before .before .before .before .before .before .before .before .before .before .before .before .before .before .before .before .before .before .before .before .before .before .before .before .before .before .before .before .before .before .before .before .before .before .before .before .before .before .before .before .before .before .before .pre .0 .0) (c .before .before .before .before .before .before .before .before .before .before .before .before .before .before .before .before .before .before .before .before .before .before .before .before .before .before .before .before .before .before .before .before .before .before .before .before .before .before .before .before .before .before .before .before .before .before .before .before .before .before .before .before .before .before .pre .0 .1) _ _ _ (c .before .before .before .before .before .before .before .before .before .before .before .before .before .before .before .before .before .before .before .before .before .before .before .before .before .before .before .before .before .before .before .before .before .before .before .before .before .before .before .before .before .before .before .before .before .before .before .before .before .before .before .before .before .before .pre .0 .2), omega (arith, c .before .before .before .before .before .before .before .before .before .before .before .before .before .before .before .before .before .before .before .before .before .before .before .before .before .before .before .before .before .before .before .before .before .before .before .before .before .before .before .before .before .before .before .before .before .before .before .before .before .before .before .before .before .before .pre .0 .1, c .before .before .before .before .before .before .before .before .before .before .before .before .before .before .before .before .before .before .before .before .before .before .before .before .before .before .before .before .before .before .before .before .before .before .before .before .before .before .before .before .before .before .before .before .before .before .before .before .before .before .before .before .before .before .pre .0 .0 .finds .few))
 
--- src/steps.rt:94:1
 same-length-11 : tie.Need-same-length-11
 same-length-11 c = search needs
 
--- src/steps.rt:94:1
 same-length-12 : tie.Need-same-length-12
 same-length-12 c = search needs
 
--- src/steps.rt:94:1
 same-length-13 : tie.Need-same-length-13
 same-length-13 c = search needs
 
--- src/steps.rt:94:1
 same-length-14 : tie.Need-same-length-14
 same-length-14 c = c .before .before .before .before .before .before .before .before .before .before .before .before .before .before .before .before .before .before .before .before .before .before .before .before .before .before .before .before .before .before .before .before .before .before .before .before .before .before .before .before .family-reads .kept .1 .1 .1 .1 .1 .1 .1 .1 .0
 
--- src/steps.rt:94:1
 same-length-15 : tie.Need-same-length-15
 same-length-15 c = search needs
 
--- src/steps.rt:94:1
 same-length-16 : tie.Need-same-length-16
 same-length-16 c = search needs
 
--- src/steps.rt:94:1
 same-length-17 : tie.Need-same-length-17
 same-length-17 c = search needs
 
--- src/steps.rt:94:1
 same-length-18 : tie.Need-same-length-18
 same-length-18 c = search needs
 
--- src/steps.rt:94:1
 same-length-19 : tie.Need-same-length-19
 same-length-19 c = search needs
 
--- src/steps.rt:94:1
 same-length-20 : tie.Need-same-length-20
 same-length-20 c = search needs
 
--- src/steps.rt:94:1
 same-length-21 : tie.Need-same-length-21
 same-length-21 c = search needs
 
--- src/steps.rt:94:1
 returns-2 : tie.Need-returns-2
 returns-2 c = free-done _ _ _ _ _ _ _ _ (c .before .before .before .before .before .before .before .before .before .before .before .before .before .before .before .before .before .before .before .before .before .before .before .before .before .before .before .before .before .before .before .before .before .before .before .before .before .before .before .before .before .before .before .before .before .before .before .before .before .before .before .before .before .before .before .before .before .before .before .pre .0 .0) (c .before .before .before .before .before .before .before .before .before .before .before .before .before .before .before .before .before .before .before .before .before .before .before .before .before .before .before .before .before .before .before .before .before .before .before .before .before .before .before .before .before .before .before .before .before .before .before .before .before .before .before .before .before .before .before .before .before .before .before .pre .0 .1) _ _ _ (c .before .before .before .before .before .before .before .before .before .before .before .before .before .before .before .before .before .before .before .before .before .before .before .before .before .before .before .before .before .before .before .before .before .before .before .before .before .before .before .before .before .before .before .before .before .before .before .before .before .before .before .before .before .before .before .before .before .before .before .pre .0 .2) (c .before .before .before .before .before .before .before .before .before .before .before .before .before .before .before .before .before .before .before .before .before .before .before .before .before .before .before .before .before .before .before .before .before .before .before .before .before .before .before .before .before .before .before .before .before .before .before .before .before .before .before .before .before .before .before .before .before .before .before .pre .1 .0 .0) _ _ _ _ _ _ (c .before .before .before .before .before .before .before .before .before .before .before .before .before .before .before .before .before .before .before .before .before .before .before .before .before .before .before .before .before .before .before .before .before .before .before .before .before .before .before .before .family-reads .ensures .1) (c .before .before .before .before .before .before .before .before .before .before .before .before .before .before .before .before .before .before .before .before .before .before .before .before .before .before .before .before .family-lines .ensures) _ _ _ (c .before .before .before .before .before .before .before .before .before .before .s .given .1) (c .before .before .before .before .write-family .ensures)
 

@@ -1,0 +1,31 @@
+-- `crossings::mark_token` meets its contract. Assumes nothing.
+use borrow.Author.Needs.{needs}
+use Rattle.crossings.proofs.Joins.{joins}
+use Rattle.crossings.proofs.mark_token.Statement.{statement}
+use Rattle.crossings.proofs.mark_token.Tie as tie
+
+jump-requires : tie.Need-jump-requires
+jump-requires c κs = search needs
+
+enum-known-q : tie.Need-enum-known-q
+enum-known-q c = search needs
+
+enum-told : tie.Need-enum-told
+enum-told c = search needs
+
+returns : tie.Need-returns
+returns c = search (joins, needs)
+
+mark-requires : tie.Need-mark-requires
+mark-requires c κs = (search needs, search (joins, needs), search needs)
+
+same-length : tie.Need-same-length
+same-length c = search needs
+
+returns-2 : tie.Need-returns-2
+returns-2 c = search (joins, needs)
+
+pub mark-token-spec : {M : Type 1} → statement M
+mark-token-spec =
+    tie.close
+    (tie.spec jump-requires enum-known-q enum-told returns mark-requires same-length returns-2)
