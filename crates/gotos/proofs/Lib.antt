@@ -1,0 +1,4 @@
+pub mod HeaderLines
+pub mod EdgeRules
+pub mod BodyRules
+pub mod HeadedRules

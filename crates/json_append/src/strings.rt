@@ -1,0 +1,107 @@
+// Strings.
+use crate::bytes::put;
+use crate::bytes::put_byte;
+ghost use mathlib.Core.Path.{_≡_};
+ghost use mathlib.Core.Bool.{_&&_, _||_, not, true};
+ghost use Prim.Native.Nat.{_≤_, _<_};
+ghost use lib.Dec.{eqb, leb};
+ghost use lib.ListN.{length};
+ghost use Rattle.json_definitions.specs.Writer.{hex-letter, escaped, characters-text, string-text};
+ghost use Rattle.json_append.specs.Appended.{Appended, Plain};
+
+// A byte that is written as it stands.
+fn is_plain(c: u8) -> bool
+    ensures { λ r. ⌜ r ≡ (not (eqb c 34) && (not (eqb c 92) && leb 32 c)) ⌝ }
+{
+    if c == 0x22 {
+        return false;
+    }
+    if c == 0x5c {
+        return false;
+    }
+    0x20 <= c
+}
+
+// The place behind the bytes from i on that are written as they stand.
+fn plain_end(s: &[u8], i: usize) -> usize
+    requires { ⌜ i ≤ length (now s) ⌝ }
+    ensures { λ r. ⌜ Plain (now (s .entry)) i r ⌝ }
+{
+    let mut j = i;
+    while j < s.len() {
+        if is_plain(s[j]) {
+            j += 1;
+        } else {
+            return j;
+        }
+    }
+    j
+}
+
+fn hex_letter(d: u8) -> u8
+    requires { ⌜ d < 16 ⌝ }
+    ensures { λ r. ⌜ r ≡ hex-letter d ⌝ }
+{
+    if d < 10 { 0x30 + d } else { 0x57 + d }
+}
+
+// A code below 32.
+fn put_control(out: &mut [u8], at: usize, c: u8) -> usize
+    requires { ⌜ c < 32 ⌝ }
+    ensures { λ r. ⌜ Appended (now (out .entry)) at (escaped c) (now (out .exit)) r ⌝ }
+{
+    let i = put(out, at, b"\\u00");
+    let j = put_byte(out, i, hex_letter(c / 16));
+    put_byte(out, j, hex_letter(c % 16))
+}
+
+// A backslash and c.
+fn put_escape(out: &mut [u8], at: usize, c: u8) -> usize
+    requires { ⌜ (eqb c 34 || eqb c 92) ≡ true ⌝ }
+    ensures { λ r. ⌜ Appended (now (out .entry)) at (escaped c) (now (out .exit)) r ⌝ }
+{
+    let i = put_byte(out, at, b'\\');
+    put_byte(out, i, c)
+}
+
+// One byte of a string.
+fn put_character(out: &mut [u8], at: usize, c: u8) -> usize
+    ensures { λ r. ⌜ Appended (now (out .entry)) at (escaped c) (now (out .exit)) r ⌝ }
+{
+    if c == b'"' {
+        return put_escape(out, at, c);
+    }
+    if c == b'\\' {
+        return put_escape(out, at, c);
+    }
+    if c < 0x20 {
+        return put_control(out, at, c);
+    }
+    put_byte(out, at, c)
+}
+
+// The bytes of a string, by runs of bytes that are written as they stand.
+fn put_characters(out: &mut [u8], at: usize, s: &[u8]) -> usize
+    ensures { λ r. ⌜ Appended (now (out .entry)) at (characters-text (now (s .entry))) (now (out .exit)) r ⌝ }
+{
+    let mut to = at;
+    let mut i = 0;
+    while i < s.len() {
+        let j = plain_end(s, i);
+        to = put(out, to, &s[i..j]);
+        if s.len() <= j {
+            return to;
+        }
+        to = put_character(out, to, s[j]);
+        i = j + 1;
+    }
+    to
+}
+
+pub fn put_string(out: &mut [u8], at: usize, s: &[u8]) -> usize
+    ensures { λ r. ⌜ Appended (now (out .entry)) at (string-text (now (s .entry))) (now (out .exit)) r ⌝ }
+{
+    let i = put_byte(out, at, b'"');
+    let j = put_characters(out, i, s);
+    put_byte(out, j, b'"')
+}

@@ -1,0 +1,3 @@
+pub mod MemberRules
+pub mod TokenRules
+pub mod LineRules

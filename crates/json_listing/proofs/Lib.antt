@@ -1,0 +1,2 @@
+pub mod LoopRules
+pub mod EndRules

@@ -1,0 +1,4 @@
+pub mod Formed
+pub mod Columns
+pub mod Decoded
+pub mod Calls

@@ -1,0 +1,3 @@
+pub mod PointRules
+pub mod EscapeRules
+pub mod StringRules

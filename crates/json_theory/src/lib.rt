@@ -1,0 +1,1 @@
+// Pure theory of the JSON definitions: proofs/ has the laws.

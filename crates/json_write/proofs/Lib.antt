@@ -1,0 +1,3 @@
+pub mod ElementRules
+pub mod LineRules
+pub mod CallRules

@@ -1,0 +1,22 @@
+-- `loops::for_loops::continues_at` meets its contract. One search.
+-- Assumes nothing.
+use Rattle.loops.proofs.WordRules.{continue-words}
+use borrow.Author.Needs.{needs}
+use Rattle.loops.proofs.for_loops.continues_at.Statement.{statement}
+use Rattle.loops.proofs.for_loops.continues_at.Tie as tie
+
+source-requires : tie.Need-source-requires
+source-requires c κs = search (continue-words, needs)
+
+slice-aggregate-has-kw : tie.Need-slice-aggregate-has-kw
+slice-aggregate-has-kw c = search (continue-words, needs)
+
+has-kw-requires : tie.Need-has-kw-requires
+has-kw-requires c κs = search (continue-words, needs)
+
+returns : tie.Need-returns
+returns c = search (continue-words, needs)
+
+pub continues-at-spec : {M : Type 1} → statement M
+continues-at-spec =
+    tie.close (tie.spec source-requires slice-aggregate-has-kw has-kw-requires returns)

@@ -1,0 +1,5 @@
+pub mod TestTokens
+pub mod Scanning
+pub mod Places
+pub mod Negations
+pub mod Appends

@@ -1,0 +1,4 @@
+pub mod Pieces
+pub mod Leading
+pub mod Counting
+pub mod Initial

@@ -1,0 +1,4 @@
+pub mod Plan
+pub mod Changes
+pub mod Source
+pub mod ForLoop

@@ -1,0 +1,4 @@
+pub mod LineTexts
+pub mod Opened
+pub mod CutTexts
+pub mod CutRuns
