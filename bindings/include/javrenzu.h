@@ -12,10 +12,11 @@
  *   3  a token's text is no UTF-8
  *   4  an output is too short
  *   5  the working space is too short
+ *   6  a loop pass: an indent would leave 0 to 255
  *   7  fewer than two lines
  *   8  a brace does not match
  *   9  a goto leads to no label
- * 1 to 5 write nothing. 7 to 9 leave all lent output and working memory zero. After 0 the outputs are filled in order, what is
+ * 1 to 5 write nothing. 6 to 9 leave all lent output and working memory zero. After 0 the outputs are filled in order, what is
  * beyond the results is zero, and the working space is zero. No slice may overlap another. */
 #ifndef JAVRENZU_H
 #define JAVRENZU_H
@@ -42,5 +43,13 @@ size_t javrenzu_splits(const uint32_t *lines, size_t lines_len, const uint32_t *
 size_t javrenzu_choose(const uint32_t *lines, size_t lines_len, const uint32_t *tokens, size_t tokens_len, const uint8_t *text, size_t text_len,
                        uint32_t *numbers, size_t numbers_len, uint8_t *marks, size_t marks_len, uint64_t *space, size_t space_len,
                        size_t *choice, size_t *sweeps);
+
+/* Guarded do-while loops made `while` and `for`; addresses is one word a line. The rewritten listing fills rows, places (its addresses), words
+ * (its tokens) and bytes (its text), which need lines, lines, tokens + 8 * lines and text + 32 * lines entries. *nlines, *ntokens and *nbytes
+ * are how much of them is filled, 0 on refusal. It asks questions 1 to 4 and 6. */
+size_t javrenzu_recover_loops(const uint32_t *lines, size_t lines_len, const uint64_t *addresses, size_t addresses_len,
+                              const uint32_t *tokens, size_t tokens_len, const uint8_t *text, size_t text_len,
+                              uint32_t *rows, size_t rows_len, uint64_t *places, size_t places_len, uint32_t *words, size_t words_len,
+                              uint8_t *bytes, size_t bytes_len, size_t *nlines, size_t *ntokens, size_t *nbytes);
 
 #endif

@@ -40,6 +40,12 @@ mod library {
             numbers: *mut u32, numbers_len: usize, marks: *mut u8, marks_len: usize, space: *mut u64, space_len: usize,
             choice: *mut usize, sweeps: *mut usize,
         ) -> usize;
+        #[allow(clippy::too_many_arguments)]
+        pub fn javrenzu_recover_loops(
+            lines: *const u32, lines_len: usize, addresses: *const u64, addresses_len: usize, tokens: *const u32, tokens_len: usize,
+            text: *const u8, text_len: usize, rows: *mut u32, rows_len: usize, places: *mut u64, places_len: usize,
+            words: *mut u32, words_len: usize, bytes: *mut u8, bytes_len: usize, nlines: *mut usize, ntokens: *mut usize, nbytes: *mut usize,
+        ) -> usize;
     }
 }
 
@@ -95,4 +101,36 @@ pub fn choose(listing: Listing, numbers: &mut [u32], marks: &mut [u8], space: &m
         )
     };
     answered(refusal, if choice == 1 { Chosen::Webs(sweeps) } else { Chosen::Splits })
+}
+
+/// The columns that a loop pass fills.
+#[derive(Debug)]
+pub struct Destination<'a> {
+    pub lines: &'a mut [u32],
+    pub addresses: &'a mut [u64],
+    pub tokens: &'a mut [u32],
+    pub text: &'a mut [u8],
+}
+
+/// How much a loop pass filled.
+#[derive(Debug, Clone, Copy, PartialEq, Eq)]
+pub struct Counts {
+    pub lines: usize,
+    pub tokens: usize,
+    pub text: usize,
+}
+
+/// Guarded do-while loops made `while` and `for`. The destination needs as many lines, 8 tokens and 32 bytes more a line.
+pub fn recover_loops(listing: Listing, addresses: &[u64], out: Destination) -> Result<Counts, Refusal> {
+    let Listing { lines, tokens, text } = listing;
+    let (mut nlines, mut ntokens, mut nbytes) = (0, 0, 0);
+    // SAFETY: each pointer goes with the length of its slice, the counts are words of their own, and the library is proved to stay within them.
+    let refusal = unsafe {
+        library::javrenzu_recover_loops(
+            lines.as_ptr(), lines.len(), addresses.as_ptr(), addresses.len(), tokens.as_ptr(), tokens.len(), text.as_ptr(), text.len(),
+            out.lines.as_mut_ptr(), out.lines.len(), out.addresses.as_mut_ptr(), out.addresses.len(),
+            out.tokens.as_mut_ptr(), out.tokens.len(), out.text.as_mut_ptr(), out.text.len(), &mut nlines, &mut ntokens, &mut nbytes,
+        )
+    };
+    answered(refusal, Counts { lines: nlines, tokens: ntokens, text: nbytes })
 }

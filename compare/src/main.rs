@@ -1,11 +1,13 @@
 //! `compare WORD DIR`: every `*.json` listing in DIR through the proved library and through the original Rust.
 //!
 //! Prints each difference with the file's name, last `N listings, M differences`; exit status 0 only for 0 differences.
-//! WORD: `leaves`, the reading layer function by function; `webs`, `splits` and `choose`, those calls with every lent word.
+//! WORD: `leaves`, the reading layer function by function; `webs`, `splits`, `choose` and `recover_loops`, those calls with
+//! every lent word.
 
 mod leaves;
 mod lent;
 mod numbers;
+mod passes;
 
 use std::error::Error;
 use std::fs;
@@ -23,7 +25,8 @@ fn main() -> Result<ExitCode, Box<dyn Error>> {
         "webs" => numbers::webs,
         "splits" => numbers::splits,
         "choose" => numbers::choose,
-        _ => return Err(format!("{word}: the words are: leaves, webs, splits, choose").into()),
+        "recover_loops" => passes::recover_loops,
+        _ => return Err(format!("{word}: the words are: leaves, webs, splits, choose, recover_loops").into()),
     };
     let (mut listings, mut lines, mut wrong) = (0, 0, 0);
     for file in json::files(Path::new(dir))? {

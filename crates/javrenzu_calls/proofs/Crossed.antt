@@ -2,12 +2,13 @@
 --   accepted-crossed, refused-crossed    the web call
 --   written-crossed, unwritten-crossed   the split call
 --   webs-crossed, splits-crossed, unchosen-crossed    the chooser
+--   pass-crossed                         a loop pass
 -- Assumes nothing.
 use Prim.Native.Nat.{ℕ}
-use mathlib.Core.Path.{_≡_, refl, ap}
+use mathlib.Core.Path.{_≡_, refl, sym, ap, _∙_}
 use mathlib.Core.List.{List}
 use Rattle.definitions.specs.Answers.{Answer}
-use Rattle.definitions.specs.Calls.{Lent, Called, Chosen}
+use Rattle.definitions.specs.Calls.{Lent, Called, Chosen, Columns, Passed}
 use Rattle.pseudo_ssa.specs.declared.Webs.{Webs}
 use Rattle.pseudo_ssa.specs.declared.Webs.the-variants.{Accepted, Refused}
 use Rattle.pseudo_ssa.specs.Answers.{answer-of, lent, called}
@@ -17,7 +18,9 @@ use Rattle.splits.specs.Call.{answer-of as split-answer-of, lent as split-lent,
 use Rattle.choose.specs.declared.Choice.{Choice}
 use Rattle.choose.specs.declared.Choice.the-variants.{ByWebs, BySplits, Refused as Unchosen}
 use Rattle.choose.specs.Choices.{answer-of as choice-answer-of, called as choice-called}
-use Rattle.javrenzu_calls.specs.Crossing.{refusal-number, sweeps-of, choice-of, chosen-sweeps}
+use Rattle.recover_loops.specs.declared.Answer.{Answer as Said}
+use Rattle.recover_loops.specs.Answers.{answered, passed-with}
+use Rattle.javrenzu_calls.specs.Crossing.{refusal-number, sweeps-of, choice-of, chosen-sweeps, counts-of}
 
 module _ (W : Called ℕ) (a : Webs) (ns ms ws : List ℕ) (equation : called a ns ms ws ≡ W) where
   answer : answer-of a ≡ W .answer
@@ -70,3 +73,9 @@ module _ (C : Called Chosen) (a : Choice) (ns ms ws : List ℕ) (equation : choi
   pub unchosen-crossed : (n : ℕ) → a ≡ Unchosen n → Crossed n 0 0
   unfolding refusal-number choice-of chosen-sweeps
   unchosen-crossed n e = rw (← chosen-answer, e) (refl, (refl, (refl, chosen-words)))
+
+module _ (P : Passed) (a b : Said) (out : Columns) (equation : passed-with a out ≡ P) (known : a ≡ b) where
+  pub pass-crossed : (refusal-number (answered b) ≡ refusal-number (P .answer)) × ((counts-of (answered b) ≡ counts-of (P .answer)) × (out ≡ P .out))
+  pass-crossed =
+      let e : answered b ≡ P .answer = ap answered (sym known) ∙ ap (λ (p : Passed). p .answer) equation in
+      (ap refusal-number e, (ap counts-of e, ap (λ (p : Passed). p .out) equation))

@@ -3,8 +3,11 @@
 --   sweeps-of a         the total of sweeps, 0 on refusal
 --   choice-of a         1 for webs, 2 for splits, 0 on refusal
 --   chosen-sweeps a     the total of sweeps of webs, else 0
+--   counts n k b        counts of lines, tokens and bytes
+--   counts-of a         those of a pass that is accepted, else 0
 -- Assumes nothing.
 use Prim.Native.Nat.{ℕ}
+use Rattle.definitions.specs.Questions.{Limits}
 use Rattle.definitions.specs.Answers.{Answer, refused, accepted}
 use Rattle.definitions.specs.Calls.{Chosen, by-webs, by-splits}
 
@@ -25,3 +28,10 @@ unfoldable pub chosen-sweeps : Answer Chosen → ℕ
 chosen-sweeps (refused n) = 0
 chosen-sweeps (accepted (by-webs s)) = s
 chosen-sweeps (accepted by-splits) = 0
+
+abbrev pub counts : ℕ → ℕ → ℕ → Limits
+counts n k b = record { lines = n; tokens = k; text = b }
+
+unfoldable pub counts-of : Answer Limits → Limits
+counts-of (refused n) = counts 0 0 0
+counts-of (accepted c) = c

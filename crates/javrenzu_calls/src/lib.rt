@@ -1,14 +1,17 @@
 // The public calls for C and Rust. An enum does not cross, so a call answers the number of its refusal, 0 where it accepts, and its other
 // value through a reference.
 //
-// Contracts cite `web-call`, `split-call` and `choose-call` of Rattle.definitions.specs.Calls.
+// Contracts cite `web-call`, `split-call`, `choose-call` and `pass-call` of Rattle.definitions.specs.Calls.
 ghost use mathlib.Core.Path.{_≡_};
-ghost use Rattle.definitions.specs.Calls.{web-call, split-call, choose-call};
+ghost use Rattle.definitions.specs.Calls.{web-call, split-call, choose-call, pass-call};
+ghost use Rattle.definitions.specs.Answers.{loops};
 ghost use Rattle.pseudo_ssa.specs.Answers.{lent};
-ghost use Rattle.javrenzu_calls.specs.Crossing.{refusal-number, sweeps-of, choice-of, chosen-sweeps};
+ghost use Rattle.javrenzu_calls.specs.Crossing.{refusal-number, sweeps-of, choice-of, chosen-sweeps, counts, counts-of};
+ghost use Rattle.write.specs.Holds.{columns};
 ghost use Rattle.splits.specs.Call.{lent as split-lent};
 use choose::Choice;
 use pseudo_ssa::Webs;
+use recover_loops::Answer;
 use splits::call::Splits;
 
 // The web call. `sweeps` is the total of sweeps, 0 on refusal.
@@ -88,5 +91,42 @@ pub extern "C" fn javrenzu_choose(
             *choice = 0;
             number
         }
+    }
+}
+
+// `recover_loops`. The counts of lines, tokens and bytes are 0 on refusal.
+#[no_mangle]
+pub extern "C" fn javrenzu_recover_loops(
+    lines: &[u32],
+    addresses: &[u64],
+    tokens: &[u32],
+    text: &[u8],
+    rows: &mut [u32],
+    places: &mut [u64],
+    words: &mut [u32],
+    bytes: &mut [u8],
+    nlines: &mut usize,
+    ntokens: &mut usize,
+    nbytes: &mut usize,
+) -> usize
+    ensures { λ n. ⌜ n ≡ refusal-number (pass-call loops (columns (now (lines .entry)) (now (addresses .entry)) (now (tokens .entry)) (now (text .entry))) (columns (now (rows .entry)) (now (places .entry)) (now (words .entry)) (now (bytes .entry))) .answer) ⌝ }
+    ensures { λ n. ⌜ counts (now (nlines .exit)) (now (ntokens .exit)) (now (nbytes .exit)) ≡ counts-of (pass-call loops (columns (now (lines .entry)) (now (addresses .entry)) (now (tokens .entry)) (now (text .entry))) (columns (now (rows .entry)) (now (places .entry)) (now (words .entry)) (now (bytes .entry))) .answer) ⌝ }
+    ensures { λ n. ⌜ columns (now (rows .exit)) (now (places .exit)) (now (words .exit)) (now (bytes .exit)) ≡ pass-call loops (columns (now (lines .entry)) (now (addresses .entry)) (now (tokens .entry)) (now (text .entry))) (columns (now (rows .entry)) (now (places .entry)) (now (words .entry)) (now (bytes .entry))) .out ⌝ }
+{
+    *nlines = 0;
+    *ntokens = 0;
+    *nbytes = 0;
+    match recover_loops::recover_loops(lines, addresses, tokens, text, rows, places, words, bytes) {
+        Answer::Accepted(n, k, b) => {
+            *nlines = n;
+            *ntokens = k;
+            *nbytes = b;
+            0
+        }
+        Answer::TooLarge => 1,
+        Answer::Malformed => 2,
+        Answer::NotUtf8 => 3,
+        Answer::NoRoom => 4,
+        Answer::Overflow => 6,
     }
 }
