@@ -1,0 +1,2 @@
+mod RowRules
+mod AnswerRules

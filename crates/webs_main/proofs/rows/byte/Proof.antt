@@ -1,0 +1,18 @@
+-- `webs_main::rows::byte` meets its contract.
+-- Assumes nothing.
+use borrow.Author.Needs.{needs}
+use Rattle.model.proofs.Access.{access}
+use Rattle.webs_main.proofs.rows.byte.Statement.{statement}
+use Rattle.webs_main.proofs.rows.byte.Tie as tie
+
+shared-slice-read-result : tie.Need-shared-slice-read-result
+shared-slice-read-result c = search needs
+
+returns : tie.Need-returns
+returns c = search needs
+
+returns-2 : tie.Need-returns-2
+returns-2 c = search (access, needs)
+
+pub byte-spec : {M : Type 1} → statement M
+byte-spec = tie.close (tie.spec shared-slice-read-result returns returns-2)
