@@ -16,7 +16,8 @@
  *   7  fewer than two lines
  *   8  a brace does not match
  *   9  a goto leads to no label
- * 1 to 5 write nothing. 6 to 9 leave all lent output and working memory zero. After 0 the outputs are filled in order, what is
+ *  10  the text is no listing in JSON, or it does not fit
+ * 1 to 5 write nothing. 6 to 10 leave all lent output and working memory zero. After 0 the outputs are filled in order, what is
  * beyond the results is zero, and the working space is zero. No slice may overlap another. */
 #ifndef JAVRENZU_H
 #define JAVRENZU_H
@@ -51,5 +52,14 @@ size_t javrenzu_recover_loops(const uint32_t *lines, size_t lines_len, const uin
                               const uint32_t *tokens, size_t tokens_len, const uint8_t *text, size_t text_len,
                               uint32_t *rows, size_t rows_len, uint64_t *places, size_t places_len, uint32_t *words, size_t words_len,
                               uint8_t *bytes, size_t bytes_len, size_t *nlines, size_t *ntokens, size_t *nbytes);
+
+/* The listing in a JSON text, packed into the columns. It asks question 10 only. */
+size_t javrenzu_read_json(const uint8_t *json, size_t json_len, uint32_t *lines, size_t lines_len, uint64_t *addresses, size_t addresses_len,
+                          uint32_t *tokens, size_t tokens_len, uint8_t *text, size_t text_len, size_t *nlines, size_t *ntokens, size_t *nbytes);
+
+/* The JSON text of a listing: *nbytes is its length, 0 on refusal. It asks questions 1 to 4, 4 for the exact text. */
+size_t javrenzu_write_json(const uint32_t *lines, size_t lines_len, const uint64_t *addresses, size_t addresses_len,
+                           const uint32_t *tokens, size_t tokens_len, const uint8_t *text, size_t text_len,
+                           uint8_t *json, size_t json_len, size_t *nbytes);
 
 #endif

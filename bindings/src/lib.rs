@@ -1,6 +1,6 @@
 //! The proved calls. A listing is lent as columns of words; what a call writes, and when, is in include/javrenzu.h.
 
-/// The number of the question that a listing, an output or a working space was refused by, 1 to 9.
+/// The number of the question that a listing, an output, a working space or a text was refused by, 1 to 10.
 pub type Refusal = u8;
 
 /// A listing in memory.
@@ -45,6 +45,16 @@ mod library {
             lines: *const u32, lines_len: usize, addresses: *const u64, addresses_len: usize, tokens: *const u32, tokens_len: usize,
             text: *const u8, text_len: usize, rows: *mut u32, rows_len: usize, places: *mut u64, places_len: usize,
             words: *mut u32, words_len: usize, bytes: *mut u8, bytes_len: usize, nlines: *mut usize, ntokens: *mut usize, nbytes: *mut usize,
+        ) -> usize;
+        #[allow(clippy::too_many_arguments)]
+        pub fn javrenzu_read_json(
+            json: *const u8, json_len: usize, lines: *mut u32, lines_len: usize, addresses: *mut u64, addresses_len: usize,
+            tokens: *mut u32, tokens_len: usize, text: *mut u8, text_len: usize, nlines: *mut usize, ntokens: *mut usize, nbytes: *mut usize,
+        ) -> usize;
+        #[allow(clippy::too_many_arguments)]
+        pub fn javrenzu_write_json(
+            lines: *const u32, lines_len: usize, addresses: *const u64, addresses_len: usize, tokens: *const u32, tokens_len: usize,
+            text: *const u8, text_len: usize, json: *mut u8, json_len: usize, nbytes: *mut usize,
         ) -> usize;
     }
 }
@@ -103,7 +113,7 @@ pub fn choose(listing: Listing, numbers: &mut [u32], marks: &mut [u8], space: &m
     answered(refusal, if choice == 1 { Chosen::Webs(sweeps) } else { Chosen::Splits })
 }
 
-/// The columns that a loop pass fills.
+/// The columns that a loop pass or the JSON reader fills.
 #[derive(Debug)]
 pub struct Destination<'a> {
     pub lines: &'a mut [u32],
@@ -112,7 +122,7 @@ pub struct Destination<'a> {
     pub text: &'a mut [u8],
 }
 
-/// How much a loop pass filled.
+/// How much of them is filled.
 #[derive(Debug, Clone, Copy, PartialEq, Eq)]
 pub struct Counts {
     pub lines: usize,
@@ -133,4 +143,31 @@ pub fn recover_loops(listing: Listing, addresses: &[u64], out: Destination) -> R
         )
     };
     answered(refusal, Counts { lines: nlines, tokens: ntokens, text: nbytes })
+}
+
+/// The listing that a JSON text holds.
+pub fn read_json(json: &[u8], out: Destination) -> Result<Counts, Refusal> {
+    let (mut nlines, mut ntokens, mut nbytes) = (0, 0, 0);
+    // SAFETY: each pointer goes with the length of its slice, the counts are words of their own, and the library is proved to stay within them.
+    let refusal = unsafe {
+        library::javrenzu_read_json(
+            json.as_ptr(), json.len(), out.lines.as_mut_ptr(), out.lines.len(), out.addresses.as_mut_ptr(), out.addresses.len(),
+            out.tokens.as_mut_ptr(), out.tokens.len(), out.text.as_mut_ptr(), out.text.len(), &mut nlines, &mut ntokens, &mut nbytes,
+        )
+    };
+    answered(refusal, Counts { lines: nlines, tokens: ntokens, text: nbytes })
+}
+
+/// The JSON text of a listing; answers its length.
+pub fn write_json(listing: Listing, addresses: &[u64], json: &mut [u8]) -> Result<usize, Refusal> {
+    let Listing { lines, tokens, text } = listing;
+    let mut nbytes = 0;
+    // SAFETY: each pointer goes with the length of its slice, `nbytes` is a word of its own, and the library is proved to stay within them.
+    let refusal = unsafe {
+        library::javrenzu_write_json(
+            lines.as_ptr(), lines.len(), addresses.as_ptr(), addresses.len(), tokens.as_ptr(), tokens.len(), text.as_ptr(), text.len(),
+            json.as_mut_ptr(), json.len(), &mut nbytes,
+        )
+    };
+    answered(refusal, nbytes)
 }

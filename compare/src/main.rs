@@ -2,12 +2,13 @@
 //!
 //! Prints each difference with the file's name, last `N listings, M differences`; exit status 0 only for 0 differences.
 //! WORD: `leaves`, the reading layer function by function; `webs`, `splits`, `choose` and `recover_loops`, those calls with
-//! every lent word.
+//! every lent word; `json`, the reader and writer on each text and on damaged copies of it.
 
 mod leaves;
 mod lent;
 mod numbers;
 mod passes;
+mod texts;
 
 use std::error::Error;
 use std::fs;
@@ -17,25 +18,34 @@ use std::process::ExitCode;
 use oracle::json;
 use oracle::pseudo::PseudoLine;
 
+/// A comparison of a listing, or of the text of a file.
+enum Comparison {
+    Listing(fn(&[PseudoLine]) -> Vec<String>),
+    Text(fn(&[u8]) -> Vec<String>),
+}
+
 fn main() -> Result<ExitCode, Box<dyn Error>> {
     let args: Vec<String> = std::env::args().skip(1).collect();
     let [word, dir] = args.as_slice() else { return Err("usage: compare WORD DIR".into()) };
-    let differences: fn(&[PseudoLine]) -> Vec<String> = match word.as_str() {
-        "leaves" => leaves::differences,
-        "webs" => numbers::webs,
-        "splits" => numbers::splits,
-        "choose" => numbers::choose,
-        "recover_loops" => passes::recover_loops,
-        _ => return Err(format!("{word}: the words are: leaves, webs, splits, choose, recover_loops").into()),
+    let differences: Comparison = match word.as_str() {
+        "leaves" => Comparison::Listing(leaves::differences),
+        "webs" => Comparison::Listing(numbers::webs),
+        "splits" => Comparison::Listing(numbers::splits),
+        "choose" => Comparison::Listing(numbers::choose),
+        "recover_loops" => Comparison::Listing(passes::recover_loops),
+        "json" => Comparison::Text(texts::differences),
+        _ => return Err(format!("{word}: the words are: leaves, webs, splits, choose, recover_loops, json").into()),
     };
     let (mut listings, mut lines, mut wrong) = (0, 0, 0);
     for file in json::files(Path::new(dir))? {
-        let found = match json::read(&fs::read(&file)?) {
-            Ok(listing) => {
+        let text = fs::read(&file)?;
+        let found = match (&differences, json::read(&text)) {
+            (Comparison::Text(differences), _) => differences(&text),
+            (Comparison::Listing(differences), Ok(listing)) => {
                 lines += listing.len();
                 differences(&listing)
             }
-            Err(why) => vec![format!("no listing: {why}")],
+            (Comparison::Listing(_), Err(why)) => vec![format!("no listing: {why}")],
         };
         listings += 1;
         wrong += usize::from(!found.is_empty());

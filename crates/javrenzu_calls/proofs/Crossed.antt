@@ -2,7 +2,8 @@
 --   accepted-crossed, refused-crossed    the web call
 --   written-crossed, unwritten-crossed   the split call
 --   webs-crossed, splits-crossed, unchosen-crossed    the chooser
---   pass-crossed                         a loop pass
+--   pass-crossed, read-crossed           a loop pass, the JSON reader
+--   write-crossed                        the JSON writer
 -- Assumes nothing.
 use Prim.Native.Nat.{ℕ}
 use mathlib.Core.Path.{_≡_, refl, sym, ap, _∙_}
@@ -13,14 +14,20 @@ use Rattle.pseudo_ssa.specs.declared.Webs.{Webs}
 use Rattle.pseudo_ssa.specs.declared.Webs.the-variants.{Accepted, Refused}
 use Rattle.pseudo_ssa.specs.Answers.{answer-of, lent, called}
 use Rattle.splits.specs.declared.call.Splits.{Splits}
-use Rattle.splits.specs.declared.call.Splits.the-variants.{Written, Refused as Unwritten}
+use Rattle.splits.specs.declared.call.Splits.the-variants.{Written as Split, Refused as Unwritten}
 use Rattle.splits.specs.Call.{answer-of as split-answer-of, lent as split-lent, called as split-called}
 use Rattle.choose.specs.declared.Choice.{Choice}
 use Rattle.choose.specs.declared.Choice.the-variants.{ByWebs, BySplits, Refused as Unchosen}
 use Rattle.choose.specs.Choices.{answer-of as choice-answer-of, called as choice-called}
 use Rattle.recover_loops.specs.declared.Answer.{Answer as Said}
 use Rattle.recover_loops.specs.Answers.{answered, passed-with}
-use Rattle.javrenzu_calls.specs.Crossing.{refusal-number, sweeps-of, choice-of, chosen-sweeps, counts-of}
+use Rattle.write.specs.Holds.{columns}
+use Rattle.json_definitions.specs.JsonCalls.{Written}
+use Rattle.json_read.specs.declared.Answer.{Answer as Reading}
+use Rattle.json_read.specs.Answers.{answer-of as read-answer, called as read-called}
+use Rattle.json_write.specs.declared.Answer.{Answer as Writing}
+use Rattle.json_write.specs.Answers.{answer-of as write-answer, written}
+use Rattle.javrenzu_calls.specs.Crossing.{refusal-number, number-of, choice-of, chosen-sweeps, counts-of}
 
 module _ (W : Called ℕ) (a : Webs) (ns ms ws : List ℕ) (equation : called a ns ms ws ≡ W) where
   answer : answer-of a ≡ W .answer
@@ -29,12 +36,12 @@ module _ (W : Called ℕ) (a : Webs) (ns ms ws : List ℕ) (equation : called a 
   words : lent ns ms ws ≡ W .lent
   words = ap (λ (c : Called ℕ). c .lent) equation
 
-  pub accepted-crossed : (s : ℕ) → a ≡ Accepted s → (0 ≡ refusal-number (W .answer)) × ((s ≡ sweeps-of (W .answer)) × (lent ns ms ws ≡ W .lent))
-  unfolding refusal-number sweeps-of
+  pub accepted-crossed : (s : ℕ) → a ≡ Accepted s → (0 ≡ refusal-number (W .answer)) × ((s ≡ number-of (W .answer)) × (lent ns ms ws ≡ W .lent))
+  unfolding refusal-number number-of
   accepted-crossed s e = rw (← answer, e) (refl, (refl, words))
 
-  pub refused-crossed : (n : ℕ) → a ≡ Refused n → (n ≡ refusal-number (W .answer)) × ((0 ≡ sweeps-of (W .answer)) × (lent ns ms ws ≡ W .lent))
-  unfolding refusal-number sweeps-of
+  pub refused-crossed : (n : ℕ) → a ≡ Refused n → (n ≡ refusal-number (W .answer)) × ((0 ≡ number-of (W .answer)) × (lent ns ms ws ≡ W .lent))
+  unfolding refusal-number number-of
   refused-crossed n e = rw (← answer, e) (refl, (refl, words))
 
 module _ (S : Called (Unit {0})) (a : Splits) (ns ms : List ℕ) (equation : split-called a ns ms ≡ S) where
@@ -44,7 +51,7 @@ module _ (S : Called (Unit {0})) (a : Splits) (ns ms : List ℕ) (equation : spl
   split-answer : split-answer-of a ≡ S .answer
   split-answer = ap (λ (c : Called (Unit {0})). c .answer) equation
 
-  pub written-crossed : a ≡ Written → (0 ≡ refusal-number (S .answer)) × (split-lent ns ms ≡ S .lent)
+  pub written-crossed : a ≡ Split → (0 ≡ refusal-number (S .answer)) × (split-lent ns ms ≡ S .lent)
   unfolding refusal-number
   written-crossed e = rw (← split-answer, e) (refl, split-words)
 
@@ -79,3 +86,15 @@ module _ (P : Passed) (a b : Said) (out : Columns) (equation : passed-with a out
   pass-crossed =
       let e : answered b ≡ P .answer = ap answered (sym known) ∙ ap (λ (p : Passed). p .answer) equation in
       (ap refusal-number e, (ap counts-of e, ap (λ (p : Passed). p .out) equation))
+
+module _ (P : Passed) (a b : Reading) (l d t x : List ℕ) (equation : read-called a l d t x ≡ P) (known : a ≡ b) where
+  pub read-crossed : (refusal-number (read-answer b) ≡ refusal-number (P .answer)) × ((counts-of (read-answer b) ≡ counts-of (P .answer)) × (columns l d t x ≡ P .out))
+  read-crossed =
+      let e : read-answer b ≡ P .answer = ap read-answer (sym known) ∙ ap (λ (p : Passed). p .answer) equation in
+      (ap refusal-number e, (ap counts-of e, ap (λ (p : Passed). p .out) equation))
+
+module _ (W : Written) (a b : Writing) (out : List ℕ) (equation : written a out ≡ W) (known : a ≡ b) where
+  pub write-crossed : (refusal-number (write-answer b) ≡ refusal-number (W .answer)) × ((number-of (write-answer b) ≡ number-of (W .answer)) × (out ≡ W .out))
+  write-crossed =
+      let e : write-answer b ≡ W .answer = ap write-answer (sym known) ∙ ap (λ (w : Written). w .answer) equation in
+      (ap refusal-number e, (ap number-of e, ap (λ (w : Written). w .out) equation))

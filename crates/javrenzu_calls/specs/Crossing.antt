@@ -1,6 +1,6 @@
 -- Answers as numbers.
 --   refusal-number a    the number of the refusal, 0 where there is none
---   sweeps-of a         the total of sweeps, 0 on refusal
+--   number-of a         the number that is answered, 0 on refusal
 --   choice-of a         1 for webs, 2 for splits, 0 on refusal
 --   chosen-sweeps a     the total of sweeps of webs, else 0
 --   counts n k b        counts of lines, tokens and bytes
@@ -15,9 +15,9 @@ unfoldable pub refusal-number : {A : Type 0} → Answer A → ℕ
 refusal-number (refused n) = n
 refusal-number (accepted r) = 0
 
-unfoldable pub sweeps-of : Answer ℕ → ℕ
-sweeps-of (refused n) = 0
-sweeps-of (accepted s) = s
+unfoldable pub number-of : Answer ℕ → ℕ
+number-of (refused n) = 0
+number-of (accepted s) = s
 
 unfoldable pub choice-of : Answer Chosen → ℕ
 choice-of (refused n) = 0

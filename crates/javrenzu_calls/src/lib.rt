@@ -1,15 +1,19 @@
 // The public calls for C and Rust. An enum does not cross, so a call answers the number of its refusal, 0 where it accepts, and its other
 // value through a reference.
 //
-// Contracts cite `web-call`, `split-call`, `choose-call` and `pass-call` of Rattle.definitions.specs.Calls.
+// Contracts cite `web-call`, `split-call`, `choose-call` and `pass-call` of Rattle.definitions.specs.Calls,
+// `read-call` and `write-call` of Rattle.json_definitions.specs.JsonCalls.
 ghost use mathlib.Core.Path.{_≡_};
 ghost use Rattle.definitions.specs.Calls.{web-call, split-call, choose-call, pass-call};
 ghost use Rattle.definitions.specs.Answers.{loops};
 ghost use Rattle.pseudo_ssa.specs.Answers.{lent};
-ghost use Rattle.javrenzu_calls.specs.Crossing.{refusal-number, sweeps-of, choice-of, chosen-sweeps, counts, counts-of};
+ghost use Rattle.javrenzu_calls.specs.Crossing.{refusal-number, number-of, choice-of, chosen-sweeps, counts, counts-of};
 ghost use Rattle.write.specs.Holds.{columns};
 ghost use Rattle.splits.specs.Call.{lent as split-lent};
+ghost use Rattle.json_definitions.specs.JsonCalls.{read-call, write-call};
 use choose::Choice;
+use json_read::Answer as Reading;
+use json_write::Answer as Writing;
 use pseudo_ssa::Webs;
 use recover_loops::Answer;
 use splits::call::Splits;
@@ -26,7 +30,7 @@ pub extern "C" fn javrenzu_webs(
     sweeps: &mut usize,
 ) -> usize
     ensures { λ n. ⌜ n ≡ refusal-number (web-call (now (lines .entry)) (now (tokens .entry)) (now (text .entry)) (lent (now (numbers .entry)) (now (marks .entry)) (now (space .entry))) .answer) ⌝ }
-    ensures { λ n. ⌜ now (sweeps .exit) ≡ sweeps-of (web-call (now (lines .entry)) (now (tokens .entry)) (now (text .entry)) (lent (now (numbers .entry)) (now (marks .entry)) (now (space .entry))) .answer) ⌝ }
+    ensures { λ n. ⌜ now (sweeps .exit) ≡ number-of (web-call (now (lines .entry)) (now (tokens .entry)) (now (text .entry)) (lent (now (numbers .entry)) (now (marks .entry)) (now (space .entry))) .answer) ⌝ }
     ensures { λ n. ⌜ lent (now (numbers .exit)) (now (marks .exit)) (now (space .exit)) ≡ web-call (now (lines .entry)) (now (tokens .entry)) (now (text .entry)) (lent (now (numbers .entry)) (now (marks .entry)) (now (space .entry))) .lent ⌝ }
 {
     match pseudo_ssa::recover(lines, tokens, text, numbers, marks, space) {
@@ -128,5 +132,61 @@ pub extern "C" fn javrenzu_recover_loops(
         Answer::NotUtf8 => 3,
         Answer::NoRoom => 4,
         Answer::Overflow => 6,
+    }
+}
+
+// The JSON reader. The counts of lines, tokens and bytes are 0 on refusal.
+#[no_mangle]
+pub extern "C" fn javrenzu_read_json(
+    json: &[u8],
+    lines: &mut [u32],
+    addresses: &mut [u64],
+    tokens: &mut [u32],
+    text: &mut [u8],
+    nlines: &mut usize,
+    ntokens: &mut usize,
+    nbytes: &mut usize,
+) -> usize
+    ensures { λ n. ⌜ n ≡ refusal-number (read-call (now (json .entry)) (columns (now (lines .entry)) (now (addresses .entry)) (now (tokens .entry)) (now (text .entry))) .answer) ⌝ }
+    ensures { λ n. ⌜ counts (now (nlines .exit)) (now (ntokens .exit)) (now (nbytes .exit)) ≡ counts-of (read-call (now (json .entry)) (columns (now (lines .entry)) (now (addresses .entry)) (now (tokens .entry)) (now (text .entry))) .answer) ⌝ }
+    ensures { λ n. ⌜ columns (now (lines .exit)) (now (addresses .exit)) (now (tokens .exit)) (now (text .exit)) ≡ read-call (now (json .entry)) (columns (now (lines .entry)) (now (addresses .entry)) (now (tokens .entry)) (now (text .entry))) .out ⌝ }
+{
+    *nlines = 0;
+    *ntokens = 0;
+    *nbytes = 0;
+    match json_read::read_json(json, lines, addresses, tokens, text) {
+        Reading::Accepted(n, k, b) => {
+            *nlines = n;
+            *ntokens = k;
+            *nbytes = b;
+            0
+        }
+        Reading::Refused => 10,
+    }
+}
+
+// The JSON writer. The length of the text is 0 on refusal.
+#[no_mangle]
+pub extern "C" fn javrenzu_write_json(
+    lines: &[u32],
+    addresses: &[u64],
+    tokens: &[u32],
+    text: &[u8],
+    json: &mut [u8],
+    nbytes: &mut usize,
+) -> usize
+    ensures { λ n. ⌜ n ≡ refusal-number (write-call (columns (now (lines .entry)) (now (addresses .entry)) (now (tokens .entry)) (now (text .entry))) (now (json .entry)) .answer) ⌝ }
+    ensures { λ n. ⌜ now (nbytes .exit) ≡ number-of (write-call (columns (now (lines .entry)) (now (addresses .entry)) (now (tokens .entry)) (now (text .entry))) (now (json .entry)) .answer) ⌝ }
+    ensures { λ n. ⌜ now (json .exit) ≡ write-call (columns (now (lines .entry)) (now (addresses .entry)) (now (tokens .entry)) (now (text .entry))) (now (json .entry)) .out ⌝ }
+{
+    match json_write::write_json(lines, addresses, tokens, text, json) {
+        Writing::Accepted(b) => {
+            *nbytes = b;
+            0
+        }
+        Writing::Refused(number) => {
+            *nbytes = 0;
+            number
+        }
     }
 }
