@@ -60,14 +60,19 @@ fn questions() {
     }
 }
 
+/// The first plausible listing of about so many lines that the web call accepts.
+fn accepted(lines: usize) -> Vec<PseudoLine> {
+    let accepts = |l: &Vec<PseudoLine>| l.len() <= 1_024 && answers::recover(l);
+    (1..).map(|seed| plausible(seed, lines)).find(accepts).expect("some listing is accepted")
+}
+
 /// What the web call is timed on.
 fn webs_listings() -> Vec<(&'static str, Vec<PseudoLine>)> {
     let full = |index| listing(Kind::Full, 1, index);
     vec![
-        ("plausible", plausible(3, 20)),
-        ("plausible", plausible(1, 200)),
-        ("plausible", plausible(2, 800)),
-        ("plausible, widened", full(0)),
+        ("plausible", accepted(10)),
+        ("plausible", accepted(180)),
+        ("plausible", accepted(850)),
         ("hundreds of families", full(2)),
         ("deep nesting with breaks", full(3)),
         ("hundreds of gotos", full(4)),
@@ -97,9 +102,9 @@ fn webs() {
 /// What the split call is timed on.
 fn splits_listings() -> Vec<(&'static str, Vec<PseudoLine>)> {
     vec![
-        ("plausible", plausible(3, 20)),
-        ("plausible", plausible(1, 200)),
-        ("plausible", plausible(2, 800)),
+        ("plausible", accepted(10)),
+        ("plausible", accepted(180)),
+        ("plausible", accepted(850)),
         ("hundreds of gotos, most definitions crossed", listing(Kind::Full, 1, 4)),
         ("hundreds of families", listing(Kind::Full, 1, 2)),
     ]
