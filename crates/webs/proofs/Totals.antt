@@ -147,5 +147,3 @@ module _ (l t x table ds : List ℕ) (count r budget : ℕ) (K : Known l t x tab
 
         size : length preds ≡ length L
         size = preds-size l t x r space₀
-
-pub ruleset total-rules = (going-start, going-next, going-over, going-end)

@@ -64,9 +64,6 @@ module _ (l t x table ds : List ℕ) (count : ℕ) (N : Numbered (listing l t x)
 -- No family is done
 
 module _ (l t x : List ℕ) (r : ℕ) (space ms : List ℕ) (ok : covers 512 0 l (length t) ≡ true) (two : 2 ≤ length l) (few : length l ≤ 1024) where
-  abbrev webs : List Webs
-  webs = webs-over (listing l t x) (preds-of (length l) r space)
-
   pos : 0 < length (listing l t x)
   pos = omega (arith, length-listing l t x)
 
