@@ -68,6 +68,11 @@ pub fn choose(lines: &[PseudoLine]) -> Choice {
     choice
 }
 
+/// `Seg` of the split points by itself, for its cost; whether it is that.
+pub fn split_points(lines: &[PseudoLine]) -> bool {
+    matches!(Seg::new(lines, false), Seg::Old(_))
+}
+
 /// The name of a token's register family.
 pub fn family_name(token: &Token) -> Option<String> {
     fam_of(token).map(|(family, _)| family)

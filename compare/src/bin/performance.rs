@@ -4,7 +4,7 @@ use std::hint::black_box;
 use std::time::Instant;
 
 use javrenzu::{working_space, Listing};
-use oracle::columns::encode;
+use oracle::columns::{encode, Columns};
 use oracle::generate::{creeping_back, listing, plausible, Kind};
 use oracle::pseudo::PseudoLine;
 use oracle::{answers, sweeps};
@@ -83,19 +83,35 @@ fn webs_listings() -> Vec<(&'static str, Vec<PseudoLine>)> {
     ]
 }
 
+fn listing_of(c: &Columns) -> Listing<'_> {
+    Listing { lines: &c.lines, tokens: &c.tokens, text: &c.text }
+}
+
+/// One number and one mark for each token.
+fn outputs(c: &Columns) -> (Vec<u32>, Vec<u8>) {
+    (vec![0; c.tokens.len()], vec![0; c.tokens.len()])
+}
+
+/// A row of a table: a listing, its sizes, and other columns.
+fn row(name: &str, c: &Columns, others: &[String]) {
+    println!("| {name} | {} | {} | {} | {} |", c.lines.len(), c.tokens.len(), c.text.len(), others.join(" | "));
+}
+
+fn microseconds(nanoseconds: f64) -> String {
+    format!("{:.1}", nanoseconds / 1e3)
+}
+
 fn webs() {
     println!("\n## The web call\n\nThe library's call with all its questions and per-token answers, beside the original's `recover` alone.\n");
     println!("| listing | lines | tokens | bytes | sweeps | library, µs | original, µs | times faster |");
     println!("|---|---|---|---|---|---|---|---|");
     for (name, lines) in webs_listings() {
         let c = encode(&lines);
-        let (mut numbers, mut marks) = (vec![0; c.tokens.len()], vec![0; c.tokens.len()]);
+        let (mut numbers, mut marks) = outputs(&c);
         let mut space = vec![0; working_space(c.lines.len())];
-        let listing = Listing { lines: &c.lines, tokens: &c.tokens, text: &c.text };
-        let own = nanoseconds(|| _ = black_box(javrenzu::webs(listing, &mut numbers, &mut marks, &mut space)));
+        let own = nanoseconds(|| _ = black_box(javrenzu::webs(listing_of(&c), &mut numbers, &mut marks, &mut space)));
         let rust = nanoseconds(|| _ = black_box(answers::recover(&lines)));
-        let sizes = format!("{} | {} | {} | {}", c.lines.len(), c.tokens.len(), c.text.len(), sweeps(&lines));
-        println!("| {name} | {sizes} | {:.1} | {:.1} | {:.1} |", own / 1e3, rust / 1e3, rust / own);
+        row(name, &c, &[sweeps(&lines).to_string(), microseconds(own), microseconds(rust), format!("{:.1}", rust / own)]);
     }
 }
 
@@ -111,17 +127,17 @@ fn splits_listings() -> Vec<(&'static str, Vec<PseudoLine>)> {
 }
 
 fn splits() {
-    println!("\n## The split call\n\nThe library's call with its questions, beside the original's `Seg` with the key and the mark of every token.\n");
-    println!("| listing | lines | tokens | bytes | library, µs | original, µs | times faster |");
-    println!("|---|---|---|---|---|---|---|");
+    println!("\n## The split call\n\nThe library's call with its questions and per-token answers, beside the original's `Seg` alone, which answers no token yet, and with the key and the mark of every token.\n");
+    println!("| listing | lines | tokens | bytes | library, µs | `Seg` alone, µs | times faster | with every token, µs | times faster |");
+    println!("|---|---|---|---|---|---|---|---|---|");
     for (name, lines) in splits_listings() {
         let c = encode(&lines);
-        let (mut numbers, mut marks) = (vec![0; c.tokens.len()], vec![0; c.tokens.len()]);
-        let listing = Listing { lines: &c.lines, tokens: &c.tokens, text: &c.text };
-        let own = nanoseconds(|| _ = black_box(javrenzu::splits(listing, &mut numbers, &mut marks)));
-        let rust = nanoseconds(|| _ = black_box(answers::splits(&lines)));
-        let sizes = format!("{} | {} | {}", c.lines.len(), c.tokens.len(), c.text.len());
-        println!("| {name} | {sizes} | {:.1} | {:.1} | {:.1} |", own / 1e3, rust / 1e3, rust / own);
+        let (mut numbers, mut marks) = outputs(&c);
+        let own = nanoseconds(|| _ = black_box(javrenzu::splits(listing_of(&c), &mut numbers, &mut marks)));
+        let alone = nanoseconds(|| _ = black_box(answers::split_points(&lines)));
+        let all = nanoseconds(|| _ = black_box(answers::splits(&lines)));
+        let times = |rust: f64| format!("{:.1}", rust / own);
+        row(name, &c, &[microseconds(own), microseconds(alone), times(alone), microseconds(all), times(all)]);
     }
 }
 
