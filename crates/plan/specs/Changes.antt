@@ -7,13 +7,17 @@
 --   with-for ws w e k   the header at w made a for header, the body being closed at e and the initialiser at k
 --   is-loop w           the header is over its guard, and its initialiser and step are lines as they are
 --   is-plain w          so is the word's own piece
+--   is-line w           the word is no header
+--   is-goto w           it is no header, or one whose condition is 1 or a leading test
+--   Ahead i ws          all words are such, and from place i on none is a header
 -- Assumes nothing.
 use Prim.Native.Nat.{ℕ, suc, _+_, _-_, _*_, _/_, _%_}
-use mathlib.Core.Bool.{Bool, _&&_}
+use mathlib.Core.Path.{_≡_}
+use mathlib.Core.Bool.{Bool, true, _&&_, _||_}
 use mathlib.Core.List.{List, [], _∷_}
-use lib.Dec.{eqb, ltb}
-use lib.ListN.{getD, set}
-use Rattle.definitions.specs.Lists.{remove}
+use lib.Dec.{eqb, leb, ltb}
+use lib.ListN.{getD, set, drop}
+use Rattle.definitions.specs.Lists.{all, remove}
 use Rattle.plan.specs.Plan.{indent-at, header-at, piece-at, test-at, initialiser-at, step-at, word}
 
 unfoldable pub kept-words : ℕ → List ℕ → List ℕ
@@ -42,3 +46,15 @@ is-loop w = eqb (header-at w / 2 % 2) 0 && (eqb (initialiser-at w % 4) 0 && eqb 
 
 abbrev pub is-plain : ℕ → Bool
 is-plain w = eqb (piece-at w % 4) 0 && is-loop w
+
+-- Words of `recover_goto_loops`: pieces of every form, and no header over a guard.
+
+abbrev pub is-line : ℕ → Bool
+is-line w = eqb (header-at w) 0
+
+abbrev pub is-goto : ℕ → Bool
+is-goto w = is-line w || leb 2 (header-at w % 4)
+
+pub record Ahead (i : ℕ) (ws : List ℕ) : Type 0 where
+  pub words : all is-goto ws ≡ true
+  pub lines : all is-line (drop i ws) ≡ true
