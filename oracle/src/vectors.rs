@@ -2,27 +2,34 @@
 //!
 //! A row is decimal numbers: the call, then for each of the columns lines, addresses, tokens and text its count and its words.
 
-use crate::answers::{self, Webs};
+use crate::answers::{self, Choice, Webs};
 use crate::columns::{decode, encode, Columns};
 use crate::notation::listing;
-use crate::questions::{refuse_choose, working_space, Lent, LentEntries, MAX_LINES};
+use crate::passes::{self, Pass};
+use crate::questions::{refuse_choose, refuse_pass, refuse_splits, working_space, Lent, LentEntries, MAX_LINES};
 
 /// The calls; each stands in a row as its number.
 #[derive(Debug, Clone, Copy, PartialEq, Eq)]
 pub enum Call {
     Webs = 1,
+    Splits = 2,
+    Choose = 3,
+    RecoverLoops = 4,
 }
 
-pub const CALLS: [Call; 1] = [Call::Webs];
+pub const CALLS: [Call; 4] = [Call::Webs, Call::Splits, Call::Choose, Call::RecoverLoops];
 
 /// The longest columns that the program reads.
 const ROOM: Lent = Lent { lines: MAX_LINES + 1, addresses: MAX_LINES + 1, tokens: 512, text: 4_096 };
 
-/// The outputs that the program lends to the web call.
+/// The outputs that the program lends to the calls that number tokens.
 const ENTRIES: LentEntries = LentEntries { numbers: 256, marks: 256 };
 
 /// The working space that it lends is that of so many lines.
 const SPACE_LINES: usize = 64;
+
+/// The outputs that it lends to a pass.
+const DESTINATION: Lent = Lent { lines: 64, addresses: 64, tokens: 1_024, text: 6_144 };
 
 /// The row of a call: a line for the call, and one for each column.
 pub fn row(call: Call, c: &Columns) -> String {
@@ -44,18 +51,48 @@ pub fn answer(call: Call, c: &Columns) -> String {
     if c.lines.len() > ROOM.lines || c.addresses.len() > ROOM.addresses || c.tokens.len() > ROOM.tokens || c.text.len() > ROOM.text {
         return "too large".to_string();
     }
-    match call {
+    let answer = match call {
         Call::Webs => webs(c),
-    }
+        Call::Splits => splits(c),
+        Call::Choose => choose(c),
+        Call::RecoverLoops => pass(c, Pass::Loops),
+    };
+    answer.unwrap_or_else(|number| format!("refused {number}"))
 }
 
-/// `SWEEPS: NUMBERS; MARKS`, or `refused QUESTION`.
-fn webs(c: &Columns) -> String {
-    let webs = match refuse_choose(c, ENTRIES, working_space(SPACE_LINES)) {
-        Some(number) => Err(number),
-        None => answers::webs(&decode(c)),
-    };
-    webs.map_or_else(|number| format!("refused {number}"), |w| entries(&w))
+/// The answer of a call, or the number of its refusal.
+type Answer = Result<String, u8>;
+
+fn asked(refusal: Option<u8>) -> Result<(), u8> {
+    refusal.map_or(Ok(()), Err)
+}
+
+/// `SWEEPS: NUMBERS; MARKS`.
+fn webs(c: &Columns) -> Answer {
+    asked(refuse_choose(c, ENTRIES, working_space(SPACE_LINES)))?;
+    answers::webs(&decode(c)).map(|w| entries(&w))
+}
+
+/// `splits 0: NUMBERS; MARKS`.
+fn splits(c: &Columns) -> Answer {
+    asked(refuse_splits(c, ENTRIES))?;
+    Ok(format!("splits {}", entries(&answers::splits(&decode(c)))))
+}
+
+/// `webs SWEEPS: NUMBERS; MARKS`, or as `splits`.
+fn choose(c: &Columns) -> Answer {
+    asked(refuse_choose(c, ENTRIES, working_space(SPACE_LINES)))?;
+    Ok(match answers::choose(&decode(c)) {
+        Choice::Webs(w) => format!("webs {}", entries(&w)),
+        Choice::Splits(w) => format!("splits {}", entries(&w)),
+    })
+}
+
+/// `lines LINES; ADDRESSES; TOKENS; TEXT`.
+fn pass(c: &Columns, pass: Pass) -> Answer {
+    asked(refuse_pass(c, DESTINATION, pass))?;
+    let out = encode(&passes::run(pass, &decode(c)).expect("question 6 was asked"));
+    Ok(format!("lines{};{};{};{}", words(&out.lines), words(&out.addresses), words(&out.tokens), words(&out.text)))
 }
 
 fn entries(w: &Webs) -> String {

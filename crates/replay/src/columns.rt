@@ -162,3 +162,7 @@ pub fn read_listing(
 pub fn first(words: &[u32], n: usize) -> &[u32] {
     if n <= words.len() { &words[..n] } else { words }
 }
+
+pub fn first64(words: &[u64], n: usize) -> &[u64] {
+    if n <= words.len() { &words[..n] } else { words }
+}

@@ -1,11 +1,14 @@
 // Replays a fixed list of calls, given on standard input in decimal numbers, and prints what each answers.
 //
 // `stdout` has what the original Rust answers. `tools/vectors` makes both files.
+mod choose_call;
 mod columns;
 mod decimal;
+mod loops_call;
 mod print;
 mod rows;
-mod webs;
+mod split_call;
+mod web_call;
 
 fn main() {
     let mut input = [0u8; 524288];

@@ -27,6 +27,14 @@ fn words(xs: &[u32]) {
     }
 }
 
+fn words64(xs: &[u64]) {
+    let mut i = 0;
+    while i < xs.len() {
+        spaced(xs[i]);
+        i += 1;
+    }
+}
+
 fn bytes(xs: &[u8]) {
     let mut i = 0;
     while i < xs.len() {
@@ -49,5 +57,18 @@ pub fn entries(sweeps: usize, numbers: &[u32], marks: &[u8]) {
     words(numbers);
     text(b";");
     bytes(marks);
+    text(b"\n");
+}
+
+// `LINES; ADDRESSES; TOKENS; TEXT`.
+pub fn listing(lines: &[u32], addresses: &[u64], tokens: &[u32], bytes_of: &[u8]) {
+    text(b"lines");
+    words(lines);
+    text(b";");
+    words64(addresses);
+    text(b";");
+    words(tokens);
+    text(b";");
+    bytes(bytes_of);
     text(b"\n");
 }

@@ -7,7 +7,6 @@ use crate::columns::Sizes;
 use crate::decimal;
 use crate::decimal::Found;
 use crate::print;
-use crate::webs;
 
 pub enum Row {
     // The place of the next row.
@@ -15,9 +14,21 @@ pub enum Row {
     Bad,
 }
 
-// Makes the call and prints its answer, or that there is no room for its listing. Whether there is such a call.
+// Makes the call and prints its answer. Whether there is such a call.
+fn call(which: u64, lines: &[u32], addresses: &[u64], tokens: &[u32], text: &[u8]) -> bool {
+    match which {
+        1 => crate::web_call::answer(lines, tokens, text),
+        2 => crate::split_call::answer(lines, tokens, text),
+        3 => crate::choose_call::answer(lines, tokens, text),
+        4 => crate::loops_call::answer(lines, addresses, tokens, text),
+        _ => return false,
+    }
+    true
+}
+
+// The same, or prints that there is no room for its listing.
 fn answer(
-    call: u64,
+    which: u64,
     n: Sizes,
     lines: &[u32],
     addresses: &[u64],
@@ -32,17 +43,13 @@ fn answer(
         print::text(b"too large\n");
         return true;
     }
-    match call {
-        1 => {
-            webs::answer(
-                columns::first(lines, n.lines),
-                columns::first(tokens, n.tokens),
-                text::part(text, 0, n.text),
-            );
-            true
-        }
-        _ => false,
-    }
+    call(
+        which,
+        columns::first(lines, n.lines),
+        columns::first64(addresses, n.addresses),
+        columns::first(tokens, n.tokens),
+        text::part(text, 0, n.text),
+    )
 }
 
 // Reads a row and answers it.

@@ -1,16 +1,9 @@
 -- `replay::columns::first` is safe.
 -- Assumes nothing.
-use mathlib.Core.Path.{_≡_}
-use mathlib.Core.List.{List}
-use Prim.Native.Nat.{ℕ, _≤_}
-use native.Mathlib.Omega.{arith}
-use lib.ListN.{length, take, length-take}
 use borrow.Author.Needs.{needs}
+use Rattle.replay.proofs.Parts.{count-take}
 use Rattle.replay.proofs.columns.first.Statement.{statement}
 use Rattle.replay.proofs.columns.first.Tie as tie
-
-count-take : (n : ℕ) (xs : List ℕ) → n ≤ length xs → n ≡ length (take n xs)
-count-take n xs h = rw length-take (omega arith)
 
 slice-aggregate-result : tie.Need-slice-aggregate-result
 slice-aggregate-result c = search (count-take, needs)

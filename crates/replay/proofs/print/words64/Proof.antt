@@ -1,0 +1,52 @@
+-- `replay::print::words64` is safe and ends.
+-- Assumes nothing.
+use Prim.Native.Nat.{_-_}
+use lib.ListN.{length}
+use borrow.Author.Needs.{needs}
+use Rattle.replay.proofs.print.words64.Statement.{statement}
+use Rattle.replay.proofs.print.words64.Tie as tie
+
+abbrev Inv-loop : tie.InvT-loop
+Inv-loop xs i₀ i = Unit {0}
+
+abbrev μ-loop : tie.MeasureT-loop
+μ-loop xs i₀ i = length xs - i
+
+loop-holds : tie.Need-loop-holds Inv-loop μ-loop
+loop-holds c = search needs
+
+mul-spaced : tie.Need-mul-spaced Inv-loop μ-loop
+mul-spaced c = search needs
+
+shared-slice-read-spaced : tie.Need-shared-slice-read-spaced Inv-loop μ-loop
+shared-slice-read-spaced c = search needs
+
+spaced-requires : tie.Need-spaced-requires Inv-loop μ-loop
+spaced-requires c κs = search needs
+
+add-i : tie.Need-add-i Inv-loop μ-loop
+add-i c = search needs
+
+loop-less : tie.Need-loop-less Inv-loop μ-loop
+loop-less c = search needs
+
+loop-again : tie.Need-loop-again Inv-loop μ-loop
+loop-again c = search needs
+
+returns : tie.Need-returns Inv-loop μ-loop
+returns c = search needs
+
+pub words64-spec : {M : Type 1} → statement M
+words64-spec =
+    tie.close
+    (tie.spec
+    Inv-loop
+    μ-loop
+    loop-holds
+    mul-spaced
+    shared-slice-read-spaced
+    spaced-requires
+    add-i
+    loop-less
+    loop-again
+    returns)
