@@ -52,6 +52,11 @@ pub fn recover(lines: &[PseudoLine]) -> bool {
     pseudo_ssa::recover(lines).is_some()
 }
 
+/// The original's numbers and marks of every token, for their cost.
+pub fn numbered(lines: &[PseudoLine]) -> Webs {
+    entries(lines, &Seg::new(lines, true), 0)
+}
+
 /// The splits; sweeps are 0.
 pub fn splits(lines: &[PseudoLine]) -> Webs {
     entries(lines, &Seg::new(lines, false), 0)

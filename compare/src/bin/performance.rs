@@ -3,10 +3,11 @@
 use std::hint::black_box;
 use std::time::Instant;
 
-use javrenzu::{working_space, Listing};
+use javrenzu::{working_space, Destination, Listing};
 use oracle::columns::{encode, Columns};
 use oracle::generate::{creeping_back, listing, plausible, Kind};
 use oracle::pseudo::PseudoLine;
+use oracle::passes::{run, Pass};
 use oracle::{answers, sweeps};
 
 extern "C" {
@@ -102,16 +103,18 @@ fn microseconds(nanoseconds: f64) -> String {
 }
 
 fn webs() {
-    println!("\n## The web call\n\nThe library's call with all its questions and per-token answers, beside the original's `recover` alone.\n");
-    println!("| listing | lines | tokens | bytes | sweeps | library, µs | original, µs | times faster |");
-    println!("|---|---|---|---|---|---|---|---|");
+    println!("\n## The web call\n\nThe library's call with its questions and per-token answers, beside the original's `recover` alone, which answers no token yet, and with the key and the mark of every token.\n");
+    println!("| listing | lines | tokens | bytes | sweeps | library, µs | `recover` alone, µs | times faster | with every token, µs | times faster |");
+    println!("|---|---|---|---|---|---|---|---|---|---|");
     for (name, lines) in webs_listings() {
         let c = encode(&lines);
         let (mut numbers, mut marks) = outputs(&c);
         let mut space = vec![0; working_space(c.lines.len())];
         let own = nanoseconds(|| _ = black_box(javrenzu::webs(listing_of(&c), &mut numbers, &mut marks, &mut space)));
-        let rust = nanoseconds(|| _ = black_box(answers::recover(&lines)));
-        row(name, &c, &[sweeps(&lines).to_string(), microseconds(own), microseconds(rust), format!("{:.1}", rust / own)]);
+        let alone = nanoseconds(|| _ = black_box(answers::recover(&lines)));
+        let all = nanoseconds(|| _ = black_box(answers::numbered(&lines)));
+        let times = |rust: f64| format!("{:.1}", rust / own);
+        row(name, &c, &[sweeps(&lines).to_string(), microseconds(own), microseconds(alone), times(alone), microseconds(all), times(all)]);
     }
 }
 
@@ -141,9 +144,45 @@ fn splits() {
     }
 }
 
+/// What the loop passes are timed on.
+fn passes_listings() -> Vec<(&'static str, Vec<PseudoLine>)> {
+    let full = |index| listing(Kind::Full, 1, index);
+    vec![
+        ("plausible", plausible(1, 10)),
+        ("plausible", plausible(1, 180)),
+        ("plausible", plausible(1, 850)),
+        ("262,143 bytes of text", full(0)),
+        ("hundreds of labels and gotos", full(4)),
+        ("hundreds of guarded loops", full(6)),
+        ("hundreds of label and goto loops", full(7)),
+        ("deep nests of labels", full(8)),
+    ]
+}
+
+fn passes() {
+    println!("\n## The loop passes\n\nThe library's calls with their questions, each leaving its input and writing the whole listing anew, beside the original on a copy of its lines, which it edits in place, and beside it without the time of the copy.\n");
+    println!("| listing | lines | tokens | bytes | `recover_loops`, library, µs | original, µs | times faster | without the copy, µs | times faster |");
+    println!("|---|---|---|---|---|---|---|---|---|");
+    for (name, lines) in passes_listings() {
+        let c = encode(&lines);
+        let n = c.lines.len();
+        let (mut rows, mut places) = (vec![0; n], vec![0; n]);
+        let (mut words, mut bytes) = (vec![0; c.tokens.len() + 8 * n], vec![0; c.text.len() + 32 * n]);
+        let own = nanoseconds(|| {
+            let out = Destination { lines: &mut rows, addresses: &mut places, tokens: &mut words, text: &mut bytes };
+            _ = black_box(javrenzu::recover_loops(listing_of(&c), &c.addresses, out));
+        });
+        let copy = nanoseconds(|| _ = black_box(lines.to_vec()));
+        let all = nanoseconds(|| _ = black_box(run(Pass::Loops, &lines)));
+        let times = |rust: f64| format!("{:.1}", rust / own);
+        row(name, &c, &[microseconds(own), microseconds(all), times(all), microseconds(all - copy), times(all - copy)]);
+    }
+}
+
 fn main() {
     println!("# Performance\n\nMade by `tools/performance`: the proved library beside the original Rust, one run, both optimised.\n");
     questions();
     webs();
     splits();
+    passes();
 }

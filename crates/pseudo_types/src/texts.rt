@@ -13,7 +13,7 @@ ghost use Rattle.model.specs.Places.{token-start};
 ghost use Rattle.pseudo_types.specs.Cuts.{text-from};
 
 // The first byte of token k of all.
-fn token_start(tokens: &[u32], k: usize) -> usize
+pub fn token_start(tokens: &[u32], k: usize) -> usize
     ensures { λ r. ⌜ r ≡ token-start (now (tokens .entry)) k ⌝ }
 {
     if k == 0 {
