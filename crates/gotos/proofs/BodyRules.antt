@@ -2,6 +2,7 @@
 --   form-none, form-continue, form-break, form-other, form-stays    what a piece becomes
 --   word-of                     the word of a body line
 --   Rewriting, rewriting        the loop over the body
+--   word-parts                  the parts of the word of a line without a header
 --   body-line                   the word stands for the line that `jump` gives, moved in by one
 -- Assumes nothing.
 use Prim.Native.Nat.{ℕ, zero, suc, _+_, _-_, _*_, _/_, _%_, _≤_, _<_}
@@ -128,7 +129,7 @@ pub ruleset rewriting = (rewriting-start, rewriting-next, rewriting-beyond, rewr
 -- What the words stand for
 
 -- the word of a line without a header
-word-parts : (i p : ℕ) → i < 256 → p < 4096 → (header-at (i + 2048 * p) ≡ 0) × (indent-at (i + 2048 * p) ≡ i) × (piece-at (i + 2048 * p) ≡ p)
+pub word-parts : (i p : ℕ) → i < 256 → p < 4096 → (header-at (i + 2048 * p) ≡ 0) × (indent-at (i + 2048 * p) ≡ i) × (piece-at (i + 2048 * p) ≡ p)
 word-parts i p h k =
     let a : (i + 2048 * p) / 256 ≡ 8 * p = omega arith in
     let b : 8 * p / 8 ≡ p = omega arith in

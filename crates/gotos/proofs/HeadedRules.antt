@@ -1,5 +1,6 @@
 -- The header of a goto loop, as rules for `search`, and what its word stands for.
---   leads-other, leads-yes, leads-no    a leading test
+--   leads-by                            a leading test by the word's indent and piece
+--   leads-other, leads-yes, leads-no    the same by the code's answers
 --   head-is                             the header's word
 --   fewer-yes, fewer-no                 how many lines are left
 --   made-tested, made-plain             the plan with the header
@@ -45,7 +46,7 @@ by-indent a b i d ts = go (eqb i (d + 1))
     go false = refl
 
 module _ (C : List Line) (w d i : ℕ) (hd : header-at w ≡ 0) (k : i ≡ indent-at w) where
-  leads-by : leading-test (line-of C w) d ≡ cond (eqb (indent-at w) (d + 1)) (leading-test (piece C (piece-at w)) 0) none
+  pub leads-by : leading-test (line-of C w) d ≡ cond (eqb (indent-at w) (d + 1)) (leading-test (piece C (piece-at w)) 0) none
   leads-by = ap (λ m. leading-test m d) (kept-line C w hd) ∙ by-indent (line C (piece-at w / 4) .address) none (indent-at w) d (piece-tokens C (piece-of (piece-at w)))
 
   pub leads-other : (i ≡ d + 1 → ⊥) → false ≡ is-some (leading-test (line-of C w) d)

@@ -1,0 +1,4 @@
+pub mod SeekLaws
+pub mod SeekRules
+pub mod HeaderRules
+pub mod EnterRules

@@ -1,0 +1,42 @@
+// Gotos that enter a loop of `recover_goto_loops` from outside, over the words of a plan. Nothing is copied.
+//
+// For each line outside that has a goto the labels inside are looked at, as the Rust does.
+// Contracts cite `enters` and `goto-target` of Rattle.definitions.specs, of the lines that the words stand for.
+ghost use mathlib.Core.Path.{_≡_};
+ghost use mathlib.Core.Bool.{true};
+ghost use Prim.Native.Nat.{_≤_, _<_};
+ghost use lib.ListN.{length, getD, take};
+ghost use Rattle.definitions.specs.Lists.{all};
+ghost use Rattle.definitions.specs.Columns.{listing};
+ghost use Rattle.definitions.specs.Questions.{question-2};
+ghost use Rattle.definitions.specs.Statements.{is-label};
+ghost use Rattle.definitions.specs.RecoverGotoLoops.{enters};
+ghost use Rattle.plan.specs.Plan.{line-of, render};
+ghost use Rattle.plan.specs.Changes.{is-goto};
+use crate::entering::any_goes_inside;
+
+pub mod entering;
+pub mod headers;
+pub mod seeking;
+
+// A line outside h..b, of the first n, has a goto to the label at h or to a label inside.
+pub fn enters(
+    lines: &[u32],
+    tokens: &[u32],
+    text: &[u8],
+    plan: &[usize],
+    n: usize,
+    h: usize,
+    b: usize,
+) -> bool
+    requires { ⌜ (h < b) × (b < n) × (n ≤ length (now plan)) × (question-2 (now lines) (now tokens) (now text) ≡ true) × (all is-goto (take n (now plan)) ≡ true) ⌝ }
+    requires { ⌜ is-label (line-of (listing (now lines) (now tokens) (now text)) (getD (now plan) h 0)) ≡ true ⌝ }
+    ensures { λ r.
+        ⌜ (let C = listing (now (lines .entry)) (now (tokens .entry)) (now (text .entry)) in
+        r ≡ enters (render C (take n (now (plan .entry)))) h b) ⌝ }
+{
+    if any_goes_inside(lines, tokens, text, plan, h, b, 0, h) {
+        return true;
+    }
+    any_goes_inside(lines, tokens, text, plan, h, b, b + 1, n)
+}

@@ -1,0 +1,69 @@
+// The turns of `recover_goto_loops` over a plan.
+ghost use mathlib.Core.Path.{_≡_};
+ghost use mathlib.Core.Bool.{true};
+ghost use mathlib.Core.List.{List};
+ghost use Prim.Native.Nat.{_≤_, _<_};
+ghost use lib.ListN.{length, take};
+ghost use Rattle.definitions.specs.Model.{Line};
+ghost use Rattle.definitions.specs.Questions.{question-2};
+ghost use Rattle.definitions.specs.RecoverGotoLoops.{goto-turn, recover-goto-loops};
+ghost use Rattle.plan.specs.Changes.{Ahead};
+ghost use Rattle.plan.specs.Source.{Source};
+ghost use Rattle.loops.specs.Turns.{planned};
+ghost use Rattle.goto_turns.specs.Turns.{Turn-of, Emitted};
+use crate::labels::find_loop;
+use gotos::words::label_word;
+use loops::turns::Planned;
+use plan::indent;
+
+// What one turn does: go on at the next line with so many lines, or work out an indent beyond 0 to 255.
+pub enum Turn {
+    Go(usize),
+    Beyond,
+}
+
+// One turn at place h.
+fn goto_turn(
+    lines: &[u32],
+    tokens: &[u32],
+    text: &[u8],
+    plan: &mut [usize],
+    n: usize,
+    h: usize,
+) -> Turn
+    requires { ⌜ (h < n) × (n ≤ length (now plan)) × (question-2 (now lines) (now tokens) (now text) ≡ true) ⌝ }
+    requires { ⌜ Ahead h (take n (now plan)) ⌝ }
+    ensures { λ r.
+        ⌜ Turn-of (now (lines .entry)) (now (tokens .entry)) (now (text .entry)) (λ M. goto-turn M h) n h (now (plan .entry)) r (now (plan .exit)) ⌝ }
+{
+    let v = plan[h];
+    if label_word(lines, tokens, text, v) {
+        if indent(v) == 255 {
+            return Turn::Beyond;
+        }
+        return find_loop(lines, tokens, text, plan, n, h);
+    }
+    Turn::Go(n)
+}
+
+// The pass, turn by turn, while two lines stand behind the line.
+pub fn plan_goto_loops(lines: &[u32], tokens: &[u32], text: &[u8], plan: &mut [usize]) -> Planned
+    requires { ⌜ (length (now lines) ≤ 1024) × (length (now lines) ≤ length (now plan)) × (question-2 (now lines) (now tokens) (now text) ≡ true) ⌝ }
+    ensures { λ r.
+        ⌜ ((S : List Line) → Source S (now (lines .entry)) (now (tokens .entry)) (now (text .entry)) → planned S (now (plan .exit)) r ≡ recover-goto-loops S) ⌝ }
+    ensures { λ r. ⌜ Emitted (length (now (lines .entry))) (now (plan .exit)) r ⌝ }
+{
+    plan::start(lines, plan);
+    let mut n = lines.len();
+    let mut h = 0;
+    while h + 2 < n {
+        match goto_turn(lines, tokens, text, plan, n, h) {
+            Turn::Go(m) => {
+                n = m;
+            }
+            Turn::Beyond => return Planned::Overflow,
+        }
+        h += 1;
+    }
+    Planned::Lines(n)
+}
