@@ -53,6 +53,12 @@ size_t javrenzu_recover_loops(const uint32_t *lines, size_t lines_len, const uin
                               uint32_t *rows, size_t rows_len, uint64_t *places, size_t places_len, uint32_t *words, size_t words_len,
                               uint8_t *bytes, size_t bytes_len, size_t *nlines, size_t *ntokens, size_t *nbytes);
 
+/* Labels and gotos made `while` and `for`; as javrenzu_recover_loops. */
+size_t javrenzu_recover_goto_loops(const uint32_t *lines, size_t lines_len, const uint64_t *addresses, size_t addresses_len,
+                                   const uint32_t *tokens, size_t tokens_len, const uint8_t *text, size_t text_len,
+                                   uint32_t *rows, size_t rows_len, uint64_t *places, size_t places_len, uint32_t *words, size_t words_len,
+                                   uint8_t *bytes, size_t bytes_len, size_t *nlines, size_t *ntokens, size_t *nbytes);
+
 /* The listing in a JSON text, packed into the columns. It asks question 10 only. */
 size_t javrenzu_read_json(const uint8_t *json, size_t json_len, uint32_t *lines, size_t lines_len, uint64_t *addresses, size_t addresses_len,
                           uint32_t *tokens, size_t tokens_len, uint8_t *text, size_t text_len, size_t *nlines, size_t *ntokens, size_t *nbytes);

@@ -47,6 +47,12 @@ mod library {
             words: *mut u32, words_len: usize, bytes: *mut u8, bytes_len: usize, nlines: *mut usize, ntokens: *mut usize, nbytes: *mut usize,
         ) -> usize;
         #[allow(clippy::too_many_arguments)]
+        pub fn javrenzu_recover_goto_loops(
+            lines: *const u32, lines_len: usize, addresses: *const u64, addresses_len: usize, tokens: *const u32, tokens_len: usize,
+            text: *const u8, text_len: usize, rows: *mut u32, rows_len: usize, places: *mut u64, places_len: usize,
+            words: *mut u32, words_len: usize, bytes: *mut u8, bytes_len: usize, nlines: *mut usize, ntokens: *mut usize, nbytes: *mut usize,
+        ) -> usize;
+        #[allow(clippy::too_many_arguments)]
         pub fn javrenzu_read_json(
             json: *const u8, json_len: usize, lines: *mut u32, lines_len: usize, addresses: *mut u64, addresses_len: usize,
             tokens: *mut u32, tokens_len: usize, text: *mut u8, text_len: usize, nlines: *mut usize, ntokens: *mut usize, nbytes: *mut usize,
@@ -130,19 +136,34 @@ pub struct Counts {
     pub text: usize,
 }
 
-/// Guarded do-while loops made `while` and `for`. The destination needs as many lines, 8 tokens and 32 bytes more a line.
-pub fn recover_loops(listing: Listing, addresses: &[u64], out: Destination) -> Result<Counts, Refusal> {
+/// A loop pass of the library.
+type Pass = unsafe extern "C" fn(
+    *const u32, usize, *const u64, usize, *const u32, usize, *const u8, usize,
+    *mut u32, usize, *mut u64, usize, *mut u32, usize, *mut u8, usize, *mut usize, *mut usize, *mut usize,
+) -> usize;
+
+fn run(pass: Pass, listing: Listing, addresses: &[u64], out: Destination) -> Result<Counts, Refusal> {
     let Listing { lines, tokens, text } = listing;
     let (mut nlines, mut ntokens, mut nbytes) = (0, 0, 0);
     // SAFETY: each pointer goes with the length of its slice, the counts are words of their own, and the library is proved to stay within them.
     let refusal = unsafe {
-        library::javrenzu_recover_loops(
+        pass(
             lines.as_ptr(), lines.len(), addresses.as_ptr(), addresses.len(), tokens.as_ptr(), tokens.len(), text.as_ptr(), text.len(),
             out.lines.as_mut_ptr(), out.lines.len(), out.addresses.as_mut_ptr(), out.addresses.len(),
             out.tokens.as_mut_ptr(), out.tokens.len(), out.text.as_mut_ptr(), out.text.len(), &mut nlines, &mut ntokens, &mut nbytes,
         )
     };
     answered(refusal, Counts { lines: nlines, tokens: ntokens, text: nbytes })
+}
+
+/// Guarded do-while loops made `while` and `for`. The destination needs as many lines, 8 tokens and 32 bytes more a line.
+pub fn recover_loops(listing: Listing, addresses: &[u64], out: Destination) -> Result<Counts, Refusal> {
+    run(library::javrenzu_recover_loops, listing, addresses, out)
+}
+
+/// Labels and gotos made `while` and `for`. The destination needs what `recover_loops` needs.
+pub fn recover_goto_loops(listing: Listing, addresses: &[u64], out: Destination) -> Result<Counts, Refusal> {
+    run(library::javrenzu_recover_goto_loops, listing, addresses, out)
 }
 
 /// The listing that a JSON text holds.

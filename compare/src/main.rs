@@ -1,8 +1,8 @@
 //! `compare WORD DIR`: every `*.json` listing in DIR through the proved library and through the original Rust.
 //!
 //! Prints each difference with the file's name, last `N listings, M differences`; exit status 0 only for 0 differences.
-//! WORD: `leaves`, the reading layer function by function; `webs`, `splits`, `choose` and `recover_loops`, those calls with
-//! every lent word; `json`, the reader and writer on each text and on damaged copies of it.
+//! WORD: `leaves`, the reading layer function by function; `webs`, `splits`, `choose`, `recover_loops` and `recover_goto_loops`, those
+//! calls with every lent word; `passes`, the goto pass, then the loop pass; `json`, the reader and writer on each text and on damaged copies of it.
 
 mod leaves;
 mod lent;
@@ -33,8 +33,10 @@ fn main() -> Result<ExitCode, Box<dyn Error>> {
         "splits" => Comparison::Listing(numbers::splits),
         "choose" => Comparison::Listing(numbers::choose),
         "recover_loops" => Comparison::Listing(passes::recover_loops),
+        "recover_goto_loops" => Comparison::Listing(passes::recover_goto_loops),
+        "passes" => Comparison::Listing(passes::passes),
         "json" => Comparison::Text(texts::differences),
-        _ => return Err(format!("{word}: the words are: leaves, webs, splits, choose, recover_loops, json").into()),
+        _ => return Err(format!("{word}: the words are: leaves, webs, splits, choose, recover_loops, recover_goto_loops, passes, json").into()),
     };
     let (mut listings, mut lines, mut wrong) = (0, 0, 0);
     for file in json::files(Path::new(dir))? {
