@@ -1,2 +1,1 @@
-pub mod Adds
 pub mod Lines

@@ -1,27 +1,29 @@
-// Lines appended to the destination: the lines that the words of a plan of `recover_loops` stand for.
+// Lines appended to the destination: the lines that the words of a plan stand for.
 ghost use mathlib.Core.Path.{_≡_};
 ghost use mathlib.Core.Bool.{true, false};
 ghost use mathlib.Core.List.{[]};
-ghost use Prim.Native.Nat.{_/_, _≤_};
+ghost use Prim.Native.Nat.{_/_, _%_, _≤_};
 ghost use lib.ListN.{length, take};
 ghost use Rattle.definitions.specs.Lists.{all, or-else, ascii};
 ghost use Rattle.definitions.specs.Model.{line};
 ghost use Rattle.definitions.specs.Columns.{listing, with-addresses};
+ghost use Rattle.definitions.specs.Questions.{question-2};
 ghost use Rattle.definitions.specs.Condition.{condition};
 ghost use Rattle.definitions.specs.Passes.{while-head};
-ghost use Rattle.plan.specs.Plan.{line-of, render, initialiser-at, step-at};
-ghost use Rattle.plan.specs.Changes.{is-plain};
+ghost use Rattle.plan.specs.Plan.{line-of, render, header-at, piece-at, test-at, initialiser-at, step-at};
+ghost use Rattle.pieces.specs.Pieces.{piece};
 ghost use Rattle.write.specs.State.{done};
 ghost use Rattle.write.specs.Holds.{columns, Holds};
-ghost use Rattle.emit.specs.Adds.{Adding};
-ghost use Rattle.emit.specs.Lines.{for-start, for-end, Begins, Line-added};
-use crate::appends::add;
-use crate::appends::add_condition;
-use crate::appends::add_line;
+ghost use Rattle.append.specs.Adds.{Adding};
+ghost use Rattle.emit.specs.Lines.{is-sound, test-read, for-start, for-end, Begins, Line-added};
+use crate::tests::add_test;
+use append::add;
+use append_pieces::conditions::add_condition;
+use append_pieces::tokens::add_piece;
 use write::Cursor;
 
 // `while (..) {` over the condition of the guard on line i.
-fn add_while(
+fn add_guard(
     lines: &[u32],
     tokens: &[u32],
     text: &[u8],
@@ -40,59 +42,90 @@ fn add_while(
     add(words, bytes, f, b") {", 6, false)
 }
 
-// `for (..; ` with the initialiser on line a.
-fn add_for_start(
+// `while (..) {` over the condition of the header w, merged.
+fn add_while(
     lines: &[u32],
     tokens: &[u32],
     text: &[u8],
-    a: usize,
+    w: usize,
     words: &mut [u32],
     bytes: &mut [u8],
     c: Cursor,
 ) -> Cursor
+    requires { ⌜ question-2 (now lines) (now tokens) (now text) ≡ true ⌝ }
     ensures { λ r.
-        ⌜ (let l = line (listing (now (lines .entry)) (now (tokens .entry)) (now (text .entry))) a in
-        Adding true (for-start (l .tokens)) (now (words .entry)) (now (bytes .entry)) c (now (words .exit)) (now (bytes .exit)) r) ⌝ }
+        ⌜ (let C = listing (now (lines .entry)) (now (tokens .entry)) (now (text .entry)) in
+        Adding true (while-head (test-read C (header-at w % 4) (piece-at w / 4) (test-at w))) (now (words .entry)) (now (bytes .entry)) c (now (words .exit)) (now (bytes .exit)) r) ⌝ }
 {
-    let d = add(words, bytes, c, b"for", 3, true);
+    let d = add(words, bytes, c, b"while", 3, true);
     let e = add(words, bytes, d, b" (", 6, true);
-    let f = add_line(lines, tokens, text, a, true, words, bytes, e, true);
-    add(words, bytes, f, b"; ", 6, true)
+    let f = add_test(lines, tokens, text, w, words, bytes, e);
+    add(words, bytes, f, b") {", 6, true)
 }
 
-// `..; ..) {` with the condition of the guard on line i and the step on line z.
-fn add_for_end(
+// `for (..; ` with the initialiser of the header w.
+fn add_for_start(
     lines: &[u32],
     tokens: &[u32],
     text: &[u8],
-    i: usize,
-    z: usize,
+    w: usize,
     words: &mut [u32],
     bytes: &mut [u8],
     c: Cursor,
 ) -> Cursor
     ensures { λ r.
         ⌜ (let C = listing (now (lines .entry)) (now (tokens .entry)) (now (text .entry)) in
-        Adding true (for-end (or-else (condition (line C i) (ascii "if")) []) (line C z .tokens)) (now (words .entry)) (now (bytes .entry)) c (now (words .exit)) (now (bytes .exit)) r) ⌝ }
+        Adding true (for-start (piece C (initialiser-at w) .tokens)) (now (words .entry)) (now (bytes .entry)) c (now (words .exit)) (now (bytes .exit)) r) ⌝ }
 {
-    let d = add_condition(lines, tokens, text, i, words, bytes, c, true);
+    let d = add(words, bytes, c, b"for", 3, true);
+    let e = add(words, bytes, d, b" (", 6, true);
+    let f = add_piece(
+        lines,
+        tokens,
+        text,
+        initialiser(w),
+        true,
+        words,
+        bytes,
+        e,
+        true,
+    );
+    add(words, bytes, f, b"; ", 6, true)
+}
+
+// `..; ..) {` with the condition and the step of the header w.
+fn add_for_end(
+    lines: &[u32],
+    tokens: &[u32],
+    text: &[u8],
+    w: usize,
+    words: &mut [u32],
+    bytes: &mut [u8],
+    c: Cursor,
+) -> Cursor
+    requires { ⌜ question-2 (now lines) (now tokens) (now text) ≡ true ⌝ }
+    ensures { λ r.
+        ⌜ (let C = listing (now (lines .entry)) (now (tokens .entry)) (now (text .entry)) in
+        Adding true (for-end (test-read C (header-at w % 4) (piece-at w / 4) (test-at w)) (piece C (step-at w) .tokens)) (now (words .entry)) (now (bytes .entry)) c (now (words .exit)) (now (bytes .exit)) r) ⌝ }
+{
+    let d = add_test(lines, tokens, text, w, words, bytes, c);
     let e = add(words, bytes, d, b"; ", 6, true);
-    let f = add_line(lines, tokens, text, z, true, words, bytes, e, true);
+    let f = add_piece(lines, tokens, text, step(w), true, words, bytes, e, true);
     add(words, bytes, f, b") {", 6, true)
 }
 
-// The line that a word's initialiser is made of.
+// The piece of a word's initialiser.
 fn initialiser(w: usize) -> usize
-    ensures { λ r. ⌜ r ≡ initialiser-at w / 4 ⌝ }
+    ensures { λ r. ⌜ r ≡ initialiser-at w ⌝ }
 {
-    w / 256 / 8 / 4096 / 4096 % 4096 / 4
+    w / 256 / 8 / 4096 / 4096 % 4096
 }
 
-// The line that a word's step is made of.
+// The piece of a word's step.
 fn step(w: usize) -> usize
-    ensures { λ r. ⌜ r ≡ step-at w / 4 ⌝ }
+    ensures { λ r. ⌜ r ≡ step-at w ⌝ }
 {
-    w / 256 / 8 / 4096 / 4096 / 4096 % 4096 / 4
+    w / 256 / 8 / 4096 / 4096 / 4096 % 4096
 }
 
 // The tokens of the line that the word w stands for.
@@ -105,21 +138,34 @@ fn add_planned(
     bytes: &mut [u8],
     c: Cursor,
 ) -> Cursor
-    requires { ⌜ is-plain w ≡ true ⌝ }
+    requires { ⌜ is-sound w ≡ true ⌝ }
+    requires { ⌜ question-2 (now lines) (now tokens) (now text) ≡ true ⌝ }
     ensures { λ r.
         ⌜ (let C = listing (now (lines .entry)) (now (tokens .entry)) (now (text .entry)) in
         Begins (line-of C w .tokens) (now (words .entry)) (now (bytes .entry)) c (now (words .exit)) (now (bytes .exit)) r) ⌝ }
 {
-    let i = plan::source(w);
     let h = plan::header(w);
     if h == 0 {
-        return add_line(lines, tokens, text, i, false, words, bytes, c, false);
+        return add_piece(
+            lines,
+            tokens,
+            text,
+            plan::piece(w),
+            false,
+            words,
+            bytes,
+            c,
+            false,
+        );
     }
     if h == 1 {
-        return add_while(lines, tokens, text, i, words, bytes, c);
+        return add_guard(lines, tokens, text, plan::source(w), words, bytes, c);
     }
-    let d = add_for_start(lines, tokens, text, initialiser(w), words, bytes, c);
-    add_for_end(lines, tokens, text, i, step(w), words, bytes, d)
+    if h < 4 {
+        return add_while(lines, tokens, text, w, words, bytes, c);
+    }
+    let d = add_for_start(lines, tokens, text, w, words, bytes, c);
+    add_for_end(lines, tokens, text, w, words, bytes, d)
 }
 
 // The line that the word w stands for.
@@ -135,7 +181,8 @@ fn emit_line(
     bytes: &mut [u8],
     c: Cursor,
 ) -> Cursor
-    requires { ⌜ (is-plain w ≡ true) × (length (now addresses) ≡ length (now lines)) ⌝ }
+    requires { ⌜ (is-sound w ≡ true) × (length (now addresses) ≡ length (now lines)) ⌝ }
+    requires { ⌜ question-2 (now lines) (now tokens) (now text) ≡ true ⌝ }
     ensures { λ r.
         ⌜ (let l = now (lines .entry) in
         let S = with-addresses l (now (addresses .entry)) (listing l (now (tokens .entry)) (now (text .entry))) in
@@ -160,7 +207,8 @@ pub fn emit(
     words: &mut [u32],
     bytes: &mut [u8],
 ) -> Cursor
-    requires { ⌜ (n ≤ length (now plan)) × (all is-plain (take n (now plan)) ≡ true) × (length (now addresses) ≡ length (now lines)) ⌝ }
+    requires { ⌜ (n ≤ length (now plan)) × (all is-sound (take n (now plan)) ≡ true) × (length (now addresses) ≡ length (now lines)) ⌝ }
+    requires { ⌜ question-2 (now lines) (now tokens) (now text) ≡ true ⌝ }
     ensures { λ r.
         ⌜ (let l = now (lines .entry) in
         let S = with-addresses l (now (addresses .entry)) (listing l (now (tokens .entry)) (now (text .entry))) in

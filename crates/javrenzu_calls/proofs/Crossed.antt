@@ -19,8 +19,8 @@ use Rattle.splits.specs.Call.{answer-of as split-answer-of, lent as split-lent,
 use Rattle.choose.specs.declared.Choice.{Choice}
 use Rattle.choose.specs.declared.Choice.the-variants.{ByWebs, BySplits, Refused as Unchosen}
 use Rattle.choose.specs.Choices.{answer-of as choice-answer-of, called as choice-called}
-use Rattle.recover_loops.specs.declared.Answer.{Answer as Said}
-use Rattle.recover_loops.specs.Answers.{answered, passed-with}
+use Rattle.pass_call.specs.declared.Answer.{Answer as Said}
+use Rattle.pass_call.specs.Answers.{answered, passed-with}
 use Rattle.write.specs.Holds.{columns}
 use Rattle.json_definitions.specs.JsonCalls.{Written}
 use Rattle.json_read.specs.declared.Answer.{Answer as Reading}

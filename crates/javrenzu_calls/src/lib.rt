@@ -14,8 +14,8 @@ ghost use Rattle.json_definitions.specs.JsonCalls.{read-call, write-call};
 use choose::Choice;
 use json_read::Answer as Reading;
 use json_write::Answer as Writing;
+use pass_call::Answer;
 use pseudo_ssa::Webs;
-use recover_loops::Answer;
 use splits::call::Splits;
 
 // The web call. `sweeps` is the total of sweeps, 0 on refusal.

@@ -1,97 +1,39 @@
--- Laws of what is appended, merged, to the open line.
---   adds-none, adds-more, adds-as      nothing; one after the other; another name for it
---   adds-merged                        a token
---   adds-merge                         what is merged before it is appended
+-- The negated condition appended, merged, to the open line.
 --   flipped-arm, flipped-nothing       what a comparison is flipped to, by its number
 --   adds-flipped                       a token with a comparison flipped, in three pieces
---   adds-empty, adds-filled            a token, unless it is empty
 --   adds-whole, adds-other, adds-here  a token of the condition, by the answer and its place
 --   tokens-start, tokens-next          the loop over them
 --   adds-flip, adds-around             the negation, by the answer
 -- Assumes nothing.
 use mathlib.Core.Path.{_≡_, refl, sym, ap, ap₂, _∙_}
-use mathlib.Core.Bool.{Bool, true, false}
+use mathlib.Core.Bool.{true}
 use mathlib.Core.List.{List, [], _∷_, _++_, map, append-nil, append-assoc}
 use mathlib.Core.Option.{Option, none, some, Option·map}
-use Prim.Native.Nat.{ℕ, zero, suc, _+_, _-_, _≤_, _<_}
+use Prim.Native.Nat.{ℕ, zero, suc, _+_, _-_, _<_}
 use native.Mathlib.Nat.{sub-zero, add-zero, zero-add, add-suc, suc-add}
 use native.Mathlib.Numerals.{add-one}
 use native.Mathlib.Omega.{arith}
 use borrow.Author.Tests.{eq-eqb, ne-eqb}
 use lib.ListN.{length, take, drop, length-append, take-append-drop}
 use lib.Seq.{drop-drop}
-use Rattle.definitions.specs.Lists.{or-else, filter, range, part, _==_, ascii}
+use Rattle.definitions.specs.Lists.{or-else, filter, range, part, ascii}
 use Rattle.definitions.specs.Model.{Token, Line, tok, Punct}
-use Rattle.definitions.specs.Statements.{joins, glue, merge}
+use Rattle.definitions.specs.Statements.{merge}
 use Rattle.definitions.specs.Condition.{Comparison}
 use Rattle.definitions.specs.Calls.{Columns}
 use Rattle.text.proofs.Parts.{part-tail}
-use Rattle.text.proofs.Texts.{==-length}
-use Rattle.write.specs.State.{State, add-bytes, end-merged, add-merged}
-use Rattle.write.specs.Holds.{Holds, Writes}
+use Rattle.write.specs.State.{add-bytes, end-merged, add-merged}
+use Rattle.write.specs.Holds.{Writes}
 use Rattle.write.specs.declared.Cursor.{Cursor}
-use Rattle.write.proofs.Merging.{merge-snoc, glue-joins, glue-apart, joins-kind}
-use Rattle.negate.specs.Comparisons.{numbered, width, found-in, found-at, flipped, flip-some, kept, negated-token, negation, Sound}
+use Rattle.write.proofs.Merging.{merge-snoc}
+use Rattle.negate.specs.Comparisons.{numbered, width, found-in, found-at, flipped, flip-some, negated-token, negation, Sound}
 use Rattle.negate.specs.Tests.{test-token, test-from, test-tokens}
 use Rattle.negate.specs.declared.comparison.Only.{Only}
 use Rattle.negate.specs.declared.comparison.Only.the-variants.{At, Nothing}
-use Rattle.negate.specs.Adds.{opened, Adds}
+use Rattle.append.specs.Adds.{opened, Adds, whole}
+use Rattle.append.proofs.Appends.{adds-none, adds-as, adds-more, adds-merged, adds-merge, whole-append, whole-some}
 use Rattle.negate.proofs.Scanning.{numbered-none, numbered-some}
-use Rattle.negate.proofs.Places.{filter-append}
 use Rattle.negate.proofs.Negations.{map-same}
-
--- Merging what is merged
-
-glue-glue : (t u : Token) (us : List Token) → joins t u ≡ true → glue t (glue u us) ≡ glue (tok (t .text ++ u .text) (t .kind)) us
-glue-glue t u [] e = unfold glue in rw e
-glue-glue t u (v ∷ us) e = go (joins u v) refl
-  where
-    go : (b : Bool) → joins u v ≡ b → glue t (glue u (v ∷ us)) ≡ glue (tok (t .text ++ u .text) (t .kind)) (v ∷ us)
-    go true q =
-        let k = joins-kind t u e in
-        let r : joins (tok (t .text ++ u .text) (t .kind)) v ≡ true = rw k q in
-        rw (glue-joins u v us q, glue-joins t (tok (u .text ++ v .text) (u .kind)) us e, glue-joins (tok (t .text ++ u .text) (t .kind)) v us r, append-assoc)
-    go false q =
-        let k = joins-kind t u e in
-        let r : joins (tok (t .text ++ u .text) (t .kind)) v ≡ false = rw k q in
-        rw (glue-apart u v us q, glue-joins t u (v ∷ us) e, glue-apart (tok (t .text ++ u .text) (t .kind)) v us r)
-
-merge-glue : (t : Token) (us : List Token) → merge (glue t us) ≡ glue t (merge us)
-unfolding merge
-merge-glue t [] = unfold glue in refl
-merge-glue t (u ∷ us) = go (joins t u) refl
-  where
-    go : (b : Bool) → joins t u ≡ b → merge (glue t (u ∷ us)) ≡ glue t (glue u (merge us))
-    go true e = rw (glue-joins t u us e) (sym (glue-glue t u (merge us) e))
-    go false e = rw (glue-apart t u us e)
-
-merge-merge : (ts : List Token) → merge (merge ts) ≡ merge ts
-unfolding merge
-merge-merge [] = refl
-merge-merge (t ∷ ts) = merge-glue t (merge ts) ∙ ap (glue t) (merge-merge ts)
-
-merge-behind : (ts us : List Token) → merge (ts ++ merge us) ≡ merge (ts ++ us)
-unfolding merge
-merge-behind [] us = merge-merge us
-merge-behind (t ∷ ts) us = ap (glue t) (merge-behind ts us)
-
--- Appending
-
-module _ {o o1 : Columns} {c c1 : Cursor} where
-  pub adds-as : {us vs : List Token} → us ≡ vs → Adds us o c o1 c1 → Adds vs o c o1 c1
-  adds-as e h = rw e at h
-
-  pub adds-merged : (b : List ℕ) (k : ℕ) → Writes (add-merged b k) o c o1 c1 → Adds (tok b k ∷ []) o c o1 c1
-  adds-merged b k w = record { adds = λ M ts h. rw (merge-snoc ts (tok b k)) (w (opened M (merge ts)) h) }
-
-  pub adds-merge : (us : List Token) → Adds us o c o1 c1 → Adds (merge us) o c o1 c1
-  adds-merge us a = record { adds = λ M ts h. rw (merge-behind ts us) (a .adds M ts h) }
-
-  pub adds-more : {o2 : Columns} {c2 : Cursor} (us vs : List Token) → Adds us o c o1 c1 → Adds vs o1 c1 o2 c2 → Adds (us ++ vs) o c o2 c2
-  adds-more us vs a b = record { adds = λ M ts h. rw (← append-assoc ts us vs) (b .adds M (ts ++ us) (a .adds M ts h)) }
-
-pub adds-none : {o : Columns} {c : Cursor} → Adds [] o c o c
-adds-none = record { adds = λ M ts h. rw (append-nil ts) h }
 
 -- A flipped comparison
 
@@ -115,7 +57,7 @@ flip-pieces s k p b w = go (numbered w)
 
 module _ {o o1 o2 o3 o4 : Columns} {c c1 c2 c3 c4 : Cursor} where
   three-pieces : (A B C : List ℕ) (k : ℕ) → Writes (add-bytes A) o c o1 c1 → Writes (add-bytes B) o1 c1 o2 c2 → Writes (add-bytes C) o2 c2 o3 c3
-      → Writes (end-merged k) o3 c3 o4 c4 → Adds (tok (A ++ (B ++ C)) k ∷ []) o c o4 c4
+      → Writes (end-merged k) o3 c3 o4 c4 → Adds true (tok (A ++ (B ++ C)) k ∷ []) o c o4 c4
   three-pieces A B C k f g h e = record {
     adds = λ M ts q. rw (merge-snoc ts (tok (A ++ (B ++ C)) k), ← append-assoc A B C)
         (e (add-bytes C (add-bytes B (add-bytes A (opened M (merge ts))))) (h (add-bytes B (add-bytes A (opened M (merge ts)))) (g (add-bytes A (opened M (merge ts))) (f (opened M (merge ts)) q))));
@@ -124,7 +66,7 @@ module _ {o o1 o2 o3 o4 : Columns} {c c1 c2 c3 c4 : Cursor} where
   module _ (s : List ℕ) (k p b w : ℕ) (A R C : List ℕ) where
     pub adds-flipped : A ≡ part 0 b s → R ≡ part b (length s) s → (v : ℕ) → v ≡ width w → C ≡ part v (length R) R
         → Writes (add-bytes A) o c o1 c1 → Writes (add-bytes (flipped w)) o1 c1 o2 c2 → Writes (add-bytes C) o2 c2 o3 c3
-        → Writes (end-merged k) o3 c3 o4 c4 → Adds (flip-some (found-at p b w) (tok s k) ∷ []) o c o4 c4
+        → Writes (end-merged k) o3 c3 o4 c4 → Adds true (flip-some (found-at p b w) (tok s k) ∷ []) o c o4 c4
     adds-flipped a r v d q f g h e =
         let x : A ≡ take b s = a ∙ rw (sub-zero b) in
         let y : C ≡ drop (width w) (drop b s) = q ∙ part-tail R v ∙ rw (d, r, part-tail s b) in
@@ -143,22 +85,6 @@ range-more a (suc n) = rw (add-suc a n, ← suc-add a n) (ap (λ (ks : List ℕ)
 
 range-snoc : (k : ℕ) → range 0 (k + 1) ≡ range 0 k ++ (k ∷ [])
 range-snoc k = rw add-one (range-more 0 k ∙ rw (zero-add k))
-
-kept-some : (s : List ℕ) (k : ℕ) → (length s ≡ 0 → ⊥) → kept (tok s k ∷ []) ≡ tok s k ∷ []
-unfolding filter
-kept-some s k h = rw (==-length s [] h)
-
-module _ (s : List ℕ) (k : ℕ) where
-  pub adds-empty : {o : Columns} {c : Cursor} → length s ≡ 0 → Adds (kept (tok s k ∷ [])) o c o c
-  unfolding filter _==_
-  adds-empty h = adds-as (go s h) adds-none
-    where
-      go : (u : List ℕ) → length u ≡ 0 → [] ≡ kept (tok u k ∷ [])
-      go [] e = refl
-      go (b ∷ u) e = absurd (omega arith)
-
-  pub adds-filled : {o o1 : Columns} {c c1 : Cursor} → (length s ≡ 0 → ⊥) → Writes (add-merged s k) o c o1 c1 → Adds (kept (tok s k ∷ [])) o c o1 c1
-  adds-filled h w = adds-as (sym (kept-some s k h)) (adds-merged s k w)
 
 flip-place : (p b w : ℕ) (t : Token) → flip-some (found-at 0 b w) t ≡ flip-some (found-at p b w) t
 flip-place p b w t = go (numbered w)
@@ -179,52 +105,52 @@ module _ (l : Line) (m k : ℕ) (r : Only) (s : List ℕ) (e : s ≡ test-token 
   token-is : tok s n ≡ test-token l m k
   token-is = ap₂ tok e d
 
-  pub adds-whole : {o o1 : Columns} {c c1 : Cursor} → r ≡ Nothing → Adds (kept (tok s n ∷ [])) o c o1 c1 → Adds (kept (negated-token l m r k ∷ [])) o c o1 c1
+  pub adds-whole : {o o1 : Columns} {c c1 : Cursor} → r ≡ Nothing → Adds true (whole (tok s n ∷ [])) o c o1 c1 → Adds true (whole (negated-token l m r k ∷ [])) o c o1 c1
   unfolding negated-token
   adds-whole q a = rw q (rw token-is at a)
 
   module _ (p b w : ℕ) (q : r ≡ At p b w) where
-    pub adds-other : {o o1 : Columns} {c c1 : Cursor} → (k ≡ p → ⊥) → Adds (kept (tok s n ∷ [])) o c o1 c1 → Adds (kept (negated-token l m r k ∷ [])) o c o1 c1
+    pub adds-other : {o o1 : Columns} {c c1 : Cursor} → (k ≡ p → ⊥) → Adds true (whole (tok s n ∷ [])) o c o1 c1 → Adds true (whole (negated-token l m r k ∷ [])) o c o1 c1
     unfolding negated-token
     adds-other f a = rw (q, ne-eqb k p f) (rw token-is at a)
 
-    pub adds-here : {o o1 : Columns} {c c1 : Cursor} → k ≡ p → Sound r → Adds (flip-some (found-at 0 b w) (tok s n) ∷ []) o c o1 c1 → Adds (kept (negated-token l m r k ∷ [])) o c o1 c1
+    pub adds-here : {o o1 : Columns} {c c1 : Cursor} → k ≡ p → Sound r → Adds true (flip-some (found-at 0 b w) (tok s n) ∷ []) o c o1 c1 → Adds true (whole (negated-token l m r k ∷ [])) o c o1 c1
     unfolding negated-token
     adds-here f sound a =
         let t : Token = flip-some (found-at 0 b w) (tok s n) in
         let x : negated-token l m r k ≡ t = rw (q, eq-eqb k p f, ← token-is) (sym (flip-place p b w (tok s n))) in
-        adds-as (ap (λ (y : Token). kept (y ∷ [])) (sym x)) (adds-as (sym (kept-some (t .text) (t .kind) (flip-filled b w (tok s n) (few (rw q at sound))))) a)
+        adds-as (ap (λ (y : Token). whole (y ∷ [])) (sym x)) (adds-as (sym (whole-some (t .text) (t .kind) (flip-filled b w (tok s n) (few (rw q at sound))))) a)
       where
         few : Sound (At p b w) → w < 6
         few h = unfold Sound in h
 
 -- the loop over them
 module _ (l : Line) (m : ℕ) (r : Only) where
-  pub tokens-start : {o : Columns} {c : Cursor} → Adds (kept (map (negated-token l m r) (range 0 0))) o c o c
+  pub tokens-start : {o : Columns} {c : Cursor} → Adds true (whole (map (negated-token l m r) (range 0 0))) o c o c
   unfolding range filter
   tokens-start = adds-none
 
-  pub tokens-next : {o o1 o2 : Columns} {c c1 c2 : Cursor} (k : ℕ) → Adds (kept (map (negated-token l m r) (range 0 k))) o c o1 c1
-      → Adds (kept (negated-token l m r k ∷ [])) o1 c1 o2 c2 → Adds (kept (map (negated-token l m r) (range 0 (k + 1)))) o c o2 c2
+  pub tokens-next : {o o1 o2 : Columns} {c c1 c2 : Cursor} (k : ℕ) → Adds true (whole (map (negated-token l m r) (range 0 k))) o c o1 c1
+      → Adds true (whole (negated-token l m r k ∷ [])) o1 c1 o2 c2 → Adds true (whole (map (negated-token l m r) (range 0 (k + 1)))) o c o2 c2
   tokens-next k a b =
-      adds-as (sym (filter-append (map (negated-token l m r) (range 0 k)) (negated-token l m r k ∷ []))
-      ∙ ap kept (sym (map-snoc (negated-token l m r) (range 0 k) k ∙ refl) ∙ ap (map (negated-token l m r)) (sym (range-snoc k))))
-      (adds-more (kept (map (negated-token l m r) (range 0 k))) (kept (negated-token l m r k ∷ [])) a b)
+      adds-as (sym (whole-append (map (negated-token l m r) (range 0 k)) (negated-token l m r k ∷ []))
+      ∙ ap whole (sym (map-snoc (negated-token l m r) (range 0 k) k ∙ refl) ∙ ap (map (negated-token l m r)) (sym (range-snoc k))))
+      (adds-more (whole (map (negated-token l m r) (range 0 k))) (whole (negated-token l m r k ∷ [])) a b)
 
 -- The negation, by the answer
 module _ (l : Line) (m : ℕ) (r : Only) where
-  pub adds-flip : {o o1 : Columns} {c c1 : Cursor} (p b w : ℕ) → r ≡ At p b w → Adds (kept (map (negated-token l m r) (range 0 m))) o c o1 c1 → Adds (negation l m r) o c o1 c1
+  pub adds-flip : {o o1 : Columns} {c c1 : Cursor} (p b w : ℕ) → r ≡ At p b w → Adds true (whole (map (negated-token l m r) (range 0 m))) o c o1 c1 → Adds true (negation l m r) o c o1 c1
   unfolding negation
   adds-flip p b w q a = rw q (rw q at a)
 
   pub adds-around : {o o1 o2 o3 : Columns} {c c1 c2 c3 : Cursor} → r ≡ Nothing → Writes (add-merged (ascii "!(") Punct) o c o1 c1
-      → Adds (kept (map (negated-token l m r) (range 0 m))) o1 c1 o2 c2 → Writes (add-merged (ascii ")") Punct) o2 c2 o3 c3 → Adds (negation l m r) o c o3 c3
+      → Adds true (whole (map (negated-token l m r) (range 0 m))) o1 c1 o2 c2 → Writes (add-merged (ascii ")") Punct) o2 c2 o3 c3 → Adds true (negation l m r) o c o3 c3
   unfolding negation negated-token test-from
   adds-around q f a g =
-      let k : List Token = kept (test-tokens l m) in
-      let e : kept (map (negated-token l m r) (range 0 m)) ≡ k =
-      ap kept (map-same (negated-token l m r) (test-token l m) (λ j. rw q) (range 0 m) ∙ ap (λ (j : ℕ). map (test-token l m) (range 0 j)) (sym (sub-zero m))) in
+      let k : List Token = whole (test-tokens l m) in
+      let e : whole (map (negated-token l m r) (range 0 m)) ≡ k =
+      ap whole (map-same (negated-token l m r) (test-token l m) (λ j. rw q) (range 0 m) ∙ ap (λ (j : ℕ). map (test-token l m) (range 0 j)) (sym (sub-zero m))) in
       rw q
       (adds-merge (tok (ascii "!(") Punct ∷ (k ++ (tok (ascii ")") Punct ∷ [])))
-      (adds-more (tok (ascii "!(") Punct ∷ []) (k ++ (tok (ascii ")") Punct ∷ [])) (adds-merged (ascii "!(") Punct f)
-      (adds-more k (tok (ascii ")") Punct ∷ []) (adds-as e a) (adds-merged (ascii ")") Punct g))))
+      (adds-more (tok (ascii "!(") Punct ∷ []) (k ++ (tok (ascii ")") Punct ∷ [])) (adds-merged (ascii "!(") Punct refl f)
+      (adds-more k (tok (ascii ")") Punct ∷ []) (adds-as e a) (adds-merged (ascii ")") Punct refl g))))

@@ -23,7 +23,8 @@ use Rattle.loop_theory.proofs.Cases.{none-some, some-same, true-false, IfSome}
 use Rattle.loop_theory.proofs.Places.{on-part-one}
 use Rattle.loop_theory.proofs.Comparisons.{Stands, comparison-in, comparison-stands, find-among}
 use Rattle.negate.specs.Tests.{test, test-count, test-token, test-from, test-tokens}
-use Rattle.negate.specs.Comparisons.{numbered, found-in, found-at, seen, flip-some, negated-token, kept, negation}
+use Rattle.append.specs.Adds.{whole}
+use Rattle.negate.specs.Comparisons.{numbered, found-in, found-at, seen, flip-some, negated-token, negation}
 use Rattle.negate.specs.declared.comparison.Seen.{Seen as Counts}
 use Rattle.negate.specs.declared.comparison.Only.the-variants.{At, Nothing}
 use Rattle.negate.proofs.TestTokens.{test-is}
@@ -42,7 +43,7 @@ nothing-starts = refl
 -- The only comparison of the tokens that are not empty
 
 module _ (U : List Token) where
-  only-kept : only-comparison (scan 0 (kept U) nothing-seen) ≡ Option·map (moved (kept-place U)) (only-comparison (scan 0 U nothing-seen))
+  only-kept : only-comparison (scan 0 (whole U) nothing-seen) ≡ Option·map (moved (kept-place U)) (only-comparison (scan 0 U nothing-seen))
   unfolding only-comparison relabelled
   only-kept = rw (scan-kept U) (go (eqb (scan 0 U nothing-seen .count) 1))
     where
@@ -89,14 +90,14 @@ module _ (U : List Token) (f : Found) (e : only-comparison (scan 0 U nothing-see
       )
 
   -- the negation, by the place among all tokens
-  negated-only : negate-cond (kept U) ≡ kept (on-part (f .place) (f .place + 1) (flip f) U)
+  negated-only : negate-cond (whole U) ≡ whole (on-part (f .place) (f .place + 1) (flip f) U)
   negated-only =
-      when-some (kept U) (moved (kept-place U) f) (only-kept U ∙ ap (Option·map (moved (kept-place U))) e)
+      when-some (whole U) (moved (kept-place U) f) (only-kept U ∙ ap (Option·map (moved (kept-place U))) e)
       ∙ sym (kept-change (flip f) U (f .place) stands-in flipped-in)
 
 negated-none : (U : List Token) → only-comparison (scan 0 U nothing-seen) ≡ none
-    → negate-cond (kept U) ≡ merge (tok (ascii "!(") Punct ∷ (kept U ++ (tok (ascii ")") Punct ∷ [])))
-negated-none U e = when-none (kept U) (only-kept U ∙ ap (Option·map (moved (kept-place U))) e)
+    → negate-cond (whole U) ≡ merge (tok (ascii "!(") Punct ∷ (whole U ++ (tok (ascii ")") Punct ∷ [])))
+negated-none U e = when-none (whole U) (only-kept U ∙ ap (Option·map (moved (kept-place U))) e)
 
 -- A change of the token at one place
 
@@ -127,7 +128,7 @@ module _ {A : Type 0} (f : ℕ → A) (h : A → A) where
 -- The answer
 
 module _ (l : Line) (g m : ℕ) (n : Counts) (c : m ≡ test-count l g) (q : seen n ≡ scan 0 (test-tokens l m) nothing-seen) where
-  condition-is : kept (test-tokens l m) ≡ test l g
+  condition-is : whole (test-tokens l m) ≡ test l g
   condition-is = rw c (test-is l g)
 
   pub negation-only : n .count ≡ 1 → n .which < 6 → negation l (test-count l g) (At (n .place) (n .byte) (n .which)) ≡ negate-cond (test l g)
@@ -140,7 +141,7 @@ module _ (l : Line) (g m : ℕ) (n : Counts) (c : m ≡ test-count l g) (q : see
       let t : (k : ℕ) → negated-token l m (At (n .place) (n .byte) (n .which)) k ≡ cond (eqb k (n .place)) (flip f (test-token l m k)) (test-token l m k) =
       λ k. rw (s .1) in
       rw (← c)
-      (ap kept (map-same (negated-token l m (At (n .place) (n .byte) (n .which))) (λ (k : ℕ). cond (eqb k (n .place)) (flip f (test-token l m k)) (test-token l m k)) t (range 0 m)
+      (ap whole (map-same (negated-token l m (At (n .place) (n .byte) (n .which))) (λ (k : ℕ). cond (eqb k (n .place)) (flip f (test-token l m k)) (test-token l m k)) t (range 0 m)
       ∙ sym (one-changed (test-token l m) (flip f) (n .place) m) ∙ ap (λ (k : ℕ). on-part (n .place) (n .place + 1) (flip f) (map (test-token l m) (range 0 k))) (sym (sub-zero m)))
       ∙ sym (negated-only (test-tokens l m) f e) ∙ ap negate-cond condition-is)
 

@@ -1,7 +1,6 @@
 -- Empty tokens do not count: a scan of all tokens finds the comparison that a scan without the empty ones finds, at another place.
 --   kept-place U p        the place among the tokens that are not empty
 --   moved m f, relabelled m r    a comparison, and what is seen, with the places of m
---   filter-append         empty tokens dropped from two lists
 --   scan-kept             the scan without the empty tokens
 --   kept-change           a change of one token that is not empty, and does not become so
 -- Assumes nothing.
@@ -22,7 +21,9 @@ use Rattle.definitions.specs.Statements.{is-empty}
 use Rattle.definitions.specs.Condition.{Comparison, Found, Seen, nothing-seen, at-depth-0, add-found, see-logical, comparison-at, see-bracket, scan-text, scan-token, scan}
 use Rattle.loop_theory.proofs.Cases.{true-false, ==-true}
 use Rattle.loop_theory.proofs.Places.{on-part-one}
-use Rattle.negate.specs.Comparisons.{kept, found-in}
+use Rattle.append.specs.Adds.{whole}
+use Rattle.append.proofs.Appends.{whole-append}
+use Rattle.negate.specs.Comparisons.{found-in}
 
 -- What is seen, with other places
 
@@ -114,20 +115,11 @@ scan-tracked m r (same {p} {q} {t} {ts} {us} e k) =
 scan-tracked m r (left {p} {q} {t} {ts} {us} e k) =
     scan-tracked m r k ∙ ap (λ (x : Seen). relabelled m (scan (suc p) ts x)) (sym (empty-passed p t r e))
 
-pub filter-append : (ts us : List Token) → kept (ts ++ us) ≡ kept ts ++ kept us
-unfolding filter
-filter-append [] us = refl
-filter-append (t ∷ ts) us = go (not (is-empty t)) (filter-append ts us)
-  where
-    go : (b : Bool) → kept (ts ++ us) ≡ kept ts ++ kept us → cond b (t ∷ kept (ts ++ us)) (kept (ts ++ us)) ≡ cond b (t ∷ kept ts) (kept ts) ++ kept us
-    go true e = ap (λ (x : List Token). t ∷ x) e
-    go false e = e
-
 unfoldable pub kept-place : List Token → ℕ → ℕ
-kept-place U p = length (kept (take p U))
+kept-place U p = length (whole (take p U))
 
 module _ (U : List Token) where
-  tracks : (P S : List Token) → P ++ S ≡ U → Tracks (kept-place U) (length P) (length (kept P)) S (kept S)
+  tracks : (P S : List Token) → P ++ S ≡ U → Tracks (kept-place U) (length P) (length (whole P)) S (whole S)
   unfolding filter kept-place
   tracks P [] e = end
   tracks P (t ∷ S) e = go (not (is-empty t)) refl (tracks (P ++ (t ∷ [])) S (append-assoc P (t ∷ []) S ∙ e))
@@ -135,16 +127,16 @@ module _ (U : List Token) where
       more : length (P ++ (t ∷ [])) ≡ suc (length P)
       more = length-append P (t ∷ []) ∙ add-one (length P)
 
-      go : (b : Bool) → not (is-empty t) ≡ b → Tracks (kept-place U) (length (P ++ (t ∷ []))) (length (kept (P ++ (t ∷ [])))) S (kept S)
-          → Tracks (kept-place U) (length P) (length (kept P)) (t ∷ S) (cond b (t ∷ kept S) (kept S))
+      go : (b : Bool) → not (is-empty t) ≡ b → Tracks (kept-place U) (length (P ++ (t ∷ []))) (length (whole (P ++ (t ∷ [])))) S (whole S)
+          → Tracks (kept-place U) (length P) (length (whole P)) (t ∷ S) (cond b (t ∷ whole S) (whole S))
       go true f k =
-          let n : length (kept (P ++ (t ∷ []))) ≡ suc (length (kept P)) =
-          ap length (filter-append P (t ∷ []) ∙ ap (λ (b : Bool). kept P ++ cond b (t ∷ []) []) f) ∙ length-append (kept P) (t ∷ []) ∙ add-one (length (kept P)) in
-          same (ap (λ (x : List Token). length (kept (take (length P) x))) (sym e) ∙ ap (λ (x : List Token). length (kept x)) (take-at P (t ∷ S) (length P) refl))
+          let n : length (whole (P ++ (t ∷ []))) ≡ suc (length (whole P)) =
+          ap length (whole-append P (t ∷ []) ∙ ap (λ (b : Bool). whole P ++ cond b (t ∷ []) []) f) ∙ length-append (whole P) (t ∷ []) ∙ add-one (length (whole P)) in
+          same (ap (λ (x : List Token). length (whole (take (length P) x))) (sym e) ∙ ap (λ (x : List Token). length (whole x)) (take-at P (t ∷ S) (length P) refl))
           (rw (more, n) at k)
       go false f k =
-          let n : length (kept (P ++ (t ∷ []))) ≡ length (kept P) =
-          ap length (filter-append P (t ∷ []) ∙ ap (λ (b : Bool). kept P ++ cond b (t ∷ []) []) f) ∙ length-append (kept P) [] ∙ add-zero (length (kept P)) in
+          let n : length (whole (P ++ (t ∷ []))) ≡ length (whole P) =
+          ap length (whole-append P (t ∷ []) ∙ ap (λ (b : Bool). whole P ++ cond b (t ∷ []) []) f) ∙ length-append (whole P) [] ∙ add-zero (length (whole P)) in
           left (emptied f) (rw (more, n) at k)
         where
           emptied : not (is-empty t) ≡ false → t .text ≡ []
@@ -154,27 +146,27 @@ module _ (U : List Token) where
               by true p q = ==-true (t .text) [] p
               by false p q = true-false {b = true} refl q
 
-  pub scan-kept : scan 0 (kept U) nothing-seen ≡ relabelled (kept-place U) (scan 0 U nothing-seen)
+  pub scan-kept : scan 0 (whole U) nothing-seen ≡ relabelled (kept-place U) (scan 0 U nothing-seen)
   unfolding relabelled filter
   scan-kept = scan-tracked (kept-place U) nothing-seen (tracks [] U refl)
 
 -- One token changed
 
 kept-one : (f : Token → Token) (U : List Token) (p : ℕ) → not (is-empty (getD U p no-token)) ≡ true → not (is-empty (f (getD U p no-token))) ≡ true
-    → kept (take p U ++ on-first f (drop p U)) ≡ take (kept-place U p) (kept U) ++ on-first f (drop (kept-place U p) (kept U))
+    → whole (take p U ++ on-first f (drop p U)) ≡ take (kept-place U p) (whole U) ++ on-first f (drop (kept-place U p) (whole U))
 unfolding filter kept-place on-first _==_
 kept-one f [] p g h = true-false {b = false} g refl
 kept-one f (t ∷ U) zero g h = rw (g, h)
 kept-one f (t ∷ U) (suc p) g h = go (not (is-empty t)) (kept-one f U p g h)
   where
     go : (b : Bool)
-        → kept (take p U ++ on-first f (drop p U)) ≡ take (kept-place U p) (kept U) ++ on-first f (drop (kept-place U p) (kept U))
-        → cond b (t ∷ kept (take p U ++ on-first f (drop p U))) (kept (take p U ++ on-first f (drop p U)))
-        ≡ take (length (cond b (t ∷ kept (take p U)) (kept (take p U)))) (cond b (t ∷ kept U) (kept U))
-        ++ on-first f (drop (length (cond b (t ∷ kept (take p U)) (kept (take p U)))) (cond b (t ∷ kept U) (kept U)))
+        → whole (take p U ++ on-first f (drop p U)) ≡ take (kept-place U p) (whole U) ++ on-first f (drop (kept-place U p) (whole U))
+        → cond b (t ∷ whole (take p U ++ on-first f (drop p U))) (whole (take p U ++ on-first f (drop p U)))
+        ≡ take (length (cond b (t ∷ whole (take p U)) (whole (take p U)))) (cond b (t ∷ whole U) (whole U))
+        ++ on-first f (drop (length (cond b (t ∷ whole (take p U)) (whole (take p U)))) (cond b (t ∷ whole U) (whole U)))
     go true e = ap (λ (x : List Token). t ∷ x) e
     go false e = e
 
 pub kept-change : (f : Token → Token) (U : List Token) (p : ℕ) → not (is-empty (getD U p no-token)) ≡ true → not (is-empty (f (getD U p no-token))) ≡ true
-    → kept (on-part p (p + 1) f U) ≡ on-part (kept-place U p) (kept-place U p + 1) f (kept U)
-kept-change f U p g h = ap kept (on-part-one f p U) ∙ kept-one f U p g h ∙ sym (on-part-one f (kept-place U p) (kept U))
+    → whole (on-part p (p + 1) f U) ≡ on-part (kept-place U p) (kept-place U p + 1) f (whole U)
+kept-change f U p g h = ap whole (on-part-one f p U) ∙ kept-one f U p g h ∙ sym (on-part-one f (kept-place U p) (whole U))

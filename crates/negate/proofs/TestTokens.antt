@@ -26,7 +26,7 @@ use Rattle.text.proofs.Parts.{part-get, length-part}
 use Rattle.model.specs.Places.{line-start, line-end}
 use Rattle.model.proofs.Decode.{token-at, line-length, line-token}
 use Rattle.negate.specs.Tests.{test, test-count, test-token, test-from, test-tokens, front, back}
-use Rattle.negate.specs.Comparisons.{kept}
+use Rattle.append.specs.Adds.{whole}
 
 module _ (l : Line) (m : ℕ) where
   pub test-first : (k : ℕ) → k < m → test-from l m k ≡ test-token l m k ∷ test-from l m (k + 1)
@@ -150,9 +150,9 @@ module _ (l : Line) (g : ℕ) where
           let i : j < m = omega (arith, long) in
           at-range no-token (test-token l m) 0 (m - 0) j (omega arith) ∙ rw (zero-add j) (sym (at-ends xs j (omega arith) ∙ rw (at j i, count)))
 
-  pub test-is : kept (test-tokens l (test-count l g)) ≡ test l g
+  pub test-is : whole (test-tokens l (test-count l g)) ≡ test l g
   unfolding ends
-  test-is = ap kept (tests-at (test-count l g) (part 1 g (l .tokens)) count at)
+  test-is = ap whole (tests-at (test-count l g) (part 1 g (l .tokens)) count at)
     where
       count : length (part 1 g (l .tokens)) ≡ test-count l g
       count = length-part (l .tokens) 1 g ∙ omega arith

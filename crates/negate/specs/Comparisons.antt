@@ -9,20 +9,19 @@
 --   Sound o               the number of the answer's comparison is one of the six
 --   flipped w             what comparison w is flipped to
 --   flip-some o t         the token t with the comparison o flipped, where there is one
---   kept ts               the tokens that are not empty
 --   negated-token l m o k     token k of m of the condition, with the comparison that the answer o says flipped if it stands there
 --   negation l m o        the negated condition by the answer o
 -- Assumes nothing.
 use Prim.Native.Nat.{ℕ, _+_, _<_}
-use mathlib.Core.Bool.{not}
 use mathlib.Core.List.{List, [], _∷_, _++_, map}
 use mathlib.Core.Option.{Option, none, some, Option·map}
 use lib.Dec.{eqb}
 use lib.ListN.{length, getElem?}
-use Rattle.definitions.specs.Lists.{if_then_else_, or-else, starts-with, ascii, find, filter, count, range}
+use Rattle.definitions.specs.Lists.{if_then_else_, or-else, starts-with, ascii, find, count, range}
 use Rattle.definitions.specs.Model.{Token, Line, tok, Punct}
-use Rattle.definitions.specs.Statements.{is-empty, merge}
+use Rattle.definitions.specs.Statements.{merge}
 use Rattle.definitions.specs.Condition.{Comparison, comparisons, Found, Seen, flip}
+use Rattle.append.specs.Adds.{whole}
 use Rattle.negate.specs.Tests.{test-token, test-tokens}
 use Rattle.negate.specs.declared.comparison.Seen.{Seen as Counts}
 use Rattle.negate.specs.declared.comparison.Only.{Only}
@@ -69,9 +68,6 @@ unfoldable pub negated-token : Line → ℕ → Only → ℕ → Token
 negated-token l m (At p b w) k = if eqb k p then flip-some (found-at p b w) (test-token l m k) else test-token l m k
 negated-token l m Nothing k = test-token l m k
 
-abbrev pub kept : List Token → List Token
-kept ts = filter (λ t. not (is-empty t)) ts
-
 unfoldable pub negation : Line → ℕ → Only → List Token
-negation l m (At p b w) = kept (map (negated-token l m (At p b w)) (range 0 m))
-negation l m Nothing = merge (tok (ascii "!(") Punct ∷ (kept (test-tokens l m) ++ (tok (ascii ")") Punct ∷ [])))
+negation l m (At p b w) = whole (map (negated-token l m (At p b w)) (range 0 m))
+negation l m Nothing = merge (tok (ascii "!(") Punct ∷ (whole (test-tokens l m) ++ (tok (ascii ")") Punct ∷ [])))

@@ -1,7 +1,7 @@
 // Appends the negated condition of a leading test to the destination, in time linear in its bytes.
 //
-// Contracts cite `negate-cond` of Rattle.definitions.specs.Condition and `Adding` of this crate's specs/: what is appended is merged, as the
-// header that it stands in is.
+// Contracts cite `negate-cond` of Rattle.definitions.specs.Condition and `Adding` of Rattle.append.specs.Adds: what is appended is merged,
+// as the header that it stands in is.
 use crate::comparison::Only;
 use crate::comparison::only_comparison;
 use crate::comparison::width;
@@ -10,6 +10,7 @@ use crate::test::test_kind;
 use crate::test::test_text;
 use write::Cursor;
 ghost use mathlib.Core.Path.{_≡_};
+ghost use mathlib.Core.Bool.{true};
 ghost use mathlib.Core.List.{List, [], _∷_, map};
 ghost use Prim.Native.Nat.{ℕ, _<_};
 ghost use Rattle.definitions.specs.Lists.{range};
@@ -19,8 +20,8 @@ ghost use Rattle.definitions.specs.Condition.{negate-cond};
 ghost use Rattle.write.specs.State.{add-bytes};
 ghost use Rattle.write.specs.Holds.{columns, Writes};
 ghost use Rattle.negate.specs.Tests.{test};
-ghost use Rattle.negate.specs.Comparisons.{found-at, flip-some, flipped, negated-token, kept, Sound};
-ghost use Rattle.negate.specs.Adds.{Adding};
+ghost use Rattle.negate.specs.Comparisons.{found-at, flip-some, flipped, negated-token, Sound};
+ghost use Rattle.append.specs.Adds.{Adding, whole};
 
 // Appends what comparison w is flipped to to the open token.
 fn add_flipped(text: &mut [u8], c: Cursor, w: usize) -> Cursor
@@ -48,24 +49,13 @@ fn add_negated_token(
     w: usize,
 ) -> Cursor
     requires { ⌜ kind < 256 ⌝ }
-    ensures { λ r. ⌜ Adding (flip-some (found-at 0 b w) (tok (now (s .entry)) kind) ∷ []) (now (tokens .entry)) (now (text .entry)) c (now (tokens .exit)) (now (text .exit)) r ⌝ }
+    ensures { λ r. ⌜ Adding true (flip-some (found-at 0 b w) (tok (now (s .entry)) kind) ∷ []) (now (tokens .entry)) (now (text .entry)) c (now (tokens .exit)) (now (text .exit)) r ⌝ }
 {
     let d = write::add_bytes(text, c, text::part(s, 0, b));
     let e = add_flipped(text, d, w);
     let rest = text::part(s, b, s.len());
     let f = write::add_bytes(text, e, text::part(rest, width(w), rest.len()));
     write::end_merged(tokens, f, kind)
-}
-
-// Appends the token with text s and a kind, unless it is empty.
-fn add_unless_empty(tokens: &mut [u32], text: &mut [u8], c: Cursor, s: &[u8], kind: usize) -> Cursor
-    requires { ⌜ kind < 256 ⌝ }
-    ensures { λ r. ⌜ Adding (kept (tok (now (s .entry)) kind ∷ [])) (now (tokens .entry)) (now (text .entry)) c (now (tokens .exit)) (now (text .exit)) r ⌝ }
-{
-    if s.len() == 0 {
-        return c;
-    }
-    write::add_merged(tokens, text, c, s, kind)
 }
 
 // Appends token k of the m tokens of the condition, unless it is empty, with the comparison that the answer o says flipped.
@@ -84,17 +74,17 @@ fn add_test_token(
     requires { ⌜ (k < m) × Sound o ⌝ }
     ensures { λ r.
         ⌜ (let l = line (listing (now (lines .entry)) (now (tokens .entry)) (now (text .entry))) i in
-        Adding (kept (negated-token l m o k ∷ [])) (now (words .entry)) (now (bytes .entry)) c (now (words .exit)) (now (bytes .exit)) r) ⌝ }
+        Adding true (whole (negated-token l m o k ∷ [])) (now (words .entry)) (now (bytes .entry)) c (now (words .exit)) (now (bytes .exit)) r) ⌝ }
 {
     let s = test_text(lines, tokens, text, i, m, k);
     let kind = test_kind(lines, tokens, text, i, m, k);
     let Only::At { place, byte, which } = o else {
-        return add_unless_empty(words, bytes, c, s, kind);
+        return append::add_unless_empty(words, bytes, c, s, kind, true);
     };
     if k == place {
         return add_negated_token(words, bytes, c, s, kind, byte, which);
     }
-    add_unless_empty(words, bytes, c, s, kind)
+    append::add_unless_empty(words, bytes, c, s, kind, true)
 }
 
 // Appends the m tokens of the condition, with the comparison that the answer o says flipped.
@@ -112,7 +102,7 @@ fn add_test_tokens(
     requires { ⌜ Sound o ⌝ }
     ensures { λ r.
         ⌜ (let l = line (listing (now (lines .entry)) (now (tokens .entry)) (now (text .entry))) i in
-        Adding (kept (map (negated-token l m o) (range 0 m))) (now (words .entry)) (now (bytes .entry)) c (now (words .exit)) (now (bytes .exit)) r) ⌝ }
+        Adding true (whole (map (negated-token l m o) (range 0 m))) (now (words .entry)) (now (bytes .entry)) c (now (words .exit)) (now (bytes .exit)) r) ⌝ }
 {
     let mut d = c;
     let mut k = 0;
@@ -136,7 +126,7 @@ pub fn add_negated(
 ) -> Cursor
     ensures { λ r.
         ⌜ (let l = line (listing (now (lines .entry)) (now (tokens .entry)) (now (text .entry))) i in
-        Adding (negate-cond (test l g)) (now (words .entry)) (now (bytes .entry)) c (now (words .exit)) (now (bytes .exit)) r) ⌝ }
+        Adding true (negate-cond (test l g)) (now (words .entry)) (now (bytes .entry)) c (now (words .exit)) (now (bytes .exit)) r) ⌝ }
 {
     let m = test_count(lines, tokens, text, i, g);
     let o = only_comparison(lines, tokens, text, i, g);

@@ -4,7 +4,7 @@ use denote.Ref.{now}
 use Rattle.definitions.specs.Answers.{loops}
 use Rattle.definitions.specs.Calls.{pass-call}
 use Rattle.write.specs.Holds.{columns}
-use Rattle.recover_loops.specs.declared.Answer.the-variants.{Accepted, TooLarge, Malformed, NotUtf8, NoRoom, Overflow}
+use Rattle.pass_call.specs.declared.Answer.the-variants.{Accepted, TooLarge, Malformed, NotUtf8, NoRoom, Overflow}
 use Rattle.javrenzu_calls.specs.Crossing.{refusal-number, counts-of}
 use Rattle.javrenzu_calls.proofs.Crossed.{pass-crossed}
 use Rattle.javrenzu_calls.proofs.javrenzu_recover_loops.Statement.{statement}

@@ -1,17 +1,18 @@
 -- `recover_loops::recover_loops` meets its contract. The questions, then the pass.
 -- Assumes nothing.
-use Rattle.recover_loops.proofs.Calling.{asked-none, asked-some, refusal-is}
+use Rattle.definitions.specs.Answers.{loops}
+use Rattle.pass_call.proofs.Calling.{asked-none, asked-some, refusal-is}
 use denote.Ref.{now}
 use Rattle.write.specs.Holds.{columns}
 use borrow.Author.Needs.{needs}
 use Rattle.recover_loops.proofs.recover_loops.Statement.{statement}
 use Rattle.recover_loops.proofs.recover_loops.Tie as tie
 
-pass-refusal-requires : tie.Need-pass-refusal-requires
-pass-refusal-requires c κs = search needs
+asked-requires : tie.Need-asked-requires
+asked-requires c κs = search needs
 
 passed-requires : tie.Need-passed-requires
-passed-requires c κs = asked-none _ _ (c .before .before .before .before .before .pass-refusal .ensures .0) (c .before .before .before .before .if1 .taken)
+passed-requires c κs = asked-none _ _ (c .before .before .before .before .before .asked .ensures .0) (c .before .before .before .before .if1 .taken)
 
 same-length : tie.Need-same-length
 same-length c = search needs
@@ -44,13 +45,13 @@ same-length-8 : tie.Need-same-length-8
 same-length-8 c = search needs
 
 returns-2 : tie.Need-returns-2
-returns-2 c = let g = c .before .before .before .before .before .before .before .before .before .before .before .before .before .before .before .args in let C = columns (now (g .lines)) (now (g .addresses)) (now (g .tokens)) (now (g .text)) in let O = columns (now (g .rows)) (now (g .places)) (now (g .words)) (now (g .bytes)) in refusal-is C O _ (asked-some _ _ (c .before .before .pass-refusal .ensures .0) (c .before .if1 .left)) (c .refusal .result) (c .refusal .ensures)
+returns-2 c = let g = c .before .before .before .before .before .before .before .before .before .before .before .before .before .before .before .args in let C = columns (now (g .lines)) (now (g .addresses)) (now (g .tokens)) (now (g .text)) in let O = columns (now (g .rows)) (now (g .places)) (now (g .words)) (now (g .bytes)) in refusal-is loops C O _ (asked-some _ _ (c .before .before .asked .ensures .0) (c .before .if1 .left)) (c .refusal .result) (c .refusal .ensures)
 
 pub recover-loops-spec : {M : Type 1} → statement M
 recover-loops-spec =
     tie.close
     (tie.spec
-    pass-refusal-requires
+    asked-requires
     passed-requires
     same-length
     same-length-2

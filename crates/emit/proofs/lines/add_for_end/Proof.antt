@@ -1,13 +1,19 @@
 -- `emit::lines::add_for_end` meets its contract. Four pieces.
 -- Assumes nothing.
-use Rattle.emit.proofs.Planned.{four-adds}
-use mathlib.Core.Path.{_∙_}
+use Rattle.append.proofs.Appends.{adds-four}
+use denote.Ref.{now}
+use Rattle.definitions.specs.Columns.{listing}
+use mathlib.Core.Path.{ap, _∙_}
+use Rattle.append.proofs.Appends.{adds-as}
+use Rattle.pieces.specs.Pieces.{piece}
+use Rattle.append_pieces.specs.Dressed.{dressed}
+use mathlib.Core.Bool.{true}
 use borrow.Author.Needs.{needs}
 use Rattle.emit.proofs.lines.add_for_end.Statement.{statement}
 use Rattle.emit.proofs.lines.add_for_end.Tie as tie
 
-add-condition-requires : tie.Need-add-condition-requires
-add-condition-requires c κs = search needs
+add-test-requires : tie.Need-add-test-requires
+add-test-requires c κs = c .before .before .before .before .before .before .before .pre
 
 slice-aggregate-add : tie.Need-slice-aggregate-add
 slice-aggregate-add c = search needs
@@ -15,8 +21,11 @@ slice-aggregate-add c = search needs
 add-requires : tie.Need-add-requires
 add-requires c κs = search needs
 
-add-line-requires : tie.Need-add-line-requires
-add-line-requires c κs = search needs
+step-requires : tie.Need-step-requires
+step-requires c κs = search needs
+
+add-piece-requires : tie.Need-add-piece-requires
+add-piece-requires c κs = search needs
 
 slice-aggregate-add-2 : tie.Need-slice-aggregate-add-2
 slice-aggregate-add-2 c = search needs
@@ -25,22 +34,23 @@ add-requires-2 : tie.Need-add-requires-2
 add-requires-2 c κs = search needs
 
 same-length : tie.Need-same-length
-same-length c = c .before .before .before .before .add2 .kept .0 ∙ (c .before .before .before .before .before .before .before .before .before .before .before .before .add-line .kept .1 .1 .1 .1 .1 .0 ∙ (c .before .before .before .before .before .before .before .before .before .before .before .before .before .before .before .before .before .before .before .add .kept .0 ∙ c .before .before .before .before .before .before .before .before .before .before .before .before .before .before .before .before .before .before .before .before .before .before .before .before .before .before .before .add-condition .kept .1 .1 .1 .1 .0))
+same-length c = c .before .before .before .before .add2 .kept .0 ∙ (c .before .before .before .before .before .before .before .before .before .before .before .before .add-piece .kept .1 .1 .1 .1 .1 .0 ∙ (c .before .before .before .before .before .before .before .before .before .before .before .before .before .before .before .before .before .before .before .before .add .kept .0 ∙ c .before .before .before .before .before .before .before .before .before .before .before .before .before .before .before .before .before .before .before .before .before .before .before .before .before .before .before .before .add-test .kept .1 .1 .1 .1 .0))
 
 same-length-2 : tie.Need-same-length-2
-same-length-2 c = c .before .before .before .before .add2 .kept .1 .0 ∙ (c .before .before .before .before .before .before .before .before .before .before .before .before .add-line .kept .1 .1 .1 .1 .1 .1 .0 ∙ (c .before .before .before .before .before .before .before .before .before .before .before .before .before .before .before .before .before .before .before .add .kept .1 .0 ∙ c .before .before .before .before .before .before .before .before .before .before .before .before .before .before .before .before .before .before .before .before .before .before .before .before .before .before .before .add-condition .kept .1 .1 .1 .1 .1 .0))
+same-length-2 c = c .before .before .before .before .add2 .kept .1 .0 ∙ (c .before .before .before .before .before .before .before .before .before .before .before .before .add-piece .kept .1 .1 .1 .1 .1 .1 .0 ∙ (c .before .before .before .before .before .before .before .before .before .before .before .before .before .before .before .before .before .before .before .before .add .kept .1 .0 ∙ c .before .before .before .before .before .before .before .before .before .before .before .before .before .before .before .before .before .before .before .before .before .before .before .before .before .before .before .before .add-test .kept .1 .1 .1 .1 .1 .0))
 
 returns : tie.Need-returns
-returns c = λ l a. four-adds _ _ _ _ _ _ _ _ _ _ _ _ _ _ _ (c .before .before .before .before .before .before .before .before .before .before .before .before .before .before .before .before .before .before .before .before .before .before .before .before .before .before .before .add-condition .ensures l a) (c .before .before .before .before .before .before .before .before .before .before .before .before .before .before .before .before .before .before .before .add .ensures l a) (c .before .before .before .before .before .before .before .before .before .before .before .before .add-line .ensures l a) (c .before .before .before .before .add2 .ensures l a)
+returns c = let g = c .before .before .before .before .before .before .before .before .before .before .before .before .before .before .before .before .before .before .before .before .before .before .before .before .before .before .before .before .before .before .before .before .before .before .before .before .args in let C = listing (now (g .lines)) (now (g .tokens)) (now (g .text)) in λ l a. adds-four _ _ _ _ (c .before .before .before .before .before .before .before .before .before .before .before .before .before .before .before .before .before .before .before .before .before .before .before .before .before .before .before .before .add-test .ensures l a) (c .before .before .before .before .before .before .before .before .before .before .before .before .before .before .before .before .before .before .before .before .add .ensures l a) (adds-as (ap (λ p. dressed true (piece C p .tokens)) (c .before .before .before .before .before .before .before .before .before .before .before .before .before .before .before .step .ensures)) (c .before .before .before .before .before .before .before .before .before .before .before .before .add-piece .ensures l a)) (c .before .before .before .before .add2 .ensures l a)
 
 pub add-for-end-spec : {M : Type 1} → statement M
 add-for-end-spec =
     tie.close
     (tie.spec
-    add-condition-requires
+    add-test-requires
     slice-aggregate-add
     add-requires
-    add-line-requires
+    step-requires
+    add-piece-requires
     slice-aggregate-add-2
     add-requires-2
     same-length

@@ -1,6 +1,6 @@
 -- `emit::lines::add_while` meets its contract. Four pieces.
 -- Assumes nothing.
-use Rattle.emit.proofs.Planned.{four-adds}
+use Rattle.append.proofs.Appends.{adds-four}
 use mathlib.Core.Path.{_∙_}
 use borrow.Author.Needs.{needs}
 use Rattle.emit.proofs.lines.add_while.Statement.{statement}
@@ -18,8 +18,8 @@ slice-aggregate-add-2 c = search needs
 add-requires-2 : tie.Need-add-requires-2
 add-requires-2 c κs = search needs
 
-add-condition-requires : tie.Need-add-condition-requires
-add-condition-requires c κs = search needs
+add-test-requires : tie.Need-add-test-requires
+add-test-requires c κs = c .before .before .before .before .before .before .before .before .before .before .before .before .before .before .before .before .before .before .before .before .before .before .before .pre
 
 slice-aggregate-add-3 : tie.Need-slice-aggregate-add-3
 slice-aggregate-add-3 c = search needs
@@ -28,13 +28,13 @@ add-requires-3 : tie.Need-add-requires-3
 add-requires-3 c κs = search needs
 
 same-length : tie.Need-same-length
-same-length c = c .before .before .before .before .add3 .kept .0 ∙ (c .before .before .before .before .before .before .before .before .before .before .before .before .add-condition .kept .1 .1 .1 .1 .0 ∙ (c .before .before .before .before .before .before .before .before .before .before .before .before .before .before .before .before .before .before .before .add2 .kept .0 ∙ c .before .before .before .before .before .before .before .before .before .before .before .before .before .before .before .before .before .before .before .before .before .before .before .before .before .before .before .add .kept .0))
+same-length c = c .before .before .before .before .add3 .kept .0 ∙ (c .before .before .before .before .before .before .before .before .before .before .before .before .add-test .kept .1 .1 .1 .1 .0 ∙ (c .before .before .before .before .before .before .before .before .before .before .before .before .before .before .before .before .before .before .before .add2 .kept .0 ∙ c .before .before .before .before .before .before .before .before .before .before .before .before .before .before .before .before .before .before .before .before .before .before .before .before .before .before .before .add .kept .0))
 
 same-length-2 : tie.Need-same-length-2
-same-length-2 c = c .before .before .before .before .add3 .kept .1 .0 ∙ (c .before .before .before .before .before .before .before .before .before .before .before .before .add-condition .kept .1 .1 .1 .1 .1 .0 ∙ (c .before .before .before .before .before .before .before .before .before .before .before .before .before .before .before .before .before .before .before .add2 .kept .1 .0 ∙ c .before .before .before .before .before .before .before .before .before .before .before .before .before .before .before .before .before .before .before .before .before .before .before .before .before .before .before .add .kept .1 .0))
+same-length-2 c = c .before .before .before .before .add3 .kept .1 .0 ∙ (c .before .before .before .before .before .before .before .before .before .before .before .before .add-test .kept .1 .1 .1 .1 .1 .0 ∙ (c .before .before .before .before .before .before .before .before .before .before .before .before .before .before .before .before .before .before .before .add2 .kept .1 .0 ∙ c .before .before .before .before .before .before .before .before .before .before .before .before .before .before .before .before .before .before .before .before .before .before .before .before .before .before .before .add .kept .1 .0))
 
 returns : tie.Need-returns
-returns c = λ l a. four-adds _ _ _ _ _ _ _ _ _ _ _ _ _ _ _ (c .before .before .before .before .before .before .before .before .before .before .before .before .before .before .before .before .before .before .before .before .before .before .before .before .before .before .before .add .ensures l a) (c .before .before .before .before .before .before .before .before .before .before .before .before .before .before .before .before .before .before .before .add2 .ensures l a) (c .before .before .before .before .before .before .before .before .before .before .before .before .add-condition .ensures l a) (c .before .before .before .before .add3 .ensures l a)
+returns c = λ l a. adds-four _ _ _ _ (c .before .before .before .before .before .before .before .before .before .before .before .before .before .before .before .before .before .before .before .before .before .before .before .before .before .before .before .add .ensures l a) (c .before .before .before .before .before .before .before .before .before .before .before .before .before .before .before .before .before .before .before .add2 .ensures l a) (c .before .before .before .before .before .before .before .before .before .before .before .before .add-test .ensures l a) (c .before .before .before .before .add3 .ensures l a)
 
 pub add-while-spec : {M : Type 1} → statement M
 add-while-spec =
@@ -44,7 +44,7 @@ add-while-spec =
     add-requires
     slice-aggregate-add-2
     add-requires-2
-    add-condition-requires
+    add-test-requires
     slice-aggregate-add-3
     add-requires-3
     same-length

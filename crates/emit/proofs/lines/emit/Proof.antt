@@ -8,7 +8,7 @@ use Rattle.plan.specs.Plan.{render}
 use Rattle.write.specs.State.{done}
 use Rattle.write.specs.Holds.{columns, Holds}
 use native.Mathlib.Omega.{arith}
-use Rattle.emit.proofs.Planned.{word-plain, emitted-next, emitted-end}
+use Rattle.emit.proofs.Planned.{word-sound, emitted-next, emitted-end}
 use borrow.Author.Needs.{needs}
 use Rattle.emit.proofs.lines.emit.Statement.{statement}
 use Rattle.emit.proofs.lines.emit.Tie as tie
@@ -35,13 +35,13 @@ add-next : tie.Need-add-next Inv-loop μ-loop
 add-next c = search needs
 
 emit-line-requires : tie.Need-emit-line-requires Inv-loop μ-loop
-emit-line-requires c κs = let p = c .before .before .before .before .before .before .before .before .before .before .before .before .before .before .before .before .before .pre in (word-plain _ _ _ (p .0) (p .1) (c .before .before .before .before .before .loop-test .taken), p .2)
+emit-line-requires c κs = let p = c .before .before .before .before .before .before .before .before .before .before .before .before .before .before .before .before .before .pre in ((word-sound _ _ _ (p .0 .0) (p .0 .1) (c .before .before .before .before .before .loop-test .taken), p .0 .2), p .1)
 
 loop-less : tie.Need-loop-less Inv-loop μ-loop
 loop-less c = search needs
 
 loop-again : tie.Need-loop-again Inv-loop μ-loop
-loop-again c = let i = c .before .before .before .before .before .before .before .before .before .before .before .before .before .before .before .loop .inv in let p = c .before .before .before .before .before .before .before .before .before .before .before .before .before .before .before .before .before .before .before .before .before .before .before .before .before .before .pre in let e = c .before .before .before .before .before .before .before .before .emit-line in (e .kept .1 .1 .1 .1 .1 .0 ∙ i .0, e .kept .1 .1 .1 .1 .1 .1 .0 ∙ i .1, e .kept .1 .1 .1 .1 .1 .1 .1 .0 ∙ i .2, e .kept .1 .1 .1 .1 .1 .1 .1 .1 .0 ∙ i .3, omega (arith, c .before .before .before .before .before .before .before .before .before .before .before .before .before .before .loop-test .taken), emitted-next _ _ _ _ (p .0) (c .before .before .before .before .before .before .before .before .before .before .before .before .before .before .loop-test .taken) _ _ _ _ (i .5) (e .ensures))
+loop-again c = let i = c .before .before .before .before .before .before .before .before .before .before .before .before .before .before .before .loop .inv in let p = c .before .before .before .before .before .before .before .before .before .before .before .before .before .before .before .before .before .before .before .before .before .before .before .before .before .before .pre in let e = c .before .before .before .before .before .before .before .before .emit-line in (e .kept .1 .1 .1 .1 .1 .0 ∙ i .0, e .kept .1 .1 .1 .1 .1 .1 .0 ∙ i .1, e .kept .1 .1 .1 .1 .1 .1 .1 .0 ∙ i .2, e .kept .1 .1 .1 .1 .1 .1 .1 .1 .0 ∙ i .3, omega (arith, c .before .before .before .before .before .before .before .before .before .before .before .before .before .before .loop-test .taken), emitted-next _ _ _ _ (p .0 .0) (c .before .before .before .before .before .before .before .before .before .before .before .before .before .before .loop-test .taken) _ _ _ _ (i .5) (e .ensures))
 
 same-length : tie.Need-same-length Inv-loop μ-loop
 same-length c = c .before .loop .inv .0

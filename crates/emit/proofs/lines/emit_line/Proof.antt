@@ -6,7 +6,7 @@ use Rattle.emit.proofs.lines.emit_line.Statement.{statement}
 use Rattle.emit.proofs.lines.emit_line.Tie as tie
 
 add-planned-requires : tie.Need-add-planned-requires
-add-planned-requires c κs = search needs
+add-planned-requires c κs = let p = c .before .before .before .before .before .before .before .before .before .before .pre in (p .0 .0, p .1)
 
 source-requires : tie.Need-source-requires
 source-requires c κs = search needs
@@ -33,7 +33,7 @@ same-length-4 : tie.Need-same-length-4
 same-length-4 c = search needs
 
 returns : tie.Need-returns
-returns c = let p = c .before .before .before .before .before .before .before .before .before .before .before .before .before .before .before .before .before .before .before .before .before .before .before .before .before .pre in line-ended _ _ _ _ _ (p .0) (p .1) _ _ _ _ _ _ _ _ (c .before .before .before .before .before .before .before .before .before .before .before .before .before .before .add-planned .ensures) _ _ _ (c .before .before .before .before .before .before .before .before .before .source .ensures) (c .before .before .before .before .before .indent .ensures .0) (c .before .before .before .before .before .before .before .before .address-of .ensures) _ _ _ (c .before .before .before .before .end-line .ensures)
+returns c = let p = c .before .before .before .before .before .before .before .before .before .before .before .before .before .before .before .before .before .before .before .before .before .before .before .before .before .pre in line-ended _ _ _ _ _ (p .0 .1) _ _ _ _ _ _ _ _ (c .before .before .before .before .before .before .before .before .before .before .before .before .before .before .add-planned .ensures) _ _ _ (c .before .before .before .before .before .before .before .before .before .source .ensures) (c .before .before .before .before .before .indent .ensures .0) (c .before .before .before .before .before .before .before .before .address-of .ensures) _ _ _ (c .before .before .before .before .end-line .ensures)
 
 pub emit-line-spec : {M : Type 1} → statement M
 emit-line-spec =

@@ -1,6 +1,7 @@
 -- `negate::adding::add_negated` meets its contract. By the answer: the comparison flipped, or brackets around.
 -- Assumes nothing.
-use Rattle.negate.proofs.Appends.{adds-as, adds-around, adds-flip}
+use Rattle.append.proofs.Appends.{adds-as}
+use Rattle.negate.proofs.Appends.{adds-around, adds-flip}
 use Rattle.negate.specs.Comparisons.{negation}
 use Rattle.definitions.specs.Columns.{listing}
 use Rattle.definitions.specs.Model.{Line, line}

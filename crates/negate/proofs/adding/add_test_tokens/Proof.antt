@@ -3,13 +3,14 @@
 use native.Mathlib.Omega.{arith}
 use borrow.Author.Needs.{needs}
 use Rattle.negate.proofs.Appends.{tokens-start, tokens-next}
-use Rattle.negate.specs.Adds.{Adding}
-use Rattle.negate.specs.Comparisons.{kept, negated-token}
+use Rattle.append.specs.Adds.{Adding, whole}
+use Rattle.negate.specs.Comparisons.{negated-token}
 use Rattle.definitions.specs.Columns.{listing}
 use Rattle.definitions.specs.Model.{line}
 use Rattle.definitions.specs.Lists.{range}
 use lib.ListN.{length}
 use Prim.Native.Nat.{_-_, _≤_}
+use mathlib.Core.Bool.{true}
 use mathlib.Core.List.{map}
 use mathlib.Core.Path.{_≡_}
 use denote.Ref.{now}
@@ -17,7 +18,7 @@ use Rattle.negate.proofs.adding.add_test_tokens.Statement.{statement}
 use Rattle.negate.proofs.adding.add_test_tokens.Tie as tie
 
 abbrev Inv-loop : tie.InvT-loop
-Inv-loop lines tokens text i m o words₀ bytes₀ d₀ k₀ words bytes d k = (k ≤ m) × (length words ≡ length words₀) × (length bytes ≡ length bytes₀) × Adding (kept (map (negated-token (line (listing lines tokens text) i) m o) (range 0 k))) words₀ bytes₀ d₀ words bytes d
+Inv-loop lines tokens text i m o words₀ bytes₀ d₀ k₀ words bytes d k = (k ≤ m) × (length words ≡ length words₀) × (length bytes ≡ length bytes₀) × Adding true (whole (map (negated-token (line (listing lines tokens text) i) m o) (range 0 k))) words₀ bytes₀ d₀ words bytes d
 
 abbrev μ-loop : tie.MeasureT-loop
 μ-loop lines tokens text i m o words₀ bytes₀ d₀ k₀ words bytes d k = m - k

@@ -1,0 +1,3 @@
+pub mod Runs
+pub mod Lines
+pub mod Pieces
