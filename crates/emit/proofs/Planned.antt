@@ -1,11 +1,11 @@
 -- The tokens of planned lines, and lines one after the other.
 --   begins-piece, begins-guard, begins-while, begins-for    the tokens of a word's line
 --   line-ended                               the line that the word stands for
---   plain-sound                              the words of `recover_loops` are sound
+--   plain-sound, goto-sound                  the words of either pass are sound
 --   word-sound, emitted-next, emitted-end    the lines before place i are done
 -- Assumes nothing.
 use mathlib.Core.Path.{_≡_, refl, sym, ap, ap₂, subst, _∙_}
-use mathlib.Core.Bool.{Bool, true, false, _&&_, _||_}
+use mathlib.Core.Bool.{Bool, true, false, _&&_, _||_, or-true}
 use mathlib.Core.List.{List, [], _∷_, _++_, append-assoc}
 use mathlib.Core.Option.{Option, none}
 use Prim.Native.Nat.{ℕ, zero, suc, _+_, _/_, _%_, _≤_, _<_}
@@ -194,16 +194,19 @@ sound-at [] i e h = absurd (omega arith)
 sound-at (w ∷ ws) zero e h = and-split (is-sound w) (all is-sound ws) e .0
 sound-at (w ∷ ws) (suc i) e h = sound-at ws i (and-split (is-sound w) (all is-sound ws) e .1) (omega arith)
 
-pub plain-sound : (ws : List ℕ) → all is-plain ws ≡ true → all is-sound ws ≡ true
+both : {a b : Bool} → a ≡ true → b ≡ true → (a && b) ≡ true
+both f g = rw (f, g)
+
+all-sound : (p : ℕ → Bool) → ((w : ℕ) → p w ≡ true → is-sound w ≡ true) → (ws : List ℕ) → all p ws ≡ true → all is-sound ws ≡ true
 unfolding all
-plain-sound [] e = refl
-plain-sound (w ∷ ws) e =
-    let p = and-split (is-plain w) (all is-plain ws) e in
-    let q : is-sound w ≡ true = ap (λ b. b || is-goto w) (p .0) in
-    both q (plain-sound ws (p .1))
-  where
-    both : {a b : Bool} → a ≡ true → b ≡ true → (a && b) ≡ true
-    both f g = rw (f, g)
+all-sound p f [] e = refl
+all-sound p f (w ∷ ws) e = let q = and-split (p w) (all p ws) e in both (f w (q .0)) (all-sound p f ws (q .1))
+
+pub plain-sound : (ws : List ℕ) → all is-plain ws ≡ true → all is-sound ws ≡ true
+plain-sound = all-sound is-plain (λ w q. ap (λ b. b || is-goto w) q)
+
+pub goto-sound : (ws : List ℕ) → all is-goto ws ≡ true → all is-sound ws ≡ true
+goto-sound = all-sound is-goto (λ w q. ap (λ b. is-plain w || b) q ∙ or-true (is-plain w))
 
 pub word-sound : (ws : List ℕ) (n i : ℕ) → n ≤ length ws → all is-sound (take n ws) ≡ true → i < n → is-sound (getD ws i 0) ≡ true
 word-sound ws n i le e h = ap is-sound (sym (getD-take n ws i 0 h)) ∙ sound-at (take n ws) i e (omega (arith, length-take-le n ws le))
