@@ -2,23 +2,22 @@
 --   dressed-plain, dressed-inner, dressed-last    one of them
 --   line-goes, line-ends                          the loop over them
 --   kind-of                                       a kind of the columns fits a byte
---   pop-start, pop-low, pop-high, pop-next, pop-none    the search for the last code point
 -- Assumes nothing.
 use mathlib.Core.Path.{_≡_, refl, sym, ap, _∙_}
-use mathlib.Core.Bool.{Bool, true, false, cond, _&&_}
-use mathlib.Core.List.{List, [], _∷_, _++_, reverse, reverse-append, reverse-reverse}
+use mathlib.Core.Bool.{Bool, true, false, cond}
+use mathlib.Core.List.{List, [], _∷_, _++_}
 use Prim.Native.Nat.{ℕ, zero, suc, _+_, _-_, _≤_, _<_}
-use native.Mathlib.Nat.{sub-zero, le-refl}
+use native.Mathlib.Nat.{sub-zero}
 use native.Mathlib.Decide.{decLt}
 use native.Mathlib.Omega.{arith}
-use borrow.Author.Tests.{eq-eqb, ne-eqb, le-leb, lt-leb, lt-ltb, le-ltb}
-use lib.Dec.{eqb, leb, ltb}
+use borrow.Author.Tests.{eq-eqb, ne-eqb}
+use lib.Dec.{eqb}
 use lib.ListN.{length, take, drop, getD, List·getD-eq-default}
-use lib.Seq.{take-suc, take-length, getD-take, length-take-le}
+use lib.Seq.{getD-take, length-take-le}
 use Rattle.definitions.specs.Lists.{part, on-last}
 use Rattle.definitions.specs.Model.{Token, tok, no-token, token, line}
 use Rattle.definitions.specs.Columns.{listing}
-use Rattle.definitions.specs.ToFor.{pop-reversed, pop}
+use Rattle.definitions.specs.ToFor.{pop}
 use Rattle.definitions.specs.Calls.{Columns}
 use Rattle.text.proofs.Parts.{drop-step, drop-end}
 use Rattle.model.specs.Places.{line-start, line-end}
@@ -122,36 +121,3 @@ kind-small l t x i j = go (decLt j (line-end l t i - line-start l i))
 
 pub kind-of : (l t x : List ℕ) (i j r : ℕ) → r ≡ token (line (listing l t x) i) j .kind → (r ≡ token (line (listing l t x) i) j .kind) × (r < 256)
 kind-of l t x i j r e = (e, omega (arith, e, kind-small l t x i j))
-
--- The last code point
-
-pop-snoc : (xs : List ℕ) (b : ℕ) → pop (xs ++ (b ∷ [])) ≡ cond (leb 128 b && ltb b 192) (pop xs) xs
-unfolding pop-reversed
-pop-snoc xs b = rw (reverse-append xs (b ∷ [])) (go (leb 128 b && ltb b 192))
-  where
-    go : (c : Bool) → reverse (cond c (pop-reversed (reverse xs)) (reverse xs)) ≡ cond c (pop xs) xs
-    go true = refl
-    go false = reverse-reverse xs
-
-module _ (s : List ℕ) (n : ℕ) (le : n ≤ length s) (inv : pop s ≡ pop (take n s)) (h : 0 < n) where
-  pop-step : pop s ≡ cond (leb 128 (getD s (n - 1) 0) && ltb (getD s (n - 1) 0) 192) (pop (take (n - 1) s)) (take (n - 1) s)
-  pop-step =
-      let z : n ≡ suc (n - 1) = omega arith in
-      inv ∙ (ap (λ m. pop (take m s)) z ∙ (ap pop (take-suc s (n - 1) 0 (omega arith)) ∙ pop-snoc (take (n - 1) s) (getD s (n - 1) 0)))
-
-  pub pop-low : getD s (n - 1) 0 < 128 → (take (n - 1) s ≡ pop s) × (n - 1 ≤ length s)
-  pop-low b = (sym (pop-step ∙ rw (lt-leb 128 (getD s (n - 1) 0) b)), omega arith)
-
-  module _ (a : 128 ≤ getD s (n - 1) 0) where
-    pub pop-high : 192 ≤ getD s (n - 1) 0 → (take (n - 1) s ≡ pop s) × (n - 1 ≤ length s)
-    pop-high b = (sym (pop-step ∙ rw (le-leb 128 (getD s (n - 1) 0) a, le-ltb (getD s (n - 1) 0) 192 b)), omega arith)
-
-    pub pop-next : getD s (n - 1) 0 < 192 → (n - 1 ≤ length s) × (pop s ≡ pop (take (n - 1) s))
-    pop-next b = (omega arith, pop-step ∙ rw (le-leb 128 (getD s (n - 1) 0) a, lt-ltb (getD s (n - 1) 0) 192 b))
-
-pub pop-none : (s : List ℕ) (n : ℕ) → pop s ≡ pop (take n s) → n ≤ 0 → (take 0 s ≡ pop s) × (0 ≤ length s)
-unfolding pop-reversed
-pop-none s n inv h = let z : n ≡ 0 = omega arith in (sym (inv ∙ rw z), omega arith)
-
-pub pop-start : (s : List ℕ) → (length s ≤ length s) × (pop s ≡ pop (take (length s) s))
-pop-start s = (le-refl (length s), ap pop (sym (take-length s)))

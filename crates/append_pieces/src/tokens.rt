@@ -1,18 +1,22 @@
 // The tokens of a line, of its first tokens, and of a piece, appended to the open line.
 ghost use mathlib.Core.Path.{_≡_};
+ghost use mathlib.Core.Bool.{true, false};
 ghost use mathlib.Core.List.{[], _∷_};
 ghost use Prim.Native.Nat.{_≤_, _<_};
 ghost use lib.ListN.{length, take, getD};
 ghost use Rattle.definitions.specs.Model.{tok, no-token, token, line, Punct};
 ghost use Rattle.definitions.specs.Columns.{listing};
-ghost use Rattle.definitions.specs.ToFor.{pop};
+ghost use Rattle.definitions.specs.Questions.{question-2};
 ghost use Rattle.pieces.specs.Pieces.{piece, jumped};
 ghost use Rattle.append.specs.Adds.{Adding};
 ghost use Rattle.append_pieces.specs.Dressed.{dressed};
 use append::add;
+use model::columns::line_end;
+use model::columns::line_start;
 use model::columns::text_at;
 use model::columns::token_count;
 use pieces::reading::cut_place;
+use pop::popped_length;
 use write::Cursor;
 
 // The kind of token j of line i.
@@ -20,24 +24,6 @@ pub fn kind_at(lines: &[u32], tokens: &[u32], text: &[u8], i: usize, j: usize) -
     ensures { λ r. ⌜ (r ≡ token (line (listing (now (lines .entry)) (now (tokens .entry)) (now (text .entry))) i) j .kind) × (r < 256) ⌝ }
 {
     model::columns::kind(lines, tokens, text, i, j)
-}
-
-// How many bytes a text has without its last code point.
-fn popped_length(s: &[u8]) -> usize
-    ensures { λ r. ⌜ (take r (now (s .entry)) ≡ pop (now (s .entry))) × (r ≤ length (now (s .entry))) ⌝ }
-{
-    let mut n = s.len();
-    while 0 < n {
-        let b = s[n - 1];
-        n -= 1;
-        if b < 128 {
-            return n;
-        }
-        if 192 <= b {
-            return n;
-        }
-    }
-    0
 }
 
 // The text of token j of the first n tokens of line i, the last of them without its last code point where `popped` says so.
@@ -133,6 +119,29 @@ fn add_jumped(
     add_last(words, bytes, e, b";", popped, merged)
 }
 
+// The tokens of line i as they are, in one copy.
+fn add_kept(
+    lines: &[u32],
+    tokens: &[u32],
+    text: &[u8],
+    i: usize,
+    words: &mut [u32],
+    bytes: &mut [u8],
+    c: Cursor,
+) -> Cursor
+    requires { ⌜ question-2 (now lines) (now tokens) (now text) ≡ true ⌝ }
+    ensures { λ r.
+        ⌜ (let l = line (listing (now (lines .entry)) (now (tokens .entry)) (now (text .entry))) i in
+        Adding false (l .tokens) (now (words .entry)) (now (bytes .entry)) c (now (words .exit)) (now (bytes .exit)) r) ⌝ }
+{
+    let s = line_start(lines, i);
+    let e = line_end(lines, tokens, i);
+    if s < e {
+        return write_run::add_run(words, bytes, c, tokens, text, s, e);
+    }
+    c
+}
+
 // The tokens of the piece p, the last without its last code point where `popped` says so.
 pub fn add_piece(
     lines: &[u32],
@@ -189,4 +198,25 @@ pub fn add_piece(
         ),
         _ => add_last(words, bytes, c, b"}", popped, merged),
     }
+}
+
+// The tokens of the piece p; a line as it is in one copy.
+pub fn add_plain(
+    lines: &[u32],
+    tokens: &[u32],
+    text: &[u8],
+    p: usize,
+    words: &mut [u32],
+    bytes: &mut [u8],
+    c: Cursor,
+) -> Cursor
+    requires { ⌜ question-2 (now lines) (now tokens) (now text) ≡ true ⌝ }
+    ensures { λ r.
+        ⌜ (let C = listing (now (lines .entry)) (now (tokens .entry)) (now (text .entry)) in
+        Adding false (piece C p .tokens) (now (words .entry)) (now (bytes .entry)) c (now (words .exit)) (now (bytes .exit)) r) ⌝ }
+{
+    if p % 4 == 0 {
+        return add_kept(lines, tokens, text, p / 4, words, bytes, c);
+    }
+    add_piece(lines, tokens, text, p, false, words, bytes, c, false)
 }

@@ -20,6 +20,7 @@ use crate::tests::add_test;
 use append::add;
 use append_pieces::conditions::add_condition;
 use append_pieces::tokens::add_piece;
+use append_pieces::tokens::add_plain;
 use write::Cursor;
 
 // `while (..) {` over the condition of the guard on line i.
@@ -146,17 +147,7 @@ fn add_planned(
 {
     let h = plan::header(w);
     if h == 0 {
-        return add_piece(
-            lines,
-            tokens,
-            text,
-            plan::piece(w),
-            false,
-            words,
-            bytes,
-            c,
-            false,
-        );
+        return add_plain(lines, tokens, text, plan::piece(w), words, bytes, c);
     }
     if h == 1 {
         return add_guard(lines, tokens, text, plan::source(w), words, bytes, c);

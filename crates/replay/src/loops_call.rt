@@ -1,7 +1,7 @@
 // Call 4: `recover_loops`.
 use crate::columns;
 use crate::print;
-use recover_loops::Answer;
+use pass_call::Answer;
 
 // Calls, and prints the columns. Outputs start filled, so that an entry that is not written shows; there is room for 64 lines, 1,024 tokens
 // and 6,144 bytes.

@@ -14,17 +14,17 @@ header-requires c κs = search needs
 piece-requires : tie.Need-piece-requires
 piece-requires c κs = search needs
 
-add-piece-requires : tie.Need-add-piece-requires
-add-piece-requires c κs = search needs
+add-plain-requires : tie.Need-add-plain-requires
+add-plain-requires c κs = search needs
 
 same-length : tie.Need-same-length
-same-length c = c .before .before .before .before .add-piece .kept .1 .1 .1 .1 .1 .0
+same-length c = c .before .before .before .before .add-plain .kept .1 .1 .1 .1 .0
 
 same-length-2 : tie.Need-same-length-2
-same-length-2 c = c .before .before .before .before .add-piece .kept .1 .1 .1 .1 .1 .1 .0
+same-length-2 c = c .before .before .before .before .add-plain .kept .1 .1 .1 .1 .1 .0
 
 returns : tie.Need-returns
-returns c = let g = c .before .before .before .before .before .before .before .before .before .before .before .before .before .before .before .args in let C = listing (now (g .lines)) (now (g .tokens)) (now (g .text)) in begins-piece C (g .w) (c .before .before .before .before .before .before .before .before .before .before .before .before .before .before .before .pre .0) _ (c .before .before .before .before .before .before .before .before .before .header .ensures .0) (c .before .before .before .before .before .before .before .before .if1 .taken) _ (c .before .before .before .before .before .before .before .piece .ensures .0) (c .before .before .before .before .add-piece .ensures)
+returns c = let g = c .before .before .before .before .before .before .before .before .before .before .before .before .before .before .before .args in let C = listing (now (g .lines)) (now (g .tokens)) (now (g .text)) in begins-piece C (g .w) (c .before .before .before .before .before .before .before .before .before .before .before .before .before .before .before .pre .0) _ (c .before .before .before .before .before .before .before .before .before .header .ensures .0) (c .before .before .before .before .before .before .before .before .if1 .taken) _ (c .before .before .before .before .before .before .before .piece .ensures .0) (c .before .before .before .before .add-plain .ensures)
 
 source-requires : tie.Need-source-requires
 source-requires c κs = search needs
@@ -74,7 +74,7 @@ add-planned-spec =
     (tie.spec
     header-requires
     piece-requires
-    add-piece-requires
+    add-plain-requires
     same-length
     same-length-2
     returns
