@@ -20,7 +20,7 @@ use Rattle.definitions.specs.Statements.{is-kw}
 use Rattle.definitions.specs.ToFor.{popped, pop}
 use Rattle.text.proofs.Parts.{part-step, part-none, part-tail}
 use Rattle.negate.specs.Tests.{test, test-count, test-token, test-from, front, back}
-use Rattle.negate.specs.Comparisons.{kept}
+use Rattle.append.specs.Adds.{whole}
 use Rattle.negate.proofs.TestTokens.{test-first, test-past, test-is}
 use Rattle.goto_targets.specs.Seek.{Seek, Seek.looking, Seek.waiting, step, seek, told}
 use Rattle.goto_targets.specs.declared.seeking.State.{State}
@@ -106,53 +106,53 @@ pub ruleset ends = (line-none, line-fits, line-last)
 -- A leading test
 
 module _ (s : Seek) (l : Line) (m k : ℕ) (x : List ℕ) (e : x ≡ test-token l m k .text) where
-  pub token-empty : length x ≡ 0 → s ≡ seek s (kept (test-token l m k ∷ []))
+  pub token-empty : length x ≡ 0 → s ≡ seek s (whole (test-token l m k ∷ []))
   token-empty z = go (test-token l m k) (ap length (sym e) ∙ z)
     where
-      none-of : (k : ℕ) → s ≡ seek s (kept (tok [] k ∷ []))
+      none-of : (k : ℕ) → s ≡ seek s (whole (tok [] k ∷ []))
       none-of k = unfold seek filter _==_ in refl
 
-      go : (t : Token) → length (t .text) ≡ 0 → s ≡ seek s (kept (t ∷ []))
+      go : (t : Token) → length (t .text) ≡ 0 → s ≡ seek s (whole (t ∷ []))
       go t z = by (t .text) (t .kind) z
         where
-          by : (y : List ℕ) (k : ℕ) → length y ≡ 0 → s ≡ seek s (kept (tok y k ∷ []))
+          by : (y : List ℕ) (k : ℕ) → length y ≡ 0 → s ≡ seek s (whole (tok y k ∷ []))
           by [] k z = none-of k
           by (b ∷ y) k z = absurd (omega arith)
 
   pub token-full : (length x ≡ 0 → ⊥) → (y : List ℕ) → y ≡ token l (k + 1) .text → (a b c : ℕ) → a ≡ front k → b ≡ back m k → c ≡ length y - b → (r : Seek)
-      → r ≡ step s (tok (part a c (token l (k + 1) .text)) (token l (k + 1) .kind)) → r ≡ seek s (kept (test-token l m k ∷ []))
+      → r ≡ step s (tok (part a c (token l (k + 1) .text)) (token l (k + 1) .kind)) → r ≡ seek s (whole (test-token l m k ∷ []))
   token-full h y d a b c f g i r q =
       q ∙ (rw (f, i, d, g) (unfold test-token in refl)) ∙ go (test-token l m k) (λ z. h (ap length e ∙ z))
     where
-      some-of : (b : ℕ) (y : List ℕ) (k : ℕ) → step s (tok (b ∷ y) k) ≡ seek s (kept (tok (b ∷ y) k ∷ []))
+      some-of : (b : ℕ) (y : List ℕ) (k : ℕ) → step s (tok (b ∷ y) k) ≡ seek s (whole (tok (b ∷ y) k ∷ []))
       some-of b y k = unfold seek filter _==_ in refl
 
-      go : (t : Token) → (length (t .text) ≡ 0 → ⊥) → step s t ≡ seek s (kept (t ∷ []))
+      go : (t : Token) → (length (t .text) ≡ 0 → ⊥) → step s t ≡ seek s (whole (t ∷ []))
       go t h = by (t .text) (t .kind) h
         where
-          by : (y : List ℕ) (k : ℕ) → (length y ≡ 0 → ⊥) → step s (tok y k) ≡ seek s (kept (tok y k ∷ []))
+          by : (y : List ℕ) (k : ℕ) → (length y ≡ 0 → ⊥) → step s (tok y k) ≡ seek s (whole (tok y k ∷ []))
           by [] k h = absurd (h refl)
           by (b ∷ y) k h = some-of b y k
 
 pub ruleset parts = (token-empty, token-full)
 
-kept-cons : (t : Token) (ts : List Token) → kept (t ∷ ts) ≡ kept (t ∷ []) ++ kept ts
+whole-cons : (t : Token) (ts : List Token) → whole (t ∷ ts) ≡ whole (t ∷ []) ++ whole ts
 unfolding filter
-kept-cons t ts = go (t .text == [])
+whole-cons t ts = go (t .text == [])
   where
-    go : (b : Bool) → cond (not b) (t ∷ kept ts) (kept ts) ≡ cond (not b) (t ∷ []) [] ++ kept ts
+    go : (b : Bool) → cond (not b) (t ∷ whole ts) (whole ts) ≡ cond (not b) (t ∷ []) [] ++ whole ts
     go true = refl
     go false = refl
 
 module _ (s : Seek) (l : Line) (m : ℕ) where
-  module _ (r : Seek) (k : ℕ) (inv : seek s (kept (test-from l m 0)) ≡ seek r (kept (test-from l m k))) where
-    pub test-next : k < m → (r' : Seek) → r' ≡ seek r (kept (test-token l m k ∷ [])) → seek s (kept (test-from l m 0)) ≡ seek r' (kept (test-from l m (k + 1)))
+  module _ (r : Seek) (k : ℕ) (inv : seek s (whole (test-from l m 0)) ≡ seek r (whole (test-from l m k))) where
+    pub test-next : k < m → (r' : Seek) → r' ≡ seek r (whole (test-token l m k ∷ [])) → seek s (whole (test-from l m 0)) ≡ seek r' (whole (test-from l m (k + 1)))
     test-next lt r' q =
-        inv ∙ ap (λ ts. seek r (kept ts)) (test-first l m k lt) ∙ ap (seek r) (kept-cons (test-token l m k) (test-from l m (k + 1)))
-        ∙ seek-append r (kept (test-token l m k ∷ [])) (kept (test-from l m (k + 1))) ∙ ap (λ y. seek y (kept (test-from l m (k + 1)))) (sym q)
+        inv ∙ ap (λ ts. seek r (whole ts)) (test-first l m k lt) ∙ ap (seek r) (whole-cons (test-token l m k) (test-from l m (k + 1)))
+        ∙ seek-append r (whole (test-token l m k ∷ [])) (whole (test-from l m (k + 1))) ∙ ap (λ y. seek y (whole (test-from l m (k + 1)))) (sym q)
 
     pub test-end : (g : ℕ) → m ≡ test-count l g → m ≤ k → r ≡ seek s (test l g)
     unfolding seek filter
-    test-end g c ge = sym (ap (seek s) (sym (test-is l g)) ∙ rw (← c) inv ∙ ap (λ ts. seek r (kept ts)) (test-past l m k ge))
+    test-end g c ge = sym (ap (seek s) (sym (test-is l g)) ∙ rw (← c) inv ∙ ap (λ ts. seek r (whole ts)) (test-past l m k ge))
 
 pub ruleset tests = (test-next, test-end)

@@ -11,7 +11,7 @@ ghost use Rattle.definitions.specs.Columns.{listing};
 ghost use Rattle.definitions.specs.Statements.{is-kw};
 ghost use Rattle.definitions.specs.ToFor.{popped};
 ghost use Rattle.negate.specs.Tests.{front, back, test, test-token};
-ghost use Rattle.negate.specs.Comparisons.{kept};
+ghost use Rattle.append.specs.Adds.{whole};
 ghost use Rattle.goto_targets.specs.Seek.{step, seek, told};
 use model::columns::kind;
 use model::columns::text_at;
@@ -166,7 +166,7 @@ fn seek_test_token(
     requires { ⌜ k < m ⌝ }
     ensures { λ r.
         ⌜ (let C = listing (now (lines .entry)) (now (tokens .entry)) (now (text .entry)) in
-        told C r ≡ seek (told C s) (kept (test-token (line C i) m k ∷ []))) ⌝ }
+        told C r ≡ seek (told C s) (whole (test-token (line C i) m k ∷ []))) ⌝ }
 {
     if negate::test::test_text(lines, tokens, text, i, m, k).len() == 0 {
         return s;

@@ -16,7 +16,8 @@ use Rattle.definitions.specs.Model.{Line, pseudo-line, line}
 use Rattle.definitions.specs.Columns.{listing}
 use Rattle.definitions.specs.Statements.{is-label, label, goto-target}
 use Rattle.definitions.specs.RecoverGotoLoops.{goes-to, in-block, is-back, enters, exit-label, leading-test}
-use Rattle.plan.specs.Plan.{Form, Form.kept, Form.continued, Form.broken, Form.closed, Piece, Test, Test.guard, Test.always, Test.leading, Header, Header.no-header, Header.while-over, Header.for-over, form-tokens, piece-tokens, test-tokens, while-tokens, header-tokens, planned, plan-of, line-of, render}
+use Rattle.plan.specs.Plan.{Form, Form.kept, Form.continued, Form.broken, Form.closed, Piece, Test, Test.guard, Test.always, Test.leading}
+use Rattle.plan.specs.Plan.{Header, Header.no-header, Header.while-over, Header.for-over, form-tokens, piece-tokens, test-tokens, while-tokens, header-tokens, planned, plan-of, line-of, render}
 use Rattle.plan.specs.Source.{Source}
 use Rattle.plan.proofs.Maps.{map-take, map-drop, map-part, map-append}
 use Rattle.gotos.specs.Edges.{back-from}
@@ -152,7 +153,8 @@ any-other p q e (m ∷ L) = ap₂ _||_ (e m) (any-other p q e L)
 
 enters-without : (L : List Line) (h b : ℕ) → enters (map bare L) h b ≡ enters L h b
 enters-without L h b =
-    any-other (goes-to (inner (map bare L) h b)) (goes-to (inner L h b)) (goes-other (inner (map bare L) h b) (inner L h b) (inner-without L h b)) (take h (map bare L) ++ drop (b + 1) (map bare L))
+    any-other (goes-to (inner (map bare L) h b)) (goes-to (inner L h b)) (goes-other (inner (map bare L) h b) (inner L h b) (inner-without L h b))
+    (take h (map bare L) ++ drop (b + 1) (map bare L))
     ∙ (ap (any (goes-to (inner L h b))) (sym (map-append bare (take h L) (drop (b + 1) L) ∙ ap₂ _++_ (map-take bare h L) (map-drop bare (b + 1) L)))
     ∙ any-test (goes-to (inner L h b)) (goes-test (inner L h b)) (take h L ++ drop (b + 1) L))
 

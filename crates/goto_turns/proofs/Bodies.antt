@@ -188,7 +188,8 @@ module _ (l t x : List ℕ) (ws : List ℕ) (h b : ℕ) (hb : h < b) (bl : b < l
   unfolding body-words jumped-words
   body-goto =
       all-set is-goto 0 b closing (on-part (h + 1) b (body-word C name out) ws) (line-goto closing closing-header)
-      (all-on-whole is-goto moves-in (body-word C name out) (λ w m _. line-goto (body-word C name out w) (body-header C name out w m)) (h + 1) b ws (omega arith) moves (ahead .words))
+      (all-on-whole is-goto moves-in (body-word C name out) (λ w m _. line-goto (body-word C name out w) (body-header C name out w m))
+      (h + 1) b ws (omega arith) moves (ahead .words))
 
   body-behind : all is-line (drop (h + 1) (body-words C ws h b)) ≡ true
   unfolding body-words jumped-words
@@ -214,8 +215,9 @@ module _ (l t x : List ℕ) (ws : List ℕ) (h b : ℕ) (hb : h < b) (bl : b < l
     word-line : (w : ℕ) → (is-line w && moves-in w) ≡ true → line-of S (body-word C name out w) ≡ f (line-of S w)
     word-line w e =
         let u = and-split (is-line w) (moves-in w) e in
+        let same = bare-render S l t x R ws in
         body-line l t x S R name out w (eqb-true (header-at w) 0 (u .0)) (ltb-true (indent-at w) 255 (u .1))
-        ∙ ap₂ (λ g o. move-in (jump g o (line-of S w))) (sym (head-bare L (render C ws) (bare-render S l t x R ws) h)) (sym (exit-bare L (render C ws) (bare-render S l t x R ws) b))
+        ∙ ap₂ (λ g o. move-in (jump g o (line-of S w))) (sym (head-bare L (render C ws) same h)) (sym (exit-bare L (render C ws) same b))
 
     closing-is : line-of S closing ≡ closed-at (line L b) (line L h .indent + 1)
     closing-is =

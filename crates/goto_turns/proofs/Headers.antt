@@ -147,9 +147,10 @@ module _ (ws : List ℕ) (h : ℕ) (lt : h + 1 < length ws) (ahead : Ahead h ws)
     headed-lines true e =
         let w = head-word v 3 (piece-at u) in
         let o = leading-test (line M (h + 1)) d in
+        let made = head-line-leading S v (kept-at h (omega arith) (omega arith)) room (piece-at u) (omega arith) in
         map-remove (line-of S) (h + 1) (set ws h w)
         ∙ (ap (remove (h + 1)) (map-set (line-of S) h w ws
-        ∙ ap (set M h) (header-line (or-else (leading-test (piece S (piece-at u)) 0) one) w (head-line-leading S v (kept-at h (omega arith) (omega arith)) room (piece-at u) (omega arith))
+        ∙ ap (set M h) (header-line (or-else (leading-test (piece S (piece-at u)) 0) one) w made
         ∙ ap (λ o. pseudo-line (line M h .address) d (merge (while-head (or-else o one)))) (test-piece o refl e)))
         ∙ (set-remove h (pseudo-line (line M h .address) d (merge (while-head (or-else o one)))) M
         ∙ ap (λ c. set (cond c (remove (h + 1) M) M) h (pseudo-line (line M h .address) d (merge (while-head (or-else o one))))) (sym e)))

@@ -113,7 +113,8 @@ module _ (ws : List ℕ) (n h : ℕ) (lt : h + 1 < n) (le : n ≤ length ws) (ro
             (ap (render S) made
             ∙ (headed-lines (take n ws) h long ahead shallow S l t x R y
             (tested-lines (take n ws) h long ahead shallow S l t x R y
-            (e ∙ ap₂ (λ a c. is-some (leading-test (line-of (listing l t x) a) (c + 1))) (sym (getD-take n ws (h + 1) 0 lt)) (d ∙ ap indent-at (sym (getD-take n ws h 0 (omega arith))))))
+            (e ∙ ap₂ (λ a c. is-some (leading-test (line-of (listing l t x) a) (c + 1))) (sym (getD-take n ws (h + 1) 0 lt))
+            (d ∙ ap indent-at (sym (getD-take n ws h 0 (omega arith))))))
             ∙ ap (λ w. with-header (render S (take n ws)) h (indent-at w + 1)) (getD-take n ws h 0 (omega arith))));
       }
 
@@ -151,8 +152,9 @@ module _ (l t x ws : List ℕ) (n h b : ℕ) (p : Loop l t x n h b ws) where
       record {
         after = tt;
         turn = λ S R.
-            let deep : ltb (line (render S (take n ws)) h .indent + 1) 255 ≡ false = le-ltb (line (render S (take n ws)) h .indent + 1) 255 (omega (arith, head-indent S R)) in
-            sym (rewritten-by S R false (rw deep (and-false (all (λ l. ltb (l .indent) 255) (part (h + 1) b (render S (take n ws)))))));
+            let K = render S (take n ws) in
+            let deep : ltb (line K h .indent + 1) 255 ≡ false = le-ltb (line K h .indent + 1) 255 (omega (arith, head-indent S R)) in
+            sym (rewritten-by S R false (rw deep (and-false (all (λ l. ltb (l .indent) 255) (part (h + 1) b K)))));
       }
 
   module _ (r : Bool) (e : r ≡ all moves-in (part (h + 1) b (take n ws))) where
@@ -176,7 +178,8 @@ module _ (l t x ws : List ℕ) (n h b : ℕ) (p : Loop l t x n h b ws) where
       same-head : getD vs h 0 ≡ getD ws h 0
       same-head =
           sym (getD-take n vs h 0 (p .labelled .inside))
-          ∙ (ap (λ ys. getD ys h 0) (w f) ∙ (body-head l t x (take n ws) h b hb bl (p .labelled .ahead) room (sym e ∙ f) ∙ getD-take n ws h 0 (p .labelled .inside)))
+          ∙ (ap (λ ys. getD ys h 0) (w f)
+          ∙ (body-head l t x (take n ws) h b hb bl (p .labelled .ahead) room (sym e ∙ f) ∙ getD-take n ws h 0 (p .labelled .inside)))
 
       pub rebuild-calls : (indent-at (getD vs h 0) < 255) × Ahead h (take n vs)
       rebuild-calls = (
@@ -197,7 +200,8 @@ module _ (l t x ws : List ℕ) (n h b : ℕ) (p : Loop l t x n h b ws) where
                 (ap (render S) (w f) ∙ body-lines l t x (take n ws) h b hb bl (p .labelled .ahead) room (sym e ∙ f) S R)
                 (ap indent-at same-head ∙ sym (head-indent S R)))
                 ∙ sym (rewritten-by S R true (rw (moves-lines S (take n ws) (h + 1) b, ← e, f) shallow)
-                ∙ (headed-in-place K h b hb (omega (arith, length-render S (take n ws), bl)) (line K h .indent + 1) (head-label S R) (entered S R) ∙ made K (line K h .indent + 1)));
+                ∙ (headed-in-place K h b hb (omega (arith, length-render S (take n ws), bl)) (line K h .indent + 1) (head-label S R) (entered S R)
+                ∙ made K (line K h .indent + 1)));
           }
         where
           made : (K : List Line) (c : ℕ) → in-place (with-body K h b) h c ≡ go (h + 1) (to-for (with-header (with-body K h b) h c) h)

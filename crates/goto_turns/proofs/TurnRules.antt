@@ -83,7 +83,8 @@ module _ (l t x ws : List ℕ) (n h : ℕ) (p : Labelled l t x n h ws) (s : ℕ)
   name-of : label (line K h) ≡ g
   name-of = ap label (head-at (listing l t x)) ∙ sym (e ∙ label-text (listing l t x) (getD ws h 0) (p .label) s d)
 
-  edge-of : (M : List Line) → label (line M h) ≡ g → line M h .indent ≡ i → ((j : ℕ) → back-from M g i (i + 1) j ≡ back-from K g i (i + 1) j) → back-edge M h ≡ found r
+  edge-of : (M : List Line) → label (line M h) ≡ g → line M h .indent ≡ i
+      → ((j : ℕ) → back-from M g i (i + 1) j ≡ back-from K g i (i + 1) j) → back-edge M h ≡ found r
   edge-of M a c q =
       back-edge-is M h ∙ (ap₂ (λ z k. back-from M z k (k + 1) (h + 1)) a c ∙ (q (h + 1) ∙ sym f))
 
@@ -102,7 +103,8 @@ module _ (l t x ws : List ℕ) (n h : ℕ) (p : Labelled l t x n h ws) (s : ℕ)
   unfolding looped
   find-none q = record { after = stays n h ws (p .ahead); turn = λ S R. rw (edge-lines S R, q, looped) }
 
-  pub find-at : (b : ℕ) → r ≡ At b → (a : Answer) (vs : List ℕ) → Turn-of l t x (λ M. loop-at M h b) n h ws a vs → Turn-of l t x (λ M. looped M h) n h ws a vs
+  pub find-at : (b : ℕ) → r ≡ At b → (a : Answer) (vs : List ℕ) → Turn-of l t x (λ M. loop-at M h b) n h ws a vs
+      → Turn-of l t x (λ M. looped M h) n h ws a vs
   unfolding looped loop-at
   find-at b q a vs z = record { after = z .after; turn = λ S R. z .turn S R ∙ rw (edge-lines S R, q, looped) }
 

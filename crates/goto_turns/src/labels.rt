@@ -15,7 +15,8 @@ use plan::indent;
 use plan::source;
 use pseudo_opt::Found;
 
-// The loop from the label at place h to its back edge at place b.
+// The loop from the label at place h to its back edge at place b is made. The header stands one deeper than the label, and its leading test is looked
+// for one deeper still.
 fn rebuild(
     lines: &[u32],
     tokens: &[u32],

@@ -6,14 +6,14 @@ use Prim.Native.Nat.{_-_}
 use Rattle.definitions.specs.Model.{line}
 use Rattle.definitions.specs.Columns.{listing}
 use Rattle.negate.specs.Tests.{test-from}
-use Rattle.negate.specs.Comparisons.{kept}
+use Rattle.append.specs.Adds.{whole}
 use Rattle.goto_targets.specs.Seek.{seek, told}
 use borrow.Author.Needs.{needs}
 use Rattle.goto_targets.proofs.seeking.seek_test.Statement.{statement}
 use Rattle.goto_targets.proofs.seeking.seek_test.Tie as tie
 
 abbrev Inv-loop : tie.InvT-loop
-Inv-loop lines tokens text i g m r₀ k₀ r k = seek (told (listing lines tokens text) r₀) (kept (test-from (line (listing lines tokens text) i) m 0)) ≡ seek (told (listing lines tokens text) r) (kept (test-from (line (listing lines tokens text) i) m k))
+Inv-loop lines tokens text i g m r₀ k₀ r k = seek (told (listing lines tokens text) r₀) (whole (test-from (line (listing lines tokens text) i) m 0)) ≡ seek (told (listing lines tokens text) r) (whole (test-from (line (listing lines tokens text) i) m k))
 
 abbrev μ-loop : tie.MeasureT-loop
 μ-loop lines tokens text i g m r₀ k₀ r k = m - k
