@@ -15,9 +15,10 @@ pub enum Call {
     Splits = 2,
     Choose = 3,
     RecoverLoops = 4,
+    RecoverGotoLoops = 5,
 }
 
-pub const CALLS: [Call; 4] = [Call::Webs, Call::Splits, Call::Choose, Call::RecoverLoops];
+pub const CALLS: [Call; 5] = [Call::Webs, Call::Splits, Call::Choose, Call::RecoverLoops, Call::RecoverGotoLoops];
 
 /// The longest columns that the program reads.
 const ROOM: Lent = Lent { lines: MAX_LINES + 1, addresses: MAX_LINES + 1, tokens: 512, text: 4_096 };
@@ -56,6 +57,7 @@ pub fn answer(call: Call, c: &Columns) -> String {
         Call::Splits => splits(c),
         Call::Choose => choose(c),
         Call::RecoverLoops => pass(c, Pass::Loops),
+        Call::RecoverGotoLoops => pass(c, Pass::GotoLoops),
     };
     answer.unwrap_or_else(|number| format!("refused {number}"))
 }

@@ -4,7 +4,7 @@
 mod choose_call;
 mod columns;
 mod decimal;
-mod loops_call;
+mod pass_calls;
 mod print;
 mod rows;
 mod split_call;

@@ -20,7 +20,8 @@ fn call(which: u64, lines: &[u32], addresses: &[u64], tokens: &[u32], text: &[u8
         1 => crate::web_call::answer(lines, tokens, text),
         2 => crate::split_call::answer(lines, tokens, text),
         3 => crate::choose_call::answer(lines, tokens, text),
-        4 => crate::loops_call::answer(lines, addresses, tokens, text),
+        4 => crate::pass_calls::loops(lines, addresses, tokens, text),
+        5 => crate::pass_calls::goto_loops(lines, addresses, tokens, text),
         _ => return false,
     }
     true
