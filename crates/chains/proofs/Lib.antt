@@ -1,0 +1,4 @@
+pub mod NextPlace
+pub mod Places
+pub mod FamilyPlaces
+pub mod TokenRules
