@@ -158,7 +158,7 @@ module _ (l t x table : List ℕ) (count p : ℕ) (ns first : List ℕ) (F : Fin
         head k b (inr g) (inr d) =
             let z : k ≡ c - 1 = omega arith in
             ap (getD (set first (c - 1) p) k) refl
-            ∙ rw z (getD-set-same first (c - 1) p 0 (omega (arith, family-room)) )
+            ∙ rw z (getD-set-same first (c - 1) p 0 (omega (arith, family-room)))
             ∙ sym (next-yes (family-name L k) ts p inside (named k b ∙ eq-eqb c (k + 1) (nonzero c n z)))
           where
             nonzero : (c : ℕ) → (c ≡ 0 → ⊥) → k ≡ c - 1 → c ≡ k + 1
