@@ -31,7 +31,8 @@ use Rattle.recover.proofs.Lists.{filter-same}
 use Rattle.recover.proofs.FamilyNumbers.{lines-of-family, web-number-is, read-number-is}
 use Rattle.webs.specs.Progress.{webs-over, family-sweeps}
 use Rattle.numbering.specs.Lines.{own-number, read-number, LineNumbers, FamilyLines}
-use Rattle.webs.proofs.Progress.{place-is, key-of}
+use Rattle.chains.proofs.FamilyPlaces.{place-is}
+use Rattle.webs.proofs.Progress.{key-of}
 
 module _ (L : List Line) (ds : List ℕ) (D : Defs L ds) (k : ℕ) (h : k < length (defined-families L)) where
   abbrev f : List ℕ

@@ -1,6 +1,5 @@
-pub mod Places
 pub mod Progress
-pub mod Written
+pub mod Marked
 pub mod Family
 pub mod Next
 pub mod StepRules

@@ -1,39 +1,33 @@
 -- One family after the other: the number and the mark of a token before and after its family is done.
 --   webs-for-over           the webs of a family among all
 --   key-taken, key-of       the number of a token of a family whose address is taken, and of any other
---   key-small               a number is small
---   place-is                the place of a family
---   number-start, -next, -waits, -end     numbers, when no family is done, one more, all
+--   number-start, -next, -end             numbers, when no family is done, one more, all
 --   mark-start, -next, -new, -end         marks
 -- Assumes nothing.
-use Prim.Native.Nat.{ℕ, zero, suc, _+_, _-_, _<_, _≤_}
+use Prim.Native.Nat.{ℕ, suc, _+_, _<_, _≤_}
 use mathlib.Core.Path.{_≡_, refl, sym, ap, _∙_, fun-ext}
 use mathlib.Core.Logic.{_⊎_, inl, inr}
 use mathlib.Core.Bool.{Bool, true, false, cond, _&&_, _||_, not, and-false}
 use mathlib.Core.List.{List, [], _∷_, map}
 use mathlib.Core.Option.{Option, none, some}
 use native.Mathlib.Omega.{arith}
-use native.Mathlib.Numerals.{add-one}
 use lib.Dec.{eqb, leb}
-use borrow.Author.Tests.{eqb-true, eq-eqb, ne-eqb, leb-true, le-leb, lt-leb}
-use lib.ListN.{length, getD}
-use Rattle.definitions.specs.Lists.{any, filter, find, first, range, member, or-else, _==_}
-use Rattle.definitions.specs.Model.{Line, line}
-use Rattle.definitions.specs.Reaching.{is-definition}
-use Rattle.definitions.specs.Recover.{Webs, is-def-of, webs-of, webs-for, address-taken, def-lines, defined-families, key, is-def, web-number, read-number}
+use borrow.Author.Tests.{eqb-true, eq-eqb, ne-eqb, le-leb, lt-leb}
+use lib.ListN.{length}
+use Rattle.definitions.specs.Lists.{any, filter, find, member, _==_}
+use Rattle.definitions.specs.Model.{Line}
+use Rattle.definitions.specs.Columns.{listing}
+use Rattle.definitions.specs.Recover.{Webs, webs-of, webs-for, address-taken, defined-families, key, is-def, web-number, read-number}
 use Rattle.definitions.specs.Demand3.{defines-at, reads-at}
 use Rattle.definitions.specs.Answers.{mark}
-use Rattle.theory.proofs.Bools.{clash, and-split, same-test, lt-or-ge}
-use Rattle.theory.proofs.ListLaws.{any-filter, member-head, count-all, length-range, ==-true, ==-self}
-use Rattle.theory.proofs.OneDefinition.{enters}
-use Rattle.theory.proofs.Paths.{reaches-definition, line-definition}
-use Rattle.theory.proofs.Numbering.{Lawful, number-bound, number-entry}
-use Rattle.theory.proofs.FamilyWebs.{family-lawful}
+use Rattle.theory.proofs.Bools.{lt-or-ge}
+use Rattle.theory.proofs.ListLaws.{any-filter, ==-true}
 use Rattle.recover.specs.Families.{place}
-use Rattle.recover.specs.Tokens.{waiting, waiting-word, family-name}
-use Rattle.recover.proofs.Finding.{unique-families, place-here}
+use Rattle.recover.specs.Tokens.{family-name}
 use Rattle.recover.proofs.Numbered.{place-cases}
-use Rattle.webs.specs.Progress.{webs-over, number-after, mark-after}
+use Rattle.chains.specs.Chains.{waiting}
+use Rattle.chains.proofs.FamilyPlaces.{place-is, place-most}
+use Rattle.webs.specs.Progress.{webs-over, waiting-at, number-after, mark-after}
 
 -- The webs of a family among all
 
@@ -104,56 +98,6 @@ module _ (L : List Line) (preds : List (List ℕ)) (f : List ℕ) where
     unfolding webs-of
     def-of i = def-found i ∙ rw has
 
-  -- Numbers are small
-
-  module _ (size : length preds ≡ length L) (lines : 0 < length L) where
-    lawful : Lawful (enters preds) (reads-at L f) (webs-of L preds f)
-    lawful = family-lawful L preds (enters preds) size refl lines f
-
-    number-few : (d : ℕ) → is-definition (defines-at L f) d ≡ true → web-number (webs-of L preds f) d ≤ length (def-lines L f)
-    unfolding webs-of
-    number-few d s = number-bound lawful d s
-
-    read-few : (i : ℕ) → reads-at L f i ≡ true → read-number (webs-of L preds f) i ≤ length (def-lines L f)
-    unfolding webs-of
-    read-few i r = go (getD (webs-of L preds f .reaching) i []) (λ d m. reaches-definition (lawful .reaching-iff d i r .0 m))
-      where
-        go : (ds : List ℕ) → ((d : ℕ) → member d ds ≡ true → is-definition (defines-at L f) d ≡ true) → web-number (webs-of L preds f) (or-else (first ds) 0) ≤ length (def-lines L f)
-        go [] h = omega (arith, number-entry lawful)
-        go (d ∷ ds) h = number-few d (h d (member-head d ds))
-
-    defs-few : length (def-lines L f) < length L
-    defs-few = omega (arith, count-all (λ i. is-def-of f (line L i)) (range 1 (length L - 1)), length-range 1 (length L - 1))
-
-    pub key-small : (i j : ℕ) → key (webs-over L preds) f i j < length L
-    unfolding webs-of
-    key-small i j = rw (key-found i j) (go (has-webs L f))
-      where
-        at : (b c : Bool) → (b ≡ true → defines-at L f i ≡ true) → reads-at L f i ≡ c
-            → cond b (web-number (webs-of L preds f) i) (cond c (read-number (webs-of L preds f) i) 0) < length L
-        at true c h e = omega (arith, defs-few, number-few i (line-definition (defines-at L f) i (h refl)))
-        at false true h e = omega (arith, defs-few, read-few i e)
-        at false false h e = omega arith
-
-        go : (b : Bool) → key-in (cond b (some (webs-of L preds f)) none) i j < length L
-        go true = at (eqb j 0 && defines-at L f i) (reads-at L f i) (λ q. and-split (eqb j 0) (defines-at L f i) q .1) refl
-        go false = omega arith
-
--- The place of a family
-
-pub place-is : (L : List Line) (k : ℕ) → k < length (defined-families L) → (g : List ℕ) → eqb (place (defined-families L) g) (k + 1) ≡ (g == family-name L k)
-place-is L k h g = same-test _ _ there (λ e. eq-eqb _ _ (place-here (defined-families L) g k (unique-families L) h (sym (==-true g (family-name L k) e)) ∙ sym (add-one k)))
-  where
-    there : eqb (place (defined-families L) g) (k + 1) ≡ true → (g == family-name L k) ≡ true
-    there e = elim (place-cases (defined-families L) g) [
-      | inl p ↦ (let q = eqb-true (place (defined-families L) g) (k + 1) e in absurd (omega (arith, p .0)))
-      | inr p ↦ (let q = eqb-true (place (defined-families L) g) (k + 1) e in let z : p .0 ≡ k = omega (arith, p .1) in
-          rw (← (p .3), z) (==-self (family-name L k)))
-    ]
-
-place-most : (fs : List (List ℕ)) (f : List ℕ) → place fs f ≤ length fs
-place-most fs f = elim (place-cases fs f) [ inl p ↦ omega (arith, p .0) | inr p ↦ omega (arith, p .1, p .2) ]
-
 -- what is a up to place k, and b behind, with one place more
 one-more : (p k a b : ℕ) → cond (leb p (k + 1)) a b ≡ cond (eqb p (k + 1)) a (cond (leb p k) a b)
 one-more p k a b = elim (lt-or-ge k p) [
@@ -164,7 +108,10 @@ one-more p k a b = elim (lt-or-ge k p) [
   ]
 ]
 
-module _ (L : List Line) (preds : List (List ℕ)) (size : length preds ≡ length L) (lines : 0 < length L) (few : length L ≤ 1024) where
+module _ (l t x : List ℕ) (preds : List (List ℕ)) where
+  abbrev L : List Line
+  L = listing l t x
+
   abbrev ws : List Webs
   ws = webs-over L preds
 
@@ -173,34 +120,21 @@ module _ (L : List Line) (preds : List (List ℕ)) (size : length preds ≡ leng
 
   -- Numbers
 
-  pub number-start : number-after L ws 0 ≡ (λ f i j. waiting fs f)
+  pub number-start : number-after l t x ws 0 ≡ waiting-at l t x
   unfolding number-after waiting
   number-start = fun-ext (λ f. fun-ext (λ i. fun-ext (λ j. elim (place-cases fs f) [
     | inl p ↦ rw (p .0) (key-none L preds f (inl (p .1)) i j)
     | inr p ↦ rw (p .1, lt-leb (suc (p .0)) 0 (omega arith))
   ])))
 
-  pub number-end : (k : ℕ) → length fs ≤ k → number-after L ws k ≡ key ws
+  pub number-end : (k : ℕ) → length fs ≤ k → number-after l t x ws k ≡ key ws
   unfolding number-after
   number-end k h = fun-ext (λ f. fun-ext (λ i. fun-ext (λ j. rw (le-leb (place fs f) k (omega (arith, place-most fs f))))))
 
-  module _ (k : ℕ) (h : k < length fs) (low : k < 1024) (g : List ℕ) (i j : ℕ) where
-    pub number-waits : eqb (number-after L ws k g i j) (2147483648 + k) ≡ (g == family-name L k)
-    unfolding number-after waiting
-    number-waits = sym (sym (place-is L k h g) ∙ go (place fs g) (leb (place fs g) k) refl)
-      where
-        go : (p : ℕ) (b : Bool) → leb p k ≡ b → eqb p (k + 1) ≡ eqb (cond b (key ws g i j) (waiting-word p)) (2147483648 + k)
-        go p true e =
-            let q = leb-true p k e in
-            ne-eqb p (k + 1) (λ z. omega arith) ∙ sym (ne-eqb (key ws g i j) (2147483648 + k) (λ z. omega (arith, key-small L preds g size lines i j)))
-        go zero false e = clash (le-leb 0 k (omega arith)) e
-        go (suc p) false e = rw (ne-eqb (suc p) 0 (λ z. omega arith)) (same-test _ _
-            (λ z. let q = eqb-true (suc p) (k + 1) z in eq-eqb (2147483647 + suc p) (2147483648 + k) (omega arith))
-            (λ z. let q = eqb-true (2147483647 + suc p) (2147483648 + k) z in eq-eqb (suc p) (k + 1) (omega arith)))
-
-    pub number-next : number-after L ws (k + 1) g i j ≡ cond (g == family-name L k) (key ws g i j) (number-after L ws k g i j)
+  module _ (k : ℕ) (h : k < length fs) (g : List ℕ) (i j : ℕ) where
+    pub number-next : number-after l t x ws (k + 1) g i j ≡ cond (g == family-name L k) (key ws g i j) (number-after l t x ws k g i j)
     unfolding number-after
-    number-next = rw (← (place-is L k h g)) (one-more (place fs g) k (key ws g i j) (waiting fs g))
+    number-next = rw (← (place-is L k h g)) (one-more (place fs g) k (key ws g i j) (waiting-at l t x g i j))
 
   -- Marks
 

@@ -1,10 +1,10 @@
 -- Rules for `steps`.
 --   reads-rsp, reads-other                  `family_reads`
---   zeros-by, writes-by                     `write_zeros` and `write_family`
---   known-waits, reads-below                `family_free`: the tokens wait, the reading lines are lines
+--   zeros-by                                `write_zeros`
+--   known-chain, reads-below                `family_free`: the tokens are chained, the reading lines are lines
 --   free-done, free-over                    its answers
 --   taken-done                              a family whose address is taken
---   scratch-still                           the lent words are as many as before
+--   scratch-still, scratch-seen             the lent words are as many as before
 -- Assumes nothing.
 use Prim.Native.Nat.{ℕ, _+_, _-_, _<_, _≤_}
 use mathlib.Core.Path.{_≡_, refl, sym, ap, _∙_}
@@ -21,7 +21,6 @@ use Rattle.definitions.specs.Family.{fam-of, names}
 use Rattle.definitions.specs.Columns.{listing}
 use Rattle.definitions.specs.Recover.{read-lines, read-tokens, address-taken, defined-families, key}
 use Rattle.definitions.specs.Demand3.{defines-at}
-use Rattle.definitions.specs.Answers.{no-family}
 use Rattle.text.specs.Zeroed.{zeroed}
 use Rattle.family.specs.Register.{is-rsp}
 use Rattle.theory.proofs.ListLaws.{length-range, replicate-default}
@@ -33,19 +32,19 @@ use Rattle.sweep.specs.declared.Sweeps.{Sweeps}
 use Rattle.sweep.specs.declared.Sweeps.the-variants.{Done, OverBudget}
 use Rattle.model.proofs.Decode.{length-listing}
 use Rattle.recover.specs.Families.{Table}
-use Rattle.recover.specs.Tokens.{family-name, Waits}
-use Rattle.recover.specs.Writing.{lines-written, lines-marked}
+use Rattle.recover.specs.Tokens.{family-name}
 use Rattle.recover.proofs.Finding.{unique-families, place-here}
 use Rattle.recover.proofs.Numbered.{place-cases}
-use Rattle.recover.proofs.Taken.{family-read}
-use Rattle.webs.specs.Progress.{webs-over, number-after, family-sweeps}
+use Rattle.chains.specs.Chains.{Chain}
+use Rattle.chains.specs.Lines.{Written}
+use Rattle.chains.proofs.Taken.{family-read}
+use Rattle.webs.specs.Progress.{webs-over, family-sweeps}
 use Rattle.numbering.specs.Lines.{Below, LineNumbers, FamilyLines, Scratch}
 use Rattle.webs.specs.Steps.{Known, State, Writes, FamilyDone}
-use Rattle.webs.proofs.Places.{per-token-length}
 use Rattle.webs.proofs.Progress.{key-none}
 use Rattle.numbering.proofs.LineRules.{answer-over}
 use Rattle.webs.proofs.Family.{family-count, family-keys}
-use Rattle.webs.proofs.Next.{waits-by, numbers-next, marks-next, marks-taken}
+use Rattle.webs.proofs.Next.{chain-by, numbers-next, marks-next, marks-taken}
 
 -- `family_reads`
 
@@ -61,24 +60,15 @@ module _ (L : List Line) (count k : ℕ) (t : List ℕ) (T : Table L count t) (h
   pub reads-other : y ≡ false → (s : List ℕ) (m : ℕ) → take m s ≡ filter (λ i. any (names (family-name L k)) (read-tokens (line L i))) (range 1 (length L - 1)) → take m s ≡ read-lines L (family-name L k)
   reads-other q s m z = z ∙ sym (rw (family-read L count k t T h y e, q))
 
--- `write_zeros` and `write_family`
+-- `write_zeros`
 
-pub zeros-by : (l t ds own read zo zr ns₀ ns : List ℕ) (k w n : ℕ) → w ≡ k → n ≡ length l → zo ≡ zeroed 0 own → zr ≡ zeroed 0 read → ns ≡ lines-written l t w ds zo zr ns₀ (up-to n)
-    → ns ≡ lines-written l t k ds (zeroed 0 own) (zeroed 0 read) ns₀ (up-to (length l))
-zeros-by l t ds own read zo zr ns₀ ns k w n e z a b q = rw (e, z, a, b) at q
-
-pub writes-by : (l t ds own read ns₀ ns ms₀ ms : List ℕ) (k w : ℕ) → w ≡ k → ns ≡ lines-written l t w ds own read ns₀ (up-to (length l)) → ms ≡ lines-marked l w ds ms₀ (up-to (length l))
-    → Writes l t k ds own read ns₀ ns ms₀ ms
-writes-by l t ds own read ns₀ ns ms₀ ms k w e q z = record { numbers = rw e at q; marks = rw e at z }
+pub zeros-by : (l t x ds own read zo zr ns₀ ns : List ℕ) (k : ℕ) → zo ≡ zeroed 0 own → zr ≡ zeroed 0 read → Written l t x k ds zo zr ns₀ ns
+    → Written l t x k ds (zeroed 0 own) (zeroed 0 read) ns₀ ns
+zeros-by l t x ds own read zo zr ns₀ ns k a b W = rw (a, b) at W
 
 -- What is known of family k
 
--- one predecessor list for each line
-pub preds-size : (l t x : List ℕ) (r : ℕ) (space : List ℕ) → length (preds-of (length l) r space) ≡ length (listing l t x)
-unfolding preds-of
-preds-size l t x r space = length-map (up-to (length l)) (λ j. filter (λ i. edges (length l) r space i j) (up-to (length l))) ∙ length-range 0 (length l) ∙ sym (length-listing l t x)
-
-module _ (l t x table ds : List ℕ) (count r k : ℕ) (K : Known l t x table ds count r) (h : k < count) (space₀ ns₀ ms₀ : List ℕ) (S : State l t x r k space₀ ns₀ ms₀) where
+module _ (l t x table first ds : List ℕ) (count r k : ℕ) (K : Known l t x table first ds count r) (h : k < count) (space₀ ns₀ ms₀ : List ℕ) (S : State l t x r k space₀ ns₀ ms₀) where
   abbrev L : List Line
   L = listing l t x
 
@@ -91,17 +81,8 @@ module _ (l t x table ds : List ℕ) (count r k : ℕ) (K : Known l t x table ds
   inside : k < length (defined-families L)
   inside = omega (arith, K .finds .all)
 
-  low : k < 1024
-  low = omega (arith, K .finds .few)
-
   pos : 0 < length L
   pos = omega (arith, length-listing l t x, K .some)
-
-  few : length L ≤ 1024
-  few = omega (arith, length-listing l t x, K .few)
-
-  size : length preds ≡ length L
-  size = preds-size l t x r space₀
 
   has : any (λ g. g == f) (defined-families L) ≡ true
   has = elim (place-cases (defined-families L) f) [
@@ -109,11 +90,8 @@ module _ (l t x table ds : List ℕ) (count r k : ℕ) (K : Known l t x table ds
     | inr p ↦ p .4
   ]
 
-  pub known-waits : Waits l L ns₀ k
-  known-waits = waits-by l t x (K .ok) preds size pos few k inside low ns₀ (S .numbers)
-
-  pub known-length : length ns₀ ≡ length t
-  known-length = ap length (S .numbers) ∙ per-token-length l t x (K .ok) no-family (number-after L (webs-over L preds) k)
+  pub known-chain : Chain l t x k ns₀ first
+  known-chain = chain-by l t x (K .bounds) preds k inside ns₀ first (S .numbers) (K .heads k h)
 
   pub reads-below : (is : List ℕ) → is ≡ read-lines L f → Below (length l) is
   reads-below is e = record {
@@ -130,17 +108,17 @@ module _ (l t x table ds : List ℕ) (count r k : ℕ) (K : Known l t x table ds
     numbers-at : family-sweeps L preds f ≤ budget → LineNumbers (length l) r (F .w) (F .nums) space₀ space is own read
     numbers-at q = F .solved .done (rw (family-count L ds (K .defs) k inside free (length l) r budget space₀ space is own read a (sym (length-listing l t x)) F) q)
 
-    pub free-done : (s : ℕ) (ns ms : List ℕ) → a ≡ Done s → Writes l t k ds own read ns₀ ns ms₀ ms → FamilyDone l t x r k budget space₀ space ns ms (Done s)
+    pub free-done : (s : ℕ) (ns ms : List ℕ) → a ≡ Done s → Writes l t x k ds own read ns₀ ns ms₀ ms → FamilyDone l t x r k budget space₀ space ns ms (Done s)
     free-done s ns ms e W = record {
       answers = sym e ∙ sweeps-are;
       preds = λ q. numbers-at q .preds;
       state = λ q. record {
         agree = numbers-at q .swept .agree;
         numbers = rw (numbers-at q .preds)
-            (numbers-next l t x (K .ok) preds size pos few k inside low ds own read (K .defs)
+            (numbers-next l t x (K .bounds) preds k inside ds own read (K .defs)
             (family-keys L ds (K .defs) k inside free (length l) r budget space₀ space is own read a (sym (length-listing l t x)) F pos reads has (numbers-at q))
             ns₀ ns (S .numbers) (W .numbers));
-        marks = rw (numbers-at q .preds) (marks-next l t x (K .ok) preds size pos few k inside low ds (K .defs) has free ms₀ ms (S .marks) (W .marks));
+        marks = rw (numbers-at q .preds) (marks-next l t x (K .bounds) preds k inside ds (K .defs) has free ms₀ ms (S .marks) (W .marks));
       };
     }
 
@@ -153,7 +131,7 @@ module _ (l t x table ds : List ℕ) (count r k : ℕ) (K : Known l t x table ds
 
   -- a family whose address is taken
 
-  pub taken-done : address-taken L f ≡ true → (budget : ℕ) (own read ns : List ℕ) → ns ≡ lines-written l t k ds (zeroed 0 own) (zeroed 0 read) ns₀ (up-to (length l))
+  pub taken-done : address-taken L f ≡ true → (budget : ℕ) (own read ns : List ℕ) → Written l t x k ds (zeroed 0 own) (zeroed 0 read) ns₀ ns
       → FamilyDone l t x r k budget space₀ space₀ ns ms₀ (Done 0)
   unfolding family-sweeps
   taken-done taken budget own read ns e = record {
@@ -161,8 +139,8 @@ module _ (l t x table ds : List ℕ) (count r k : ℕ) (K : Known l t x table ds
     preds = λ q. refl;
     state = λ q. record {
       agree = S .agree;
-      numbers = numbers-next l t x (K .ok) preds size pos few k inside low ds (zeroed 0 own) (zeroed 0 read) (K .defs) zeros ns₀ ns (S .numbers) e;
-      marks = marks-taken l t x (K .ok) preds size pos few k inside low taken ms₀ (S .marks);
+      numbers = numbers-next l t x (K .bounds) preds k inside ds (zeroed 0 own) (zeroed 0 read) (K .defs) zeros ns₀ ns (S .numbers) e;
+      marks = marks-taken l t x (K .bounds) preds k inside taken ms₀ (S .marks);
     };
   }
     where
@@ -187,4 +165,15 @@ scratch-still n nums rep rank set seen own read nums′ rep′ rank′ set′ se
   read-room = g ∙ F .read-room;
 }
 
-pub ruleset step-rules = (reads-rsp, reads-other, zeros-by, writes-by)
+pub scratch-seen : (n : ℕ) (nums rep rank set seen seen′ own read : List ℕ) → Scratch n nums rep rank set seen own read → length seen′ ≡ length seen → Scratch n nums rep rank set seen′ own read
+scratch-seen n nums rep rank set seen seen′ own read F e = record {
+  nums-room = F .nums-room;
+  rep-room = F .rep-room;
+  rank-room = F .rank-room;
+  set-room = F .set-room;
+  seen-room = rw e (F .seen-room);
+  own-room = F .own-room;
+  read-room = F .read-room;
+}
+
+pub ruleset step-rules = (reads-rsp, reads-other, zeros-by)

@@ -27,7 +27,6 @@ use Rattle.webs.specs.Progress.{webs-over, family-sweeps, sweeps-before}
 use Rattle.webs.specs.Steps.{Known, State, FamilyDone, Going, AllDone}
 use Rattle.numbering.proofs.LineRules.{answer-done, answer-over}
 use Rattle.webs.proofs.Progress.{number-end, mark-end}
-use Rattle.webs.proofs.StepRules.{preds-size}
 
 -- Sums
 
@@ -84,7 +83,7 @@ module _ (L : List Line) (preds : List (List ℕ)) where
 
 -- The loop
 
-module _ (l t x table ds : List ℕ) (count r budget : ℕ) (K : Known l t x table ds count r) (space₀ : List ℕ) where
+module _ (l t x table first ds : List ℕ) (count r budget : ℕ) (K : Known l t x table first ds count r) (space₀ : List ℕ) where
   abbrev L : List Line
   L = listing l t x
 
@@ -129,8 +128,8 @@ module _ (l t x table ds : List ℕ) (count r budget : ℕ) (K : Known l t x tab
     pub going-end : count ≤ k → AllDone budget (numbered-webs L (webs-over L preds)) ns ms (Done total)
     going-end h = record {
       answers = rw (sym all, le-leb total budget (G .within));
-      numbers = λ q. G .state .numbers ∙ rw (G .preds) (ap (λ (g : List ℕ → ℕ → ℕ → ℕ). per-token no-family g L) (number-end L preds size pos few k done));
-      marks = λ q. G .state .marks ∙ rw (G .preds) (ap (λ (g : List ℕ → ℕ → ℕ → ℕ). per-token 0 g L) (mark-end L preds size pos few k done));
+      numbers = λ q. G .state .numbers ∙ rw (G .preds) (ap (λ (g : List ℕ → ℕ → ℕ → ℕ). per-token no-family g L) (number-end l t x preds k done));
+      marks = λ q. G .state .marks ∙ rw (G .preds) (ap (λ (g : List ℕ → ℕ → ℕ → ℕ). per-token 0 g L) (mark-end l t x preds k done));
     }
       where
         done : length (defined-families L) ≤ k
@@ -138,12 +137,3 @@ module _ (l t x table ds : List ℕ) (count r budget : ℕ) (K : Known l t x tab
 
         all : total ≡ total-sweeps (webs-over L preds)
         all = G .total ∙ before-all L preds k done
-
-        pos : 0 < length L
-        pos = omega (arith, length-listing l t x, K .some)
-
-        few : length L ≤ 1024
-        few = omega (arith, length-listing l t x, K .few)
-
-        size : length preds ≡ length L
-        size = preds-size l t x r space₀

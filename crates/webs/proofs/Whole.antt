@@ -1,5 +1,5 @@
 -- The whole: from the drawn graph and the words of the tokens to the answer.
---   finds-all, known-by     what is known when the families are numbered
+--   bounds-by, finds-all, known-by     what is known when the families are numbered
 --   state-start             no family is done
 --   fresh-part              a part of a fresh array
 --   drawn-webs              the webs over the drawn graph are those of `recover`
@@ -15,9 +15,9 @@ use native.Mathlib.Omega.{arith}
 use borrow.Author.Tests.{le-leb}
 use lib.ListN.{length, take, replicate, length-take, length-replicate}
 use Rattle.definitions.specs.Lists.{filter, or-else, up-to, member}
-use Rattle.definitions.specs.Model.{Line, token, line}
+use Rattle.definitions.specs.Model.{Token, Line, token, line}
 use Rattle.definitions.specs.Family.{Family, fam-of}
-use Rattle.definitions.specs.Columns.{listing}
+use Rattle.definitions.specs.Columns.{token-list, listing}
 use Rattle.definitions.specs.Questions.{covers}
 use Rattle.definitions.specs.FlowGraph.{flow-graph, steps, predecessors}
 use Rattle.definitions.specs.Recover.{Webs, recover, defined-families}
@@ -30,14 +30,17 @@ use Rattle.model.proofs.Decode.{length-listing}
 use Rattle.bits.specs.Edges.{edges, Agree, preds-of}
 use Rattle.sweep.specs.declared.Sweeps.{Sweeps}
 use Rattle.recover.specs.Families.{families-before, Numbered}
-use Rattle.recover.specs.Tokens.{waiting, Finds}
+use Rattle.recover.specs.Tokens.{Finds}
+use Rattle.chains.specs.Chains.{waiting, token-word, Bounds, Chained}
 use Rattle.recover.proofs.Lists.{filter-same}
 use Rattle.recover.proofs.Numbered.{families-all}
-use Rattle.webs.specs.Progress.{webs-over, Drawn}
+use Rattle.webs.specs.Progress.{webs-over, waiting-at, Drawn}
 use Rattle.webs.specs.Steps.{Known, State, AllDone}
-use Rattle.webs.proofs.Places.{of-family, per-token-by}
+use Rattle.chains.proofs.Places.{of-family, place-token, place-inside, per-token-by}
 use Rattle.webs.proofs.Progress.{number-start, mark-start}
-use Rattle.webs.proofs.StepRules.{preds-size}
+
+pub bounds-by : (l t : List ℕ) → covers 512 0 l (length t) ≡ true → length l ≤ 1024 → length t ≤ 16384 → Bounds l t
+bounds-by l t ok a b = record { ok = ok; lines = a; tokens = b }
 
 module _ (l t x table ds : List ℕ) (count : ℕ) (N : Numbered (listing l t x) (length l) count table ds) where
   abbrev L : List Line
@@ -50,40 +53,48 @@ module _ (l t x table ds : List ℕ) (count : ℕ) (N : Numbered (listing l t x)
     few = omega (arith, N .small, N .upto, N .few);
   }
 
-  pub known-by : (r : ℕ) → covers 512 0 l (length t) ≡ true → 2 ≤ length l → r ≡ (length l + 63) / 64 → Known l t x table ds count r
-  known-by r ok two e = record {
-    ok = ok;
+  pub known-by : (r : ℕ) → Bounds l t → 2 ≤ length l → r ≡ (length l + 63) / 64 → (ns first : List ℕ) → Chained l t x count 0 ns first → Known l t x table first ds count r
+  known-by r B two e ns first C = record {
+    bounds = B;
     some = omega arith;
-    few = omega (arith, N .few, length-listing l t x);
     words = e;
     finds = finds-all;
     defs = record { at = λ j h. N .defs j (omega (arith, length-listing l t x)) };
+    heads = C .heads;
     room = omega (arith, N .width, length-listing l t x);
   }
 
 -- No family is done
 
-module _ (l t x : List ℕ) (r : ℕ) (space ms : List ℕ) (ok : covers 512 0 l (length t) ≡ true) (two : 2 ≤ length l) (few : length l ≤ 1024) where
-  pos : 0 < length (listing l t x)
-  pos = omega (arith, length-listing l t x)
-
-  small : length (listing l t x) ≤ 1024
-  small = omega (arith, length-listing l t x)
-
+module _ (l t x : List ℕ) (r : ℕ) (space ms : List ℕ) (B : Bounds l t) where
   no-marks : length ms ≡ length t → zeroed 0 ms ≡ per-token 0 (λ f i j. 0) (listing l t x)
-  no-marks e = per-token-by l t x ok 0 (λ f i j. 0) (zeroed 0 ms) (length-replicate (length ms - 0) 0 ∙ omega arith) (λ i j h q.
+  no-marks e = per-token-by l t x (B .ok) 0 (λ f i j. 0) (zeroed 0 ms) (length-replicate (length ms - 0) 0 ∙ omega arith) (λ i j h q.
       replicate-default {A = ℕ} (length ms - 0) (line-start l i + j) 0 ∙ go i j (fam-of (token (line (listing l t x) i) j)))
     where
       go : (i j : ℕ) (o : Option Family) → 0 ≡ of-family 0 (λ f i j. 0) o i j
       go i j none = refl
       go i j (some y) = refl
 
-  pub state-start : (ns zs : List ℕ) (D : Drawn (listing l t x) (length l) r space) → length ms ≡ length t → zs ≡ zeroed 0 ms
-      → ns ≡ per-token no-family (λ f i k. waiting (defined-families (listing l t x)) f) (listing l t x) → State l t x r 0 space ns zs
-  state-start ns zs D e z q = record {
+  -- the words as they are chained
+  chained-numbers : (count : ℕ) (ns first : List ℕ) → Chained l t x count 0 ns first → ns ≡ per-token no-family (waiting-at l t x) (listing l t x)
+  unfolding token-word
+  chained-numbers count ns first C = per-token-by l t x (B .ok) no-family (waiting-at l t x) ns (C .size) (λ i j h q.
+      C .words (line-start l i + j) (omega arith) (place-inside l t x (B .ok) i j h q)
+      ∙ ap (λ (u : Token). word i j (fam-of u)) (sym (place-token l t x (B .ok) i j h q)) ∙ go i j (fam-of (token (line (listing l t x) i) j)))
+    where
+      word : ℕ → ℕ → Option Family → ℕ
+      word i j o = elim o [ none ↦ no-family | some y ↦ waiting l (token-list t x) (defined-families (listing l t x)) (y .name) (line-start l i + j) ]
+
+      go : (i j : ℕ) (o : Option Family) → word i j o ≡ of-family no-family (waiting-at l t x) o i j
+      go i j none = refl
+      go i j (some y) = refl
+
+  pub state-start : (count : ℕ) (ns first zs : List ℕ) (D : Drawn (listing l t x) (length l) r space) → length ms ≡ length t → zs ≡ zeroed 0 ms
+      → Chained l t x count 0 ns first → State l t x r 0 space ns zs
+  state-start count ns first zs D e z C = record {
     agree = D .agree;
-    numbers = q ∙ ap (λ (g : List ℕ → ℕ → ℕ → ℕ). per-token no-family g (listing l t x)) (sym (number-start (listing l t x) (preds-of (length l) r space) (preds-size l t x r space) pos small));
-    marks = z ∙ no-marks e ∙ ap (λ (g : List ℕ → ℕ → ℕ → ℕ). per-token 0 g (listing l t x)) (sym (mark-start (listing l t x) (preds-of (length l) r space) (preds-size l t x r space) pos small));
+    numbers = chained-numbers count ns first C ∙ ap (λ (g : List ℕ → ℕ → ℕ → ℕ). per-token no-family g (listing l t x)) (sym (number-start l t x (preds-of (length l) r space)));
+    marks = z ∙ no-marks e ∙ ap (λ (g : List ℕ → ℕ → ℕ → ℕ). per-token 0 g (listing l t x)) (sym (mark-start l t x (preds-of (length l) r space)));
   }
 
 -- a part of a fresh array

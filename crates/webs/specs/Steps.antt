@@ -1,5 +1,6 @@
 -- What is known of the listing before its families are done, and what one family does.
---   Known l t x table ds count r      the columns are well-formed, the table finds the families, ds has the family that each line defines
+--   Known l t x table first ds count r    the columns are well-formed, the table finds the families, `first` has the first token of each, ds has
+--                                     the family that each line defines
 --   State l t x r k space ns ms       the first k families are done: ns has the numbers, ms the marks; space holds the graph
 --   Writes                            what `write_family` does
 --   FamilyDone                        what `family` does
@@ -8,37 +9,36 @@
 -- Assumes nothing.
 use Prim.Native.Nat.{ℕ, _+_, _/_, _<_, _≤_}
 use mathlib.Core.Path.{_≡_}
-use mathlib.Core.Bool.{true}
 use mathlib.Core.List.{List}
-use lib.ListN.{length}
+use lib.ListN.{length, getD}
 use Rattle.definitions.specs.Lists.{up-to}
-use Rattle.definitions.specs.Columns.{listing}
-use Rattle.definitions.specs.Questions.{covers}
+use Rattle.definitions.specs.Columns.{token-list, listing}
 use Rattle.definitions.specs.Answers.{no-family, per-token, Numbered}
 use Rattle.bits.specs.Edges.{Agree, preds-of}
 use Rattle.sweep.specs.Solved.{answer}
 use Rattle.sweep.specs.declared.Sweeps.{Sweeps}
 use Rattle.recover.specs.Families.{Defs}
 use Rattle.recover.specs.Tokens.{Finds, family-name}
-use Rattle.recover.specs.Writing.{lines-written, lines-marked}
+use Rattle.chains.specs.Chains.{next-place, Bounds}
+use Rattle.chains.specs.Lines.{Written, lines-marked}
 use Rattle.webs.specs.Progress.{webs-over, number-after, mark-after, family-sweeps, sweeps-before}
 
-pub record Known (l t x table ds : List ℕ) (count r : ℕ) : Type 0 where
-  pub ok : covers 512 0 l (length t) ≡ true
+pub record Known (l t x table first ds : List ℕ) (count r : ℕ) : Type 0 where
+  pub bounds : Bounds l t
   pub some : 0 < length l
-  pub few : length l ≤ 1024
   pub words : r ≡ (length l + 63) / 64
   pub finds : Finds (listing l t x) count table
   pub defs : Defs (listing l t x) ds
+  pub heads : (k : ℕ) → k < count → getD first k 0 ≡ next-place (family-name (listing l t x) k) (token-list t x) 0
   pub room : length l ≤ length ds
 
 pub record State (l t x : List ℕ) (r k : ℕ) (space ns ms : List ℕ) : Type 0 where
   pub agree : Agree (length l) r space
-  pub numbers : ns ≡ per-token no-family (number-after (listing l t x) (webs-over (listing l t x) (preds-of (length l) r space)) k) (listing l t x)
+  pub numbers : ns ≡ per-token no-family (number-after l t x (webs-over (listing l t x) (preds-of (length l) r space)) k) (listing l t x)
   pub marks : ms ≡ per-token 0 (mark-after (listing l t x) (webs-over (listing l t x) (preds-of (length l) r space)) k) (listing l t x)
 
-pub record Writes (l t : List ℕ) (k : ℕ) (ds own read ns₀ ns ms₀ ms : List ℕ) : Type 0 where
-  pub numbers : ns ≡ lines-written l t k ds own read ns₀ (up-to (length l))
+pub record Writes (l t x : List ℕ) (k : ℕ) (ds own read ns₀ ns ms₀ ms : List ℕ) : Type 0 where
+  pub numbers : Written l t x k ds own read ns₀ ns
   pub marks : ms ≡ lines-marked l k ds ms₀ (up-to (length l))
 
 pub record FamilyDone (l t x : List ℕ) (r k budget : ℕ) (space₀ space ns ms : List ℕ) (a : Sweeps) : Type 0 where

@@ -16,8 +16,8 @@ ghost use Rattle.definitions.specs.Answers.{numbered-webs};
 ghost use Rattle.bits.specs.Edges.{preds-of};
 ghost use Rattle.webs.specs.Progress.{webs-over, Drawn};
 ghost use Rattle.webs.specs.Steps.{Known, State, AllDone};
+use chains::tokens::chain_tokens;
 use recover::families::families;
-use recover::tokens::number_tokens;
 use steps::all_families;
 use sweep::Sweeps;
 
@@ -29,6 +29,7 @@ fn all_webs(
     tokens: &[u32],
     text: &[u8],
     table: &[u16],
+    first: &[u16],
     count: usize,
     defs: &[u16],
     space: &mut [u64],
@@ -37,7 +38,7 @@ fn all_webs(
     numbers: &mut [u32],
     marks: &mut [u8],
 ) -> Sweeps
-    requires { ⌜ Known (now lines) (now tokens) (now text) (now table) (now defs) count r × State (now lines) (now tokens) (now text) r 0 (now space) (now numbers) (now marks) × (space-words (length (now lines)) ≤ length (now space)) ⌝ }
+    requires { ⌜ Known (now lines) (now tokens) (now text) (now table) (now first) (now defs) count r × State (now lines) (now tokens) (now text) r 0 (now space) (now numbers) (now marks) × (space-words (length (now lines)) ≤ length (now space)) ⌝ }
     ensures { λ a. ⌜ (let L = listing (now (lines .entry)) (now (tokens .entry)) (now (text .entry)) in AllDone budget (numbered-webs L (webs-over L (preds-of (length (now (lines .entry))) r (now (space .entry))))) (now (numbers .exit)) (now (marks .exit)) a) ⌝ }
 {
     let n = lines.len();
@@ -54,6 +55,7 @@ fn all_webs(
         tokens,
         text,
         table,
+        first,
         count,
         defs,
         space,
@@ -83,20 +85,22 @@ pub fn recover(
     numbers: &mut [u32],
     marks: &mut [u8],
 ) -> Sweeps
-    requires { ⌜ (2 ≤ length (now lines)) × (length (now lines) ≤ 1024) × (covers 512 0 (now lines) (length (now tokens)) ≡ true) × (r ≡ (length (now lines) + 63) / 64) ⌝ }
+    requires { ⌜ (2 ≤ length (now lines)) × (length (now lines) ≤ 1024) × (length (now tokens) ≤ 16384) × (covers 512 0 (now lines) (length (now tokens)) ≡ true) × (r ≡ (length (now lines) + 63) / 64) ⌝ }
     requires { ⌜ (space-words (length (now lines)) ≤ length (now space)) × (length (now numbers) ≡ length (now tokens)) × (length (now marks) ≡ length (now tokens)) × Drawn (listing (now lines) (now tokens) (now text)) (length (now lines)) r (now space) ⌝ }
     ensures { λ a. ⌜ (let L = listing (now (lines .entry)) (now (tokens .entry)) (now (text .entry)) in AllDone budget (numbered-webs L (or-else (recover L) [])) (now (numbers .exit)) (now (marks .exit)) a) ⌝ }
 {
     let mut table = [0u16; 2304];
     let mut defs = [0u16; 1024];
+    let mut first = [0u16; 1024];
     let count = families(lines, tokens, text, &mut table, &mut defs);
-    number_tokens(lines, tokens, text, &table, count, numbers);
+    chain_tokens(lines, tokens, text, &table, count, numbers, &mut first);
     text::zero_bytes(marks, 0);
     all_webs(
         lines,
         tokens,
         text,
         &table,
+        &first,
         count,
         &defs,
         space,

@@ -1,12 +1,11 @@
 // One family after the other, in the order of their first definition: its sweeps, its webs, the numbers and marks of its tokens. A family takes
-// the steps of `numbering::family_lines`, and one a token of the listing for its address, for its reads and for writing.
+// the steps of `numbering::family_lines`, a few a line, and one a token of its own for its address, for its reads and for writing.
 //
 // Contracts cite `recover` of Rattle.definitions.specs.Recover and `numbered-webs` of Rattle.definitions.specs.Answers.
 ghost use mathlib.Core.Path.{_≡_};
 ghost use mathlib.Core.Bool.{false};
 ghost use Prim.Native.Nat.{_<_, _≤_};
 ghost use lib.ListN.{length, take};
-ghost use Rattle.definitions.specs.Lists.{up-to};
 ghost use Rattle.definitions.specs.Questions.{space-words};
 ghost use Rattle.definitions.specs.Columns.{listing};
 ghost use Rattle.definitions.specs.Recover.{read-lines, address-taken};
@@ -14,26 +13,20 @@ ghost use Rattle.definitions.specs.Answers.{numbered-webs};
 ghost use Rattle.bits.specs.Edges.{preds-of};
 ghost use Rattle.text.specs.Zeroed.{zeroed};
 ghost use Rattle.recover.specs.Families.{Table, Defs};
-ghost use Rattle.recover.specs.Tokens.{family-name, Waits};
-ghost use Rattle.recover.specs.Writing.{lines-written};
+ghost use Rattle.recover.specs.Tokens.{family-name};
+ghost use Rattle.chains.specs.Chains.{Chain};
+ghost use Rattle.chains.specs.Lines.{Written};
 ghost use Rattle.webs.specs.Progress.{webs-over};
 ghost use Rattle.numbering.specs.Lines.{Scratch};
 ghost use Rattle.webs.specs.Steps.{Known, State, Writes, FamilyDone, AllDone};
+use chains::reads::address_taken;
+use chains::reads::is_rsp;
+use chains::reads::read_lines;
+use chains::writing::mark_lines;
+use chains::writing::write_tokens;
 use numbering::family_lines;
-use recover::reads::address_taken;
-use recover::reads::is_rsp;
-use recover::reads::read_lines;
 use recover::words::zero;
-use recover::writing::mark_lines;
-use recover::writing::write_lines;
 use sweep::Sweeps;
-
-fn word32(k: usize) -> u32
-    requires { ⌜ k < 1024 ⌝ }
-    ensures { λ r. ⌜ r ≡ k ⌝ }
-{
-    k as u32
-}
 
 // Lists the lines that read family k, none for rsp; answers how many there are.
 fn family_reads(
@@ -41,53 +34,50 @@ fn family_reads(
     tokens: &[u32],
     text: &[u8],
     table: &[u16],
+    first: &[u16],
     numbers: &[u32],
     defs: &[u16],
     count: usize,
     k: usize,
+    seen: &mut [u8],
     reads: &mut [u16],
 ) -> usize
-    requires { ⌜ (let L = listing (now lines) (now tokens) (now text) in Table L count (now table) × (k < count) × Waits (now lines) L (now numbers) k × Defs L (now defs)) ⌝ }
-    requires { ⌜ (0 < length (now lines)) × (length (now lines) ≤ length (now reads)) × (length (now lines) ≤ 65536) ⌝ }
+    requires { ⌜ (let L = listing (now lines) (now tokens) (now text) in Table L count (now table) × (k < count) × (k < 1024) × Chain (now lines) (now tokens) (now text) k (now numbers) (now first) × Defs L (now defs)) ⌝ }
+    requires { ⌜ (0 < length (now lines)) × (length (now lines) ≤ length (now seen)) × (length (now lines) ≤ length (now reads)) × (length (now lines) ≤ 65536) ⌝ }
     ensures { λ m. ⌜ (m ≤ length (now (lines .entry))) × (let L = listing (now (lines .entry)) (now (tokens .entry)) (now (text .entry)) in take m (now (reads .exit)) ≡ read-lines L (family-name L k)) ⌝ }
 {
     if is_rsp(lines, tokens, text, table, k) {
         return 0;
     }
-    read_lines(lines, tokens, text, numbers, defs, k, reads)
+    read_lines(lines, tokens, text, numbers, first, defs, k, seen, reads)
 }
 
 // The tokens of family k get the number 0.
 fn write_zeros(
     lines: &[u32],
     tokens: &[u32],
+    text: &[u8],
+    first: &[u16],
     numbers: &mut [u32],
     k: usize,
     defs: &[u16],
     own: &mut [u16],
     read: &mut [u16],
 )
-    requires { ⌜ (length (now numbers) ≡ length (now tokens)) × (k < 1024) ⌝ }
-    ensures { λ _. ⌜ now (numbers .exit) ≡ lines-written (now (lines .entry)) (now (tokens .entry)) k (now (defs .entry)) (zeroed 0 (now (own .entry))) (zeroed 0 (now (read .entry))) (now (numbers .entry)) (up-to (length (now (lines .entry)))) ⌝ }
+    requires { ⌜ Chain (now lines) (now tokens) (now text) k (now numbers) (now first) × (k < 1024) ⌝ }
+    ensures { λ _. ⌜ Written (now (lines .entry)) (now (tokens .entry)) (now (text .entry)) k (now (defs .entry)) (zeroed 0 (now (own .entry))) (zeroed 0 (now (read .entry))) (now (numbers .entry)) (now (numbers .exit)) ⌝ }
 {
     zero(own);
     zero(read);
-    write_lines(
-        lines,
-        tokens,
-        numbers,
-        lines.len(),
-        word32(k),
-        defs,
-        own,
-        read,
-    );
+    write_tokens(lines, tokens, text, numbers, first, k, defs, own, read);
 }
 
 // The tokens of family k get their numbers, its definitions their marks.
 fn write_family(
     lines: &[u32],
     tokens: &[u32],
+    text: &[u8],
+    first: &[u16],
     numbers: &mut [u32],
     marks: &mut [u8],
     k: usize,
@@ -95,12 +85,11 @@ fn write_family(
     own: &[u16],
     read: &[u16],
 )
-    requires { ⌜ (length (now numbers) ≡ length (now tokens)) × (k < 1024) ⌝ }
-    ensures { λ _. ⌜ Writes (now (lines .entry)) (now (tokens .entry)) k (now (defs .entry)) (now (own .entry)) (now (read .entry)) (now (numbers .entry)) (now (numbers .exit)) (now (marks .entry)) (now (marks .exit)) ⌝ }
+    requires { ⌜ Chain (now lines) (now tokens) (now text) k (now numbers) (now first) × (k < 1024) ⌝ }
+    ensures { λ _. ⌜ Writes (now (lines .entry)) (now (tokens .entry)) (now (text .entry)) k (now (defs .entry)) (now (own .entry)) (now (read .entry)) (now (numbers .entry)) (now (numbers .exit)) (now (marks .entry)) (now (marks .exit)) ⌝ }
 {
-    let w = word32(k);
-    write_lines(lines, tokens, numbers, lines.len(), w, defs, own, read);
-    mark_lines(lines, marks, lines.len(), w, defs);
+    write_tokens(lines, tokens, text, numbers, first, k, defs, own, read);
+    mark_lines(lines, marks, lines.len(), k, defs);
 }
 
 // Family k, whose address is not taken.
@@ -109,6 +98,7 @@ fn family_free(
     tokens: &[u32],
     text: &[u8],
     table: &[u16],
+    first: &[u16],
     count: usize,
     defs: &[u16],
     k: usize,
@@ -126,12 +116,24 @@ fn family_free(
     own: &mut [u16],
     read: &mut [u16],
 ) -> Sweeps
-    requires { ⌜ Known (now lines) (now tokens) (now text) (now table) (now defs) count r × (k < count) × State (now lines) (now tokens) (now text) r k (now space) (now numbers) (now marks) ⌝ }
+    requires { ⌜ Known (now lines) (now tokens) (now text) (now table) (now first) (now defs) count r × (k < count) × State (now lines) (now tokens) (now text) r k (now space) (now numbers) (now marks) ⌝ }
     requires { ⌜ (let L = listing (now lines) (now tokens) (now text) in address-taken L (family-name L k) ≡ false) × (space-words (length (now lines)) ≤ length (now space)) ⌝ }
     requires { ⌜ (length (now lines) ≤ length (now reads)) × Scratch (length (now lines)) (now nums) (now rep) (now rank) (now set) (now seen) (now own) (now read) ⌝ }
     ensures { λ a. ⌜ FamilyDone (now (lines .entry)) (now (tokens .entry)) (now (text .entry)) r k budget (now (space .entry)) (now (space .exit)) (now (numbers .exit)) (now (marks .exit)) a ⌝ }
 {
-    let m = family_reads(lines, tokens, text, table, numbers, defs, count, k, reads);
+    let m = family_reads(
+        lines,
+        tokens,
+        text,
+        table,
+        first,
+        numbers,
+        defs,
+        count,
+        k,
+        seen,
+        reads,
+    );
     let n = lines.len();
     let Sweeps::Done(s) = family_lines(
         space,
@@ -151,7 +153,18 @@ fn family_free(
     ) else {
         return Sweeps::OverBudget;
     };
-    write_family(lines, tokens, numbers, marks, k, defs, own, read);
+    write_family(
+        lines,
+        tokens,
+        text,
+        first,
+        numbers,
+        marks,
+        k,
+        defs,
+        own,
+        read,
+    );
     Sweeps::Done(s)
 }
 
@@ -161,6 +174,7 @@ fn family(
     tokens: &[u32],
     text: &[u8],
     table: &[u16],
+    first: &[u16],
     count: usize,
     defs: &[u16],
     k: usize,
@@ -178,12 +192,12 @@ fn family(
     own: &mut [u16],
     read: &mut [u16],
 ) -> Sweeps
-    requires { ⌜ Known (now lines) (now tokens) (now text) (now table) (now defs) count r × (k < count) × State (now lines) (now tokens) (now text) r k (now space) (now numbers) (now marks) ⌝ }
+    requires { ⌜ Known (now lines) (now tokens) (now text) (now table) (now first) (now defs) count r × (k < count) × State (now lines) (now tokens) (now text) r k (now space) (now numbers) (now marks) ⌝ }
     requires { ⌜ (space-words (length (now lines)) ≤ length (now space)) × (length (now lines) ≤ length (now reads)) × Scratch (length (now lines)) (now nums) (now rep) (now rank) (now set) (now seen) (now own) (now read) ⌝ }
     ensures { λ a. ⌜ FamilyDone (now (lines .entry)) (now (tokens .entry)) (now (text .entry)) r k budget (now (space .entry)) (now (space .exit)) (now (numbers .exit)) (now (marks .exit)) a ⌝ }
 {
-    if address_taken(lines, tokens, text, table, numbers, count, k) {
-        write_zeros(lines, tokens, numbers, k, defs, own, read);
+    if address_taken(lines, tokens, text, table, numbers, first, count, k) {
+        write_zeros(lines, tokens, text, first, numbers, k, defs, own, read);
         return Sweeps::Done(0);
     }
     family_free(
@@ -191,6 +205,7 @@ fn family(
         tokens,
         text,
         table,
+        first,
         count,
         defs,
         k,
@@ -216,6 +231,7 @@ pub fn all_families(
     tokens: &[u32],
     text: &[u8],
     table: &[u16],
+    first: &[u16],
     count: usize,
     defs: &[u16],
     space: &mut [u64],
@@ -232,7 +248,7 @@ pub fn all_families(
     own: &mut [u16],
     read: &mut [u16],
 ) -> Sweeps
-    requires { ⌜ Known (now lines) (now tokens) (now text) (now table) (now defs) count r × State (now lines) (now tokens) (now text) r 0 (now space) (now numbers) (now marks) ⌝ }
+    requires { ⌜ Known (now lines) (now tokens) (now text) (now table) (now first) (now defs) count r × State (now lines) (now tokens) (now text) r 0 (now space) (now numbers) (now marks) ⌝ }
     requires { ⌜ (space-words (length (now lines)) ≤ length (now space)) × (length (now lines) ≤ length (now reads)) × Scratch (length (now lines)) (now nums) (now rep) (now rank) (now set) (now seen) (now own) (now read) ⌝ }
     ensures { λ a. ⌜ (let L = listing (now (lines .entry)) (now (tokens .entry)) (now (text .entry)) in AllDone budget (numbered-webs L (webs-over L (preds-of (length (now (lines .entry))) r (now (space .entry))))) (now (numbers .exit)) (now (marks .exit)) a) ⌝ }
 {
@@ -244,6 +260,7 @@ pub fn all_families(
             tokens,
             text,
             table,
+            first,
             count,
             defs,
             k,

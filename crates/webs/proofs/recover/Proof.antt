@@ -1,6 +1,7 @@
 -- `webs::recover` meets its contract. By its calls.
 -- Assumes nothing.
-use Rattle.webs.proofs.Whole.{finds-all, known-by, state-start, whole-by}
+use native.Mathlib.Omega.{arith}
+use Rattle.webs.proofs.Whole.{bounds-by, finds-all, known-by, state-start, whole-by}
 use borrow.Author.Needs.{needs}
 use Rattle.webs.proofs.recover.Statement.{statement}
 use Rattle.webs.proofs.recover.Tie as tie
@@ -14,11 +15,14 @@ slice-aggregate-families-2 c = search needs
 families-requires : tie.Need-families-requires
 families-requires c κs = search needs
 
-slice-aggregate-number-tokens : tie.Need-slice-aggregate-number-tokens
-slice-aggregate-number-tokens c = search needs
+slice-aggregate-chain-tokens : tie.Need-slice-aggregate-chain-tokens
+slice-aggregate-chain-tokens c = search needs
 
-number-tokens-requires : tie.Need-number-tokens-requires
-number-tokens-requires c κs = (finds-all _ _ _ _ _ _ (c .before .before .before .before .families .ensures), c .before .before .before .before .before .before .before .before .before .before .before .before .before .pre .1 .1, c .before .before .before .before .before .before .before .before .before .before .before .before .before .pre .0 .2)
+slice-aggregate-chain-tokens-2 : tie.Need-slice-aggregate-chain-tokens-2
+slice-aggregate-chain-tokens-2 c = search needs
+
+chain-tokens-requires : tie.Need-chain-tokens-requires
+chain-tokens-requires c κs = let f = finds-all _ _ _ _ _ _ (c .before .before .before .before .before .families .ensures) in (f, bounds-by _ _ (c .before .before .before .before .before .before .before .before .before .before .before .before .before .before .pre .0 .3) (c .before .before .before .before .before .before .before .before .before .before .before .before .before .before .pre .0 .1) (c .before .before .before .before .before .before .before .before .before .before .before .before .before .before .pre .0 .2), c .before .before .before .before .before .before .before .before .before .before .before .before .before .before .pre .1 .1, omega (arith, f .few))
 
 zero-bytes-requires : tie.Need-zero-bytes-requires
 zero-bytes-requires c κs = search needs
@@ -29,8 +33,11 @@ slice-aggregate-all-webs c = search needs
 slice-aggregate-all-webs-2 : tie.Need-slice-aggregate-all-webs-2
 slice-aggregate-all-webs-2 c = search needs
 
+slice-aggregate-all-webs-3 : tie.Need-slice-aggregate-all-webs-3
+slice-aggregate-all-webs-3 c = search needs
+
 all-webs-requires : tie.Need-all-webs-requires
-all-webs-requires c κs = (known-by _ _ _ _ _ _ (c .before .before .before .before .before .before .before .before .before .before .before .before .before .before .before .before .families .ensures) _ (c .before .before .before .before .before .before .before .before .before .before .before .before .before .before .before .before .before .before .before .before .before .before .before .before .before .pre .0 .2) (c .before .before .before .before .before .before .before .before .before .before .before .before .before .before .before .before .before .before .before .before .before .before .before .before .before .pre .0 .0) (c .before .before .before .before .before .before .before .before .before .before .before .before .before .before .before .before .before .before .before .before .before .before .before .before .before .pre .0 .3), state-start _ _ _ _ _ (c .before .before .before .before .before .before .before .before .before .before .before .before .before .before .before .before .before .before .before .before .before .before .before .before .before .args .marks .now) (c .before .before .before .before .before .before .before .before .before .before .before .before .before .before .before .before .before .before .before .before .before .before .before .before .before .pre .0 .2) (c .before .before .before .before .before .before .before .before .before .before .before .before .before .before .before .before .before .before .before .before .before .before .before .before .before .pre .0 .0) (c .before .before .before .before .before .before .before .before .before .before .before .before .before .before .before .before .before .before .before .before .before .before .before .before .before .pre .0 .1) _ _ (c .before .before .before .before .before .before .before .before .before .before .before .before .before .before .before .before .before .before .before .before .before .before .before .before .before .pre .1 .3) (c .before .before .before .before .before .before .before .before .before .before .before .before .before .before .before .before .before .before .before .before .before .before .before .before .before .pre .1 .2) (c .before .before .before .before .before .before .before .zero-bytes .ensures) (c .before .before .before .before .before .before .before .before .before .before .before .number-tokens .ensures), c .before .before .before .before .before .before .before .before .before .before .before .before .before .before .before .before .before .before .before .before .before .before .before .before .before .pre .1 .0)
+all-webs-requires c κs = let B = bounds-by _ _ (c .before .before .before .before .before .before .before .before .before .before .before .before .before .before .before .before .before .before .before .before .before .before .before .before .before .before .before .before .pre .0 .3) (c .before .before .before .before .before .before .before .before .before .before .before .before .before .before .before .before .before .before .before .before .before .before .before .before .before .before .before .before .pre .0 .1) (c .before .before .before .before .before .before .before .before .before .before .before .before .before .before .before .before .before .before .before .before .before .before .before .before .before .before .before .before .pre .0 .2) in (known-by _ _ _ _ _ _ (c .before .before .before .before .before .before .before .before .before .before .before .before .before .before .before .before .before .before .before .families .ensures) _ B (c .before .before .before .before .before .before .before .before .before .before .before .before .before .before .before .before .before .before .before .before .before .before .before .before .before .before .before .before .pre .0 .0) (c .before .before .before .before .before .before .before .before .before .before .before .before .before .before .before .before .before .before .before .before .before .before .before .before .before .before .before .before .pre .0 .4) _ _ (c .before .before .before .before .before .before .before .before .before .before .before .before .before .chain-tokens .ensures), state-start _ _ _ _ _ (c .before .before .before .before .before .before .before .before .before .before .before .before .before .before .before .before .before .before .before .before .before .before .before .before .before .before .before .before .args .marks .now) B _ _ _ _ (c .before .before .before .before .before .before .before .before .before .before .before .before .before .before .before .before .before .before .before .before .before .before .before .before .before .before .before .before .pre .1 .3) (c .before .before .before .before .before .before .before .before .before .before .before .before .before .before .before .before .before .before .before .before .before .before .before .before .before .before .before .before .pre .1 .2) (c .before .before .before .before .before .before .before .before .zero-bytes .ensures) (c .before .before .before .before .before .before .before .before .before .before .before .before .before .chain-tokens .ensures), c .before .before .before .before .before .before .before .before .before .before .before .before .before .before .before .before .before .before .before .before .before .before .before .before .before .before .before .before .pre .1 .0)
 
 same-length : tie.Need-same-length
 same-length c = search needs
@@ -42,7 +49,7 @@ same-length-3 : tie.Need-same-length-3
 same-length-3 c = search needs
 
 returns : tie.Need-returns
-returns c = whole-by _ _ _ _ _ _ _ _ _ (c .before .before .before .before .before .before .before .before .before .before .before .before .before .before .before .before .before .before .before .before .before .before .before .before .before .before .before .before .before .before .before .before .pre .0 .0) (c .before .before .before .before .before .before .before .before .before .before .before .before .before .before .before .before .before .before .before .before .before .before .before .before .before .before .before .before .before .before .before .before .pre .1 .3) (c .before .before .before .before .before .before .all-webs .ensures)
+returns c = whole-by _ _ _ _ _ _ _ _ _ (c .before .before .before .before .before .before .before .before .before .before .before .before .before .before .before .before .before .before .before .before .before .before .before .before .before .before .before .before .before .before .before .before .before .before .before .pre .0 .0) (c .before .before .before .before .before .before .before .before .before .before .before .before .before .before .before .before .before .before .before .before .before .before .before .before .before .before .before .before .before .before .before .before .before .before .before .pre .1 .3) (c .before .before .before .before .before .before .all-webs .ensures)
 
 pub recover-spec : {M : Type 1} → statement M
 recover-spec =
@@ -51,11 +58,13 @@ recover-spec =
     slice-aggregate-families
     slice-aggregate-families-2
     families-requires
-    slice-aggregate-number-tokens
-    number-tokens-requires
+    slice-aggregate-chain-tokens
+    slice-aggregate-chain-tokens-2
+    chain-tokens-requires
     zero-bytes-requires
     slice-aggregate-all-webs
     slice-aggregate-all-webs-2
+    slice-aggregate-all-webs-3
     all-webs-requires
     same-length
     same-length-2

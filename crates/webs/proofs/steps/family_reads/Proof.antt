@@ -17,9 +17,13 @@ read-lines-requires c κs = search (step-rules, needs)
 same-length : tie.Need-same-length
 same-length c = search (step-rules, needs)
 
+same-length-2 : tie.Need-same-length-2
+same-length-2 c = search (step-rules, needs)
+
 returns-2 : tie.Need-returns-2
 returns-2 c = search (step-rules, needs)
 
 pub family-reads-spec : {M : Type 1} → statement M
 family-reads-spec =
-    tie.close (tie.spec is-rsp-requires returns read-lines-requires same-length returns-2)
+    tie.close
+    (tie.spec is-rsp-requires returns read-lines-requires same-length same-length-2 returns-2)

@@ -11,11 +11,8 @@ zero-requires c κs = search (step-rules, needs)
 zero-requires-2 : tie.Need-zero-requires-2
 zero-requires-2 c κs = search (step-rules, needs)
 
-word32-requires : tie.Need-word32-requires
-word32-requires c κs = search (step-rules, needs)
-
-write-lines-requires : tie.Need-write-lines-requires
-write-lines-requires c κs = search (step-rules, needs)
+write-tokens-requires : tie.Need-write-tokens-requires
+write-tokens-requires c κs = search (step-rules, needs)
 
 same-length : tie.Need-same-length
 same-length c = search (step-rules, needs)
@@ -35,8 +32,7 @@ write-zeros-spec =
     (tie.spec
     zero-requires
     zero-requires-2
-    word32-requires
-    write-lines-requires
+    write-tokens-requires
     same-length
     same-length-2
     same-length-3
