@@ -7,10 +7,6 @@ pub mod Finding
 pub mod Hashes
 pub mod Numbered
 pub mod TokenWords
-pub mod ReadRules
 pub mod SetRules
-pub mod ReadLines
-pub mod Taken
 pub mod LinkReads
-pub mod WriteRules
 pub mod FamilyNumbers

@@ -2,4 +2,3 @@ pub mod Numbers
 pub mod Families
 pub mod Tokens
 pub mod Reaching
-pub mod Writing

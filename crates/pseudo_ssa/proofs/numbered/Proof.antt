@@ -26,7 +26,7 @@ recover-requires c κs =
     let R = c .before .before .before .before .before .before .before .before .before .pre in
     let A = R .asked in
     let t = length (now (a .tokens)) in (
-      (R .two, A .lines, both _ _ (both _ _ (A .formed) .0) .0, R .row),
+      (R .two, A .lines, A .tokens, both _ _ (both _ _ (A .formed) .0) .0, R .row),
       (A .space-room, part-length t (now (a .numbers)) (A .numbers-room), part-length t (now (a .marks)) (A .marks-room), R .drawn),
     )
 
