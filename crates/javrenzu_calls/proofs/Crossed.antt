@@ -2,13 +2,15 @@
 --   accepted-crossed, refused-crossed    the web call
 --   written-crossed, unwritten-crossed   the split call
 --   webs-crossed, splits-crossed, unchosen-crossed    the chooser
+--   pass-accepted, pass-refused          the number of a loop pass's answer
 --   pass-crossed, read-crossed           a loop pass, the JSON reader
 --   write-crossed                        the JSON writer
 -- Assumes nothing.
 use Prim.Native.Nat.{ℕ}
 use mathlib.Core.Path.{_≡_, refl, sym, ap, _∙_}
 use mathlib.Core.List.{List}
-use Rattle.definitions.specs.Answers.{Answer}
+use Rattle.definitions.specs.Questions.{Limits}
+use Rattle.definitions.specs.Answers.{Answer, refused}
 use Rattle.definitions.specs.Calls.{Lent, Called, Chosen, Columns, Passed}
 use Rattle.pseudo_ssa.specs.declared.Webs.{Webs}
 use Rattle.pseudo_ssa.specs.declared.Webs.the-variants.{Accepted, Refused}
@@ -20,6 +22,7 @@ use Rattle.choose.specs.declared.Choice.{Choice}
 use Rattle.choose.specs.declared.Choice.the-variants.{ByWebs, BySplits, Refused as Unchosen}
 use Rattle.choose.specs.Choices.{answer-of as choice-answer-of, called as choice-called}
 use Rattle.pass_call.specs.declared.Answer.{Answer as Said}
+use Rattle.pass_call.specs.declared.Answer.the-variants.{Accepted as Accepted-pass}
 use Rattle.pass_call.specs.Answers.{answered, passed-with}
 use Rattle.write.specs.Holds.{columns}
 use Rattle.json_definitions.specs.JsonCalls.{Written}
@@ -27,7 +30,7 @@ use Rattle.json_read.specs.declared.Answer.{Answer as Reading}
 use Rattle.json_read.specs.Answers.{answer-of as read-answer, called as read-called}
 use Rattle.json_write.specs.declared.Answer.{Answer as Writing}
 use Rattle.json_write.specs.Answers.{answer-of as write-answer, written}
-use Rattle.javrenzu_calls.specs.Crossing.{refusal-number, number-of, choice-of, chosen-sweeps, counts-of}
+use Rattle.javrenzu_calls.specs.Crossing.{refusal-number, number-of, choice-of, chosen-sweeps, counts, counts-of}
 
 module _ (W : Called ℕ) (a : Webs) (ns ms ws : List ℕ) (equation : called a ns ms ws ≡ W) where
   answer : answer-of a ≡ W .answer
@@ -81,11 +84,21 @@ module _ (C : Called Chosen) (a : Choice) (ns ms ws : List ℕ) (equation : choi
   unfolding refusal-number choice-of chosen-sweeps
   unchosen-crossed n e = rw (← chosen-answer, e) (refl, (refl, (refl, chosen-words)))
 
-module _ (P : Passed) (a b : Said) (out : Columns) (equation : passed-with a out ≡ P) (known : a ≡ b) where
-  pub pass-crossed : (refusal-number (answered b) ≡ refusal-number (P .answer)) × ((counts-of (answered b) ≡ counts-of (P .answer)) × (out ≡ P .out))
-  pass-crossed =
-      let e : answered b ≡ P .answer = ap answered (sym known) ∙ ap (λ (p : Passed). p .answer) equation in
-      (ap refusal-number e, (ap counts-of e, ap (λ (p : Passed). p .out) equation))
+module _ (a : Said) where
+  pub pass-accepted : (n k b : ℕ) → a ≡ Accepted-pass n k b → (0 ≡ refusal-number (answered a)) × (counts n k b ≡ counts-of (answered a))
+  unfolding refusal-number counts-of
+  pass-accepted n k b e = rw e (refl, refl)
+
+  pub pass-refused : (b : Said) (n : ℕ) → a ≡ b → answered b ≡ refused n → (n ≡ refusal-number (answered a)) × (counts 0 0 0 ≡ counts-of (answered a))
+  unfolding refusal-number counts-of
+  pass-refused b n e f = rw (e, f) (refl, refl)
+
+module _ (P : Passed) (a : Said) (out : Columns) (equation : passed-with a out ≡ P) where
+  pub pass-crossed : (n : ℕ) (c : Limits) → n ≡ refusal-number (answered a) → c ≡ counts-of (answered a)
+      → (n ≡ refusal-number (P .answer)) × ((c ≡ counts-of (P .answer)) × (out ≡ P .out))
+  pass-crossed n c p q =
+      let e : answered a ≡ P .answer = ap (λ (p : Passed). p .answer) equation in
+      (p ∙ ap refusal-number e, (q ∙ ap counts-of e, ap (λ (p : Passed). p .out) equation))
 
 module _ (P : Passed) (a b : Reading) (l d t x : List ℕ) (equation : read-called a l d t x ≡ P) (known : a ≡ b) where
   pub read-crossed : (refusal-number (read-answer b) ≡ refusal-number (P .answer)) × ((counts-of (read-answer b) ≡ counts-of (P .answer)) × (columns l d t x ≡ P .out))

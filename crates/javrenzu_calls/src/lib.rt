@@ -5,10 +5,11 @@
 // `read-call` and `write-call` of Rattle.json_definitions.specs.JsonCalls.
 ghost use mathlib.Core.Path.{_≡_};
 ghost use Rattle.definitions.specs.Calls.{web-call, split-call, choose-call, pass-call};
-ghost use Rattle.definitions.specs.Answers.{loops};
+ghost use Rattle.definitions.specs.Answers.{loops, goto-loops};
 ghost use Rattle.pseudo_ssa.specs.Answers.{lent};
 ghost use Rattle.javrenzu_calls.specs.Crossing.{refusal-number, number-of, choice-of, chosen-sweeps, counts, counts-of};
 ghost use Rattle.write.specs.Holds.{columns};
+ghost use Rattle.pass_call.specs.Answers.{answered};
 ghost use Rattle.splits.specs.Call.{lent as split-lent};
 ghost use Rattle.json_definitions.specs.JsonCalls.{read-call, write-call};
 use choose::Choice;
@@ -98,7 +99,30 @@ pub extern "C" fn javrenzu_choose(
     }
 }
 
-// `recover_loops`. The counts of lines, tokens and bytes are 0 on refusal.
+// The number of a pass's refusal, 0 where it is accepted. The counts of lines, tokens and bytes are 0 on refusal.
+fn pass_number(answer: Answer, nlines: &mut usize, ntokens: &mut usize, nbytes: &mut usize) -> usize
+    ensures { λ n. ⌜ n ≡ refusal-number (answered answer) ⌝ }
+    ensures { λ n. ⌜ counts (now (nlines .exit)) (now (ntokens .exit)) (now (nbytes .exit)) ≡ counts-of (answered answer) ⌝ }
+{
+    *nlines = 0;
+    *ntokens = 0;
+    *nbytes = 0;
+    match answer {
+        Answer::Accepted(n, k, b) => {
+            *nlines = n;
+            *ntokens = k;
+            *nbytes = b;
+            0
+        }
+        Answer::TooLarge => 1,
+        Answer::Malformed => 2,
+        Answer::NotUtf8 => 3,
+        Answer::NoRoom => 4,
+        Answer::Overflow => 6,
+    }
+}
+
+// `recover_loops`.
 #[no_mangle]
 pub extern "C" fn javrenzu_recover_loops(
     lines: &[u32],
@@ -117,22 +141,49 @@ pub extern "C" fn javrenzu_recover_loops(
     ensures { λ n. ⌜ counts (now (nlines .exit)) (now (ntokens .exit)) (now (nbytes .exit)) ≡ counts-of (pass-call loops (columns (now (lines .entry)) (now (addresses .entry)) (now (tokens .entry)) (now (text .entry))) (columns (now (rows .entry)) (now (places .entry)) (now (words .entry)) (now (bytes .entry))) .answer) ⌝ }
     ensures { λ n. ⌜ columns (now (rows .exit)) (now (places .exit)) (now (words .exit)) (now (bytes .exit)) ≡ pass-call loops (columns (now (lines .entry)) (now (addresses .entry)) (now (tokens .entry)) (now (text .entry))) (columns (now (rows .entry)) (now (places .entry)) (now (words .entry)) (now (bytes .entry))) .out ⌝ }
 {
-    *nlines = 0;
-    *ntokens = 0;
-    *nbytes = 0;
-    match recover_loops::recover_loops(lines, addresses, tokens, text, rows, places, words, bytes) {
-        Answer::Accepted(n, k, b) => {
-            *nlines = n;
-            *ntokens = k;
-            *nbytes = b;
-            0
-        }
-        Answer::TooLarge => 1,
-        Answer::Malformed => 2,
-        Answer::NotUtf8 => 3,
-        Answer::NoRoom => 4,
-        Answer::Overflow => 6,
-    }
+    let answer = recover_loops::recover_loops(
+        lines,
+        addresses,
+        tokens,
+        text,
+        rows,
+        places,
+        words,
+        bytes,
+    );
+    pass_number(answer, nlines, ntokens, nbytes)
+}
+
+// `recover_goto_loops`.
+#[no_mangle]
+pub extern "C" fn javrenzu_recover_goto_loops(
+    lines: &[u32],
+    addresses: &[u64],
+    tokens: &[u32],
+    text: &[u8],
+    rows: &mut [u32],
+    places: &mut [u64],
+    words: &mut [u32],
+    bytes: &mut [u8],
+    nlines: &mut usize,
+    ntokens: &mut usize,
+    nbytes: &mut usize,
+) -> usize
+    ensures { λ n. ⌜ n ≡ refusal-number (pass-call goto-loops (columns (now (lines .entry)) (now (addresses .entry)) (now (tokens .entry)) (now (text .entry))) (columns (now (rows .entry)) (now (places .entry)) (now (words .entry)) (now (bytes .entry))) .answer) ⌝ }
+    ensures { λ n. ⌜ counts (now (nlines .exit)) (now (ntokens .exit)) (now (nbytes .exit)) ≡ counts-of (pass-call goto-loops (columns (now (lines .entry)) (now (addresses .entry)) (now (tokens .entry)) (now (text .entry))) (columns (now (rows .entry)) (now (places .entry)) (now (words .entry)) (now (bytes .entry))) .answer) ⌝ }
+    ensures { λ n. ⌜ columns (now (rows .exit)) (now (places .exit)) (now (words .exit)) (now (bytes .exit)) ≡ pass-call goto-loops (columns (now (lines .entry)) (now (addresses .entry)) (now (tokens .entry)) (now (text .entry))) (columns (now (rows .entry)) (now (places .entry)) (now (words .entry)) (now (bytes .entry))) .out ⌝ }
+{
+    let answer = recover_goto_loops::recover_goto_loops(
+        lines,
+        addresses,
+        tokens,
+        text,
+        rows,
+        places,
+        words,
+        bytes,
+    );
+    pass_number(answer, nlines, ntokens, nbytes)
 }
 
 // The JSON reader. The counts of lines, tokens and bytes are 0 on refusal.
