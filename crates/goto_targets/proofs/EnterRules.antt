@@ -1,28 +1,30 @@
 -- Gotos that enter a loop, as rules for `search`.
---   label-is                     a label is a line as it is; its name is its first token
---   name-of, flag-true, names-yes, names-no      names of labels
+--   label-text                   a label is a line as it is; its name is its first token
+--   names-at                     a name looked at
+--   keep-few, keep-yes, keep-no, list-start, list-next, list-end    the labels listed
 --   any-next, any-hit, any-end, goto-at    the scans over words
---   inside-here, inside-other    the labels of the loop
 --   goes-looking, goes-waiting, goes-found       the line of a word
 --   enters-is                    the two scans are `enters`
---   back-fits, label-fits, all-shorter    what the scans ask
+--   gotos-before, gotos-behind   what the scans ask
 --   enters-before, enters-behind          the answer
 -- Assumes nothing.
 use mathlib.Core.Path.{_≡_, refl, sym, ap, ap₂, _∙_}
 use mathlib.Core.Bool.{Bool, true, false, _&&_, _||_, cond}
-use mathlib.Core.List.{List, [], _∷_, _++_, map}
+use mathlib.Core.List.{List, [], _∷_, _++_, append-nil, append-assoc, map}
 use mathlib.Core.Option.{Option, none, some}
 use Prim.Native.Nat.{ℕ, zero, suc, _+_, _-_, _/_, _%_, _≤_, _<_}
 use native.Mathlib.Nat.{sub-zero, zero-add}
+use native.Mathlib.Numerals.{add-one}
 use native.Mathlib.Decide.{decLe}
 use native.Mathlib.Omega.{arith}
-use lib.ListN.{length, getD, take, drop}
-use lib.Seq.{length-take-le}
+use lib.ListN.{length, getD, set, take, drop}
+use lib.Seq.{length-take-le, take-suc-set}
 use Rattle.definitions.specs.Lists.{any, all, filter, part, _==_}
 use Rattle.definitions.specs.Model.{Line, token, line, no-token}
 use Rattle.definitions.specs.Statements.{is-label, label, goto-target}
 use Rattle.definitions.specs.RecoverGotoLoops.{goes-to, enters}
-use Rattle.text.proofs.Parts.{part-step, part-none, part-tail, part-part}
+use Rattle.text.proofs.Parts.{drop-step, drop-end, part-step, part-tail, part-part}
+use Rattle.text.proofs.Texts.{==-sym}
 use Rattle.loop_theory.proofs.Cases.{true-false, and-split}
 use Rattle.loop_theory.proofs.AnyAll.{all-halves}
 use Rattle.plan.specs.Plan.{header-at, piece-at, line-of, render}
@@ -32,11 +34,11 @@ use Rattle.pieces.proofs.Forms.{kept-piece, label-other}
 use Rattle.gotos.proofs.HeaderLines.{no-header-line, label-piece, label-header}
 use Rattle.gotos.proofs.EdgeRules.{line-at}
 use Rattle.goto_targets.specs.Seek.{target, told}
-use Rattle.goto_targets.specs.Targets.{names, inside, goes-inside}
+use Rattle.goto_targets.specs.Targets.{labels, names, goes-inside}
 use Rattle.goto_targets.specs.declared.seeking.State.{State}
 use Rattle.goto_targets.specs.declared.seeking.State.the-variants.{Looking, Waiting, Found}
 
--- Labels
+-- Names
 
 module _ (C : List Line) (w : ℕ) (is : is-label (line-of C w) ≡ true) where
   no-header : header-at w ≡ 0
@@ -53,81 +55,89 @@ module _ (C : List Line) (w : ℕ) (is : is-label (line-of C w) ≡ true) where
       go (yes h) = omega arith
       go (no h) = true-false is (sym (label-piece C w (header-at w) refl no-header (piece-at w) false refl (label-other C (piece-at w) (λ e. h (omega arith)))))
 
-  label-is : line-of C w .tokens ≡ line C (piece-at w / 4) .tokens
-  label-is = no-header-line C w (header-at w) refl no-header ∙ kept-piece C (piece-at w) whole-line
+  label-text : token (line C (piece-at w / 4)) 0 .text ≡ label (line-of C w)
+  label-text =
+      ap (λ ts. getD ts 0 no-token .text) (sym (no-header-line C w (header-at w) refl no-header ∙ kept-piece C (piece-at w) whole-line))
 
-  pub name-of : (i : ℕ) → i ≡ piece-at w / 4 → (x : List ℕ) → x ≡ token (line C i) 0 .text → x ≡ label (line-of C w)
-  name-of i e x q = q ∙ rw e (ap (λ ts. getD ts 0 no-token .text) (sym label-is))
+pub names-at : (C : List Line) (w i : ℕ) (x s : List ℕ) (r : Bool) → i ≡ piece-at w / 4 → x ≡ token (line C i) 0 .text → r ≡ (x == s) → r ≡ names C s w
+names-at C w i x s r e q g = g ∙ ap (_== s) (q ∙ ap (λ j. token (line C j) 0 .text) e)
 
-pub flag-true : (b x : Bool) → b ≡ x → b ≡ true → x ≡ true
-flag-true b x e f = sym e ∙ f
+-- The labels listed
 
-module _ (C : List Line) (w : ℕ) (s : List ℕ) (b : Bool) (e : b ≡ is-label (line-of C w)) where
-  pub names-yes : b ≡ true → (x : List ℕ) → x ≡ label (line-of C w) → (r : Bool) → r ≡ (x == s) → r ≡ names C s w
-  names-yes f x q r g = rw (← e, f, ← q) g
+module _ (C : List Line) where
+  labels-step : (w : ℕ) (ws : List ℕ) → labels C (w ∷ ws) ≡ labels C (w ∷ []) ++ labels C ws
+  unfolding labels filter
+  labels-step w ws = go (is-label (line-of C w))
+    where
+      go : (b : Bool) → cond b (w ∷ filter (λ w. is-label (line-of C w)) ws) (filter (λ w. is-label (line-of C w)) ws)
+          ≡ cond b (w ∷ []) [] ++ filter (λ w. is-label (line-of C w)) ws
+      go true = refl
+      go false = refl
 
-  pub names-no : b ≡ false → false ≡ names C s w
-  names-no f = rw (← e, f)
+  module _ (s : List ℕ) (m w : ℕ) (y : Bool) (e : y ≡ is-label (line-of C w)) where
+    pub keep-yes : y ≡ true → m < length s → take (m + 1) (set s m w) ≡ take m s ++ labels C (w ∷ [])
+    unfolding labels filter
+    keep-yes f h = rw (← e, f, add-one m) (take-suc-set s m w h)
 
-pub ruleset labels = (name-of, flag-true, names-yes, names-no)
+    pub keep-no : y ≡ false → take m s ≡ take m s ++ labels C (w ∷ [])
+    unfolding labels filter
+    keep-no f = rw (← e, f) (sym (append-nil (take m s)))
+
+  pub list-start : (ws s : List ℕ) → take 0 s ++ labels C (drop 0 ws) ≡ labels C ws
+  list-start ws s = refl
+
+  module _ (ws s : List ℕ) (m k : ℕ) (inv : take m s ++ labels C (drop k ws) ≡ labels C ws) where
+    pub list-next : k < length ws → (vs : List ℕ) (r : ℕ) → take r vs ≡ take m s ++ labels C (getD ws k 0 ∷ []) → take r vs ++ labels C (drop (k + 1) ws) ≡ labels C ws
+    list-next lt vs r e =
+        ap (_++ labels C (drop (k + 1) ws)) e
+        ∙ append-assoc (take m s) (labels C (getD ws k 0 ∷ [])) (labels C (drop (k + 1) ws))
+        ∙ ap (take m s ++_) (sym (labels-step (getD ws k 0) (drop (k + 1) ws)) ∙ ap (labels C) (sym (drop-step 0 ws k lt)))
+        ∙ inv
+
+    pub list-end : length ws ≤ k → take m s ≡ labels C ws
+    unfolding labels filter
+    list-end ge = sym (append-nil (take m s)) ∙ ap (λ vs. take m s ++ labels C vs) (sym (drop-end ws k ge)) ∙ inv
+
+pub ruleset lists = (keep-yes, keep-no, list-start, list-next, list-end)
 
 -- Scans
 
-module _ (P : ℕ → Bool) (ws : List ℕ) (a e : ℕ) where
-  module _ (k : ℕ) (inv : any P (part a e ws) ≡ any P (part k e ws)) where
-    module _ (fit : e ≤ length ws) (lt : k < e) (b : Bool) (q : b ≡ P (getD ws k 0)) where
-      first-of : any P (part k e ws) ≡ (b || any P (part (k + 1) e ws))
-      unfolding any
-      first-of = ap (any P) (part-step 0 ws k e lt fit) ∙ rw q
-
-      pub any-next : b ≡ false → any P (part a e ws) ≡ any P (part (k + 1) e ws)
-      any-next f = inv ∙ first-of ∙ rw f
-
-      pub any-hit : b ≡ true → true ≡ any P (part a e ws)
-      any-hit f = sym (inv ∙ first-of ∙ rw f)
-
-    pub any-end : e ≤ k → false ≡ any P (part a e ws)
+module _ (P : ℕ → Bool) (ws : List ℕ) (k : ℕ) (inv : any P ws ≡ any P (drop k ws)) where
+  module _ (lt : k < length ws) (b : Bool) (q : b ≡ P (getD ws k 0)) where
+    first-of : any P (drop k ws) ≡ (b || any P (drop (k + 1) ws))
     unfolding any
-    any-end ge = sym (inv ∙ ap (any P) (part-none ws k e ge))
+    first-of = ap (any P) (drop-step 0 ws k lt) ∙ rw q
 
-pub goto-at : (ws : List ℕ) (e k : ℕ) → all is-goto (take e ws) ≡ true → k < e → e ≤ length ws → is-goto (getD ws k 0) ≡ true
-goto-at ws e k h lt fit = go e k ws h lt fit
-  where
-    go : (e k : ℕ) (ws : List ℕ) → all is-goto (take e ws) ≡ true → k < e → e ≤ length ws → is-goto (getD ws k 0) ≡ true
-    go zero k ws h lt fit = absurd (omega arith)
-    go (suc e) k [] h lt fit = absurd (omega arith)
-    go (suc e) zero (w ∷ ws) h lt fit = and-split (is-goto w) (all is-goto (take e ws)) (unfold all in h) .0
-    go (suc e) (suc k) (w ∷ ws) h lt fit = go e k ws (and-split (is-goto w) (all is-goto (take e ws)) (unfold all in h) .1) (omega arith) (omega arith)
+    pub any-next : b ≡ false → any P ws ≡ any P (drop (k + 1) ws)
+    any-next f = inv ∙ first-of ∙ rw f
+
+    pub any-hit : b ≡ true → true ≡ any P ws
+    any-hit f = sym (inv ∙ first-of ∙ rw f)
+
+  pub any-end : length ws ≤ k → false ≡ any P ws
+  unfolding any
+  any-end ge = sym (inv ∙ ap (any P) (drop-end ws k ge))
+
+pub goto-at : (ws : List ℕ) (k : ℕ) → all is-goto ws ≡ true → k < length ws → is-goto (getD ws k 0) ≡ true
+goto-at [] k h lt = absurd (omega arith)
+goto-at (w ∷ ws) zero h lt = and-split (is-goto w) (all is-goto ws) (unfold all in h) .0
+goto-at (w ∷ ws) (suc k) h lt = goto-at ws k (and-split (is-goto w) (all is-goto ws) (unfold all in h) .1) (omega arith)
 
 pub ruleset scans = (any-next, any-hit, any-end, goto-at)
 
--- The labels of the loop
+module _ (C : List Line) (ls : List ℕ) (w : ℕ) (f : State) (e : target (told C f) ≡ goto-target (line-of C w)) where
+  pub goes-looking : f ≡ Looking → false ≡ goes-inside C ls w
+  unfolding goes-to
+  goes-looking q = rw (← e, q, goes-to)
 
-module _ (C : List Line) (ws : List ℕ) (h b : ℕ) where
-  module _ (s x : List ℕ) (e : x ≡ label (line-of C (getD ws h 0))) (y : Bool) (q : y ≡ (s == x)) where
-    pub inside-here : y ≡ true → true ≡ inside C ws h b s
-    unfolding inside
-    inside-here f = rw (← e, ← q, f)
+  pub goes-waiting : f ≡ Waiting → false ≡ goes-inside C ls w
+  unfolding goes-to
+  goes-waiting q = rw (← e, q, goes-to)
 
-    pub inside-other : y ≡ false → (r : Bool) → r ≡ any (names C s) (part (h + 1) b ws) → r ≡ inside C ws h b s
-    unfolding inside
-    inside-other f r g = rw (← e, ← q, f) g
-
-  module _ (w : ℕ) (f : State) (e : target (told C f) ≡ goto-target (line-of C w)) where
-    pub goes-looking : f ≡ Looking → false ≡ goes-inside C ws h b w
-    unfolding goes-to
-    goes-looking q = rw (← e, q, goes-to)
-
-    pub goes-waiting : f ≡ Waiting → false ≡ goes-inside C ws h b w
-    unfolding goes-to
-    goes-waiting q = rw (← e, q, goes-to)
-
-    pub goes-found : (i j a z : ℕ) → f ≡ Found i j a z → (x : List ℕ) → x ≡ token (line C i) j .text → (y : List ℕ) → y ≡ part a z x → (r : Bool) → r ≡ inside C ws h b y
-        → r ≡ goes-inside C ws h b w
-    unfolding goes-to
-    goes-found i j a z q x u y v r g = g ∙ sym (rw (← e, q, goes-to, ← u, ← v))
-
-pub ruleset insides = (inside-here, inside-other)
+  pub goes-found : (i j a z : ℕ) → f ≡ Found i j a z → (x : List ℕ) → x ≡ token (line C i) j .text → (y : List ℕ) → y ≡ part a z x → (r : Bool) → r ≡ any (names C y) ls
+      → r ≡ goes-inside C ls w
+  unfolding goes-to
+  goes-found i j a z q x u y v r g = g ∙ sym (rw (← e, q, goes-to, ← u, ← v))
 
 pub ruleset goes = (goes-looking, goes-waiting, goes-found)
 
@@ -155,16 +165,16 @@ goes-same p q e l = go (goto-target l)
     go none = refl
     go (some t) = e t
 
-named : (C : List Line) (t : List ℕ) (ws : List ℕ) → any (λ l. label l == t) (filter is-label (map (line-of C) ws)) ≡ any (names C t) ws
-unfolding any filter
+named : (C : List Line) (t : List ℕ) (ws : List ℕ) → any (λ l. label l == t) (filter is-label (map (line-of C) ws)) ≡ any (names C t) (labels C ws)
+unfolding any filter labels
 named C t [] = refl
-named C t (w ∷ ws) = go (is-label (line-of C w)) (named C t ws)
+named C t (w ∷ ws) = go (is-label (line-of C w)) refl (named C t ws)
   where
-    go : (b : Bool) → any (λ l. label l == t) (filter is-label (map (line-of C) ws)) ≡ any (names C t) ws
+    go : (b : Bool) → is-label (line-of C w) ≡ b → any (λ l. label l == t) (filter is-label (map (line-of C) ws)) ≡ any (names C t) (labels C ws)
         → any (λ l. label l == t) (cond b (line-of C w ∷ filter is-label (map (line-of C) ws)) (filter is-label (map (line-of C) ws)))
-        ≡ ((b && (label (line-of C w) == t)) || any (names C t) ws)
-    go true e = ap (λ b. (label (line-of C w) == t) || b) e
-    go false e = e
+        ≡ any (names C t) (cond b (w ∷ labels C ws) (labels C ws))
+    go true is e = ap₂ _||_ (ap (_== t) (sym (label-text C w is))) e
+    go false is e = e
 
 module _ (ws : List ℕ) (n : ℕ) (fit : n ≤ length ws) where
   part-taken : (a e : ℕ) → e ≤ n → part a e (take n ws) ≡ part a e ws
@@ -172,48 +182,56 @@ module _ (ws : List ℕ) (n : ℕ) (fit : n ≤ length ws) where
       let whole : part 0 n ws ≡ take n ws = rw (sub-zero n) in
       ap (part a e) (sym whole) ∙ part-part ws a e 0 n (omega arith) ∙ ap₂ (λ x y. part x y ws) (zero-add a) (zero-add e)
 
-  take-taken : (h : ℕ) → h ≤ n → take h (take n ws) ≡ part 0 h ws
-  take-taken h le = ap (λ m. take m (take n ws)) (sym (sub-zero h)) ∙ part-taken 0 h le
+  take-taken : (h : ℕ) → h ≤ n → take h (take n ws) ≡ take h ws
+  take-taken h le = ap (λ m. take m (take n ws)) (sym (sub-zero h)) ∙ part-taken 0 h le ∙ rw (sub-zero h)
 
   drop-taken : (k : ℕ) → drop k (take n ws) ≡ part k n ws
   drop-taken k = sym (part-tail (take n ws) k) ∙ ap (λ m. part k m (take n ws)) (length-take-le n ws fit) ∙ part-taken k n (omega arith)
 
-  pub back-fits : (b : ℕ) → b < n → b ≤ length ws
-  back-fits b x = omega arith
+  module _ (h b : ℕ) (hb : h < b) (bn : b < n) where
+    pub size-before : h ≡ length (take h ws)
+    size-before = sym (length-take-le h ws (omega arith))
 
-  pub label-fits : (h b : ℕ) → h < b → b < n → h ≤ length ws
-  label-fits h b x y = omega arith
+    module _ (e : all is-goto (take n ws) ≡ true) where
+      pub gotos-before : all is-goto (take h ws) ≡ true
+      gotos-before = rw (← take-taken h (omega arith)) (all-halves is-goto h (take n ws) e .0)
 
-  pub all-shorter : (h b : ℕ) → h < b → b < n → all is-goto (take n ws) ≡ true → all is-goto (take h ws) ≡ true
-  all-shorter h b x y e =
-      let z : take h (take n ws) ≡ take h ws = take-taken h (omega arith) ∙ rw (sub-zero h) in
-      rw (← z) (all-halves is-goto h (take n ws) e .0)
+      pub gotos-behind : all is-goto (part (b + 1) n ws) ≡ true
+      gotos-behind = rw (← drop-taken (b + 1)) (all-halves is-goto (b + 1) (take n ws) e .1)
 
-  module _ (C : List Line) (h b : ℕ) (hb : h < b) (bn : b < n) where
-    inside-is : (t : List ℕ) → ((t == label (line (render C (take n ws)) h)) || any (λ l. label l == t) (filter is-label (part (h + 1) b (render C (take n ws)))))
-        ≡ inside C ws h b t
-    unfolding inside
-    inside-is t =
-        let between : part (h + 1) b (render C (take n ws)) ≡ map (line-of C) (part (h + 1) b ws) =
-        sym (map-part (line-of C) (h + 1) b (take n ws)) ∙ ap (map (line-of C)) (part-taken (h + 1) b (omega arith)) in
-        rw (line-at C ws n h (omega arith) fit, between, named C t (part (h + 1) b ws))
+    module _ (C : List Line) (is : is-label (line-of C (getD ws h 0)) ≡ true) where
+      inside-is : (t : List ℕ) → ((t == label (line (render C (take n ws)) h)) || any (λ l. label l == t) (filter is-label (part (h + 1) b (render C (take n ws)))))
+          ≡ any (names C t) (labels C (part h b ws))
+      unfolding any filter labels
+      inside-is t =
+          let between : part (h + 1) b (render C (take n ws)) ≡ map (line-of C) (part (h + 1) b ws) =
+          sym (map-part (line-of C) (h + 1) b (take n ws)) ∙ ap (map (line-of C)) (part-taken (h + 1) b (omega arith)) in
+          let head : (t == label (line (render C (take n ws)) h)) ≡ names C t (getD ws h 0) =
+          ap (t ==_) (ap label (line-at C ws n h (omega arith) fit) ∙ sym (label-text C (getD ws h 0) is)) ∙ ==-sym t _ in
+          ap₂ _||_ head (ap (λ M. any (λ l. label l == t) (filter is-label M)) between ∙ named C t (part (h + 1) b ws))
+          ∙ sym (ap (λ vs. any (names C t) (labels C vs)) (part-step 0 ws h b hb (omega arith)) ∙ rw is)
 
-    enters-is : enters (render C (take n ws)) h b ≡ (any (goes-inside C ws h b) (part 0 h ws) || any (goes-inside C ws h b) (part (b + 1) n ws))
-    enters-is =
-        let L = render C (take n ws) in
-        let before : take h L ≡ map (line-of C) (part 0 h ws) = sym (map-take (line-of C) h (take n ws)) ∙ ap (map (line-of C)) (take-taken h (omega arith)) in
-        let behind : drop (b + 1) L ≡ map (line-of C) (part (b + 1) n ws) = sym (map-drop (line-of C) (b + 1) (take n ws)) ∙ ap (map (line-of C)) (drop-taken (b + 1)) in
-        any-same (goes-to (λ t. (t == label (line L h)) || any (λ l. label l == t) (filter is-label (part (h + 1) b L)))) (goes-to (inside C ws h b))
-        (goes-same (λ t. (t == label (line L h)) || any (λ l. label l == t) (filter is-label (part (h + 1) b L))) (inside C ws h b) inside-is) (take h L ++ drop (b + 1) L)
-        ∙ any-append (goes-to (inside C ws h b)) (take h L) (drop (b + 1) L)
-        ∙ ap₂ _||_ (ap (any (goes-to (inside C ws h b))) before ∙ map-any (line-of C) (goes-to (inside C ws h b)) (part 0 h ws))
-        (ap (any (goes-to (inside C ws h b))) behind ∙ map-any (line-of C) (goes-to (inside C ws h b)) (part (b + 1) n ws))
+      enters-is : enters (render C (take n ws)) h b
+          ≡ (any (goes-inside C (labels C (part h b ws))) (take h ws) || any (goes-inside C (labels C (part h b ws))) (part (b + 1) n ws))
+      enters-is =
+          let L = render C (take n ws) in
+          let inside : List ℕ → Bool = λ t. any (names C t) (labels C (part h b ws)) in
+          let before : take h L ≡ map (line-of C) (take h ws) = sym (map-take (line-of C) h (take n ws)) ∙ ap (map (line-of C)) (take-taken h (omega arith)) in
+          let behind : drop (b + 1) L ≡ map (line-of C) (part (b + 1) n ws) = sym (map-drop (line-of C) (b + 1) (take n ws)) ∙ ap (map (line-of C)) (drop-taken (b + 1)) in
+          any-same (goes-to (λ t. (t == label (line L h)) || any (λ l. label l == t) (filter is-label (part (h + 1) b L)))) (goes-to inside)
+          (goes-same (λ t. (t == label (line L h)) || any (λ l. label l == t) (filter is-label (part (h + 1) b L))) inside inside-is) (take h L ++ drop (b + 1) L)
+          ∙ any-append (goes-to inside) (take h L) (drop (b + 1) L)
+          ∙ ap₂ _||_ (ap (any (goes-to inside)) before ∙ map-any (line-of C) (goes-to inside) (take h ws))
+          (ap (any (goes-to inside)) behind ∙ map-any (line-of C) (goes-to inside) (part (b + 1) n ws))
 
-    module _ (x : Bool) (e : x ≡ any (goes-inside C ws h b) (part 0 h ws)) where
-      pub enters-before : x ≡ true → true ≡ enters (render C (take n ws)) h b
-      enters-before f = sym (enters-is ∙ rw (← e, f))
+      module _ (ls : List ℕ) (all : ls ≡ labels C (part h b ws)) (x : Bool) (e : x ≡ any (goes-inside C ls) (take h ws)) where
+        pub enters-before : x ≡ true → true ≡ enters (render C (take n ws)) h b
+        enters-before f = sym (enters-is ∙ rw (← all, ← e, f))
 
-      pub enters-behind : x ≡ false → (r : Bool) → r ≡ any (goes-inside C ws h b) (part (b + 1) n ws) → r ≡ enters (render C (take n ws)) h b
-      enters-behind f r g = g ∙ sym (enters-is ∙ rw (← e, f))
+        pub enters-behind : x ≡ false → (r : Bool) → r ≡ any (goes-inside C ls) (part (b + 1) n ws) → r ≡ enters (render C (take n ws)) h b
+        enters-behind f r g = g ∙ sym (enters-is ∙ rw (← all, ← e, f))
 
-pub ruleset enterings = (back-fits, label-fits, all-shorter, enters-before, enters-behind)
+pub size-listed : (m : ℕ) (s₀ s : List ℕ) → m ≤ length s₀ → length s ≡ length s₀ → m ≡ length (take m s)
+size-listed m s₀ s h e = sym (length-take-le m s (omega arith))
+
+pub ruleset enterings = (size-listed, size-before, gotos-before, gotos-behind, enters-before, enters-behind)

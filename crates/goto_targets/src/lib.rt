@@ -1,6 +1,7 @@
-// Gotos that enter a loop of `recover_goto_loops` from outside, over the words of a plan. Nothing is copied.
+// Gotos that enter a loop of `recover_goto_loops` from outside, over the words of a plan. Nothing of the listing is copied.
 //
-// For each line outside that has a goto the labels inside are looked at, as the Rust does.
+// The labels inside are listed once, and each goto outside is looked for in that list, as the Rust does: one step a line, and one a goto
+// outside and label inside.
 // Contracts cite `enters` and `goto-target` of Rattle.definitions.specs, of the lines that the words stand for.
 ghost use mathlib.Core.Path.{_≡_};
 ghost use mathlib.Core.Bool.{true};
@@ -14,9 +15,11 @@ ghost use Rattle.definitions.specs.RecoverGotoLoops.{enters};
 ghost use Rattle.plan.specs.Plan.{line-of, render};
 ghost use Rattle.plan.specs.Changes.{is-goto};
 use crate::entering::any_goes_inside;
+use crate::labels::list_labels;
 
 pub mod entering;
 pub mod headers;
+pub mod labels;
 pub mod seeking;
 
 // A line outside h..b, of the first n, has a goto to the label at h or to a label inside.
@@ -29,14 +32,17 @@ pub fn enters(
     h: usize,
     b: usize,
 ) -> bool
-    requires { ⌜ (h < b) × (b < n) × (n ≤ length (now plan)) × (question-2 (now lines) (now tokens) (now text) ≡ true) × (all is-goto (take n (now plan)) ≡ true) ⌝ }
+    requires { ⌜ (h < b) × (b < n) × (n ≤ 1024) × (n ≤ length (now plan)) × (question-2 (now lines) (now tokens) (now text) ≡ true) × (all is-goto (take n (now plan)) ≡ true) ⌝ }
     requires { ⌜ is-label (line-of (listing (now lines) (now tokens) (now text)) (getD (now plan) h 0)) ≡ true ⌝ }
     ensures { λ r.
         ⌜ (let C = listing (now (lines .entry)) (now (tokens .entry)) (now (text .entry)) in
         r ≡ enters (render C (take n (now (plan .entry)))) h b) ⌝ }
 {
-    if any_goes_inside(lines, tokens, text, plan, h, b, 0, h) {
+    let mut list = [0usize; 1024];
+    let m = list_labels(lines, tokens, text, &plan[h..b], &mut list);
+    let labels = &list[..m];
+    if any_goes_inside(lines, tokens, text, labels, &plan[..h]) {
         return true;
     }
-    any_goes_inside(lines, tokens, text, plan, h, b, b + 1, n)
+    any_goes_inside(lines, tokens, text, labels, &plan[b + 1..n])
 }

@@ -130,8 +130,8 @@ module _ (l t x ws : List ℕ) (n h : ℕ) (lt : h < n) (le : n ≤ length ws) (
     turn-beyond q vs = record { after = tt; turn = λ S R. rw (label-of S R, f, depth-of S, eq-eqb i 255 q) }
 
     module _ (q : i ≡ 255 → ⊥) where
-      pub turn-calls : question-2 l t x ≡ true → Labelled l t x n h ws × (indent-at (getD ws h 0) < 255)
-      turn-calls ok = (record { inside = lt; fits = le; formed = ok; label = sym e ∙ f; ahead = ahead }, omega arith)
+      pub turn-calls : n ≤ 1024 → question-2 l t x ≡ true → Labelled l t x n h ws × (indent-at (getD ws h 0) < 255)
+      turn-calls few ok = (record { inside = lt; few = few; fits = le; formed = ok; label = sym e ∙ f; ahead = ahead }, omega arith)
 
       pub turn-loop : (r : Answer) (vs : List ℕ) → Turn-of l t x (λ M. looped M h) n h ws r vs → Turn-of l t x (λ M. goto-turn M h) n h ws r vs
       unfolding goto-turn

@@ -42,6 +42,7 @@ with-header M h d =
 
 pub record Labelled (l t x : List ℕ) (n h : ℕ) (ws : List ℕ) : Type 0 where
   pub inside : h < n
+  pub few : n ≤ 1024
   pub fits : n ≤ length ws
   pub formed : question-2 l t x ≡ true
   pub label : is-label (line-of (listing l t x) (getD ws h 0)) ≡ true

@@ -31,7 +31,7 @@ fn goto_turn(
     n: usize,
     h: usize,
 ) -> Turn
-    requires { ⌜ (h < n) × (n ≤ length (now plan)) × (question-2 (now lines) (now tokens) (now text) ≡ true) ⌝ }
+    requires { ⌜ (h < n) × (n ≤ 1024) × (n ≤ length (now plan)) × (question-2 (now lines) (now tokens) (now text) ≡ true) ⌝ }
     requires { ⌜ Ahead h (take n (now plan)) ⌝ }
     ensures { λ r.
         ⌜ Turn-of (now (lines .entry)) (now (tokens .entry)) (now (text .entry)) (λ M. goto-turn M h) n h (now (plan .entry)) r (now (plan .exit)) ⌝ }

@@ -3,7 +3,8 @@
 use Rattle.goto_targets.proofs.EnterRules.{scans}
 use mathlib.Core.Path.{_≡_}
 use Prim.Native.Nat.{_-_}
-use Rattle.definitions.specs.Lists.{any, part}
+use lib.ListN.{length, drop}
+use Rattle.definitions.specs.Lists.{any}
 use Rattle.definitions.specs.Columns.{listing}
 use Rattle.goto_targets.specs.Targets.{goes-inside}
 use borrow.Author.Needs.{needs}
@@ -11,10 +12,10 @@ use Rattle.goto_targets.proofs.entering.any_goes_inside.Statement.{stat
 use Rattle.goto_targets.proofs.entering.any_goes_inside.Tie as tie
 
 abbrev Inv-loop : tie.InvT-loop
-Inv-loop lines tokens text plan h b a e k₀ k = any (goes-inside (listing lines tokens text) plan h b) (part a e plan) ≡ any (goes-inside (listing lines tokens text) plan h b) (part k e plan)
+Inv-loop lines tokens text labels words k₀ k = any (goes-inside (listing lines tokens text) labels) words ≡ any (goes-inside (listing lines tokens text) labels) (drop k words)
 
 abbrev μ-loop : tie.MeasureT-loop
-μ-loop lines tokens text plan h b a e k₀ k = e - k
+μ-loop lines tokens text labels words k₀ k = length words - k
 
 loop-holds : tie.Need-loop-holds Inv-loop μ-loop
 loop-holds c = search (scans, needs)

@@ -3,7 +3,8 @@
 use Rattle.goto_targets.proofs.EnterRules.{scans}
 use mathlib.Core.Path.{_≡_}
 use Prim.Native.Nat.{_-_}
-use Rattle.definitions.specs.Lists.{any, part}
+use lib.ListN.{length, drop}
+use Rattle.definitions.specs.Lists.{any}
 use Rattle.definitions.specs.Columns.{listing}
 use Rattle.goto_targets.specs.Targets.{names}
 use borrow.Author.Needs.{needs}
@@ -11,10 +12,10 @@ use Rattle.goto_targets.proofs.entering.any_names.Statement.{statement}
 use Rattle.goto_targets.proofs.entering.any_names.Tie as tie
 
 abbrev Inv-loop : tie.InvT-loop
-Inv-loop lines tokens text plan a e s k₀ k = any (names (listing lines tokens text) s) (part a e plan) ≡ any (names (listing lines tokens text) s) (part k e plan)
+Inv-loop lines tokens text labels s k₀ k = any (names (listing lines tokens text) s) labels ≡ any (names (listing lines tokens text) s) (drop k labels)
 
 abbrev μ-loop : tie.MeasureT-loop
-μ-loop lines tokens text plan a e s k₀ k = e - k
+μ-loop lines tokens text labels s k₀ k = length labels - k
 
 loop-holds : tie.Need-loop-holds Inv-loop μ-loop
 loop-holds c = search (scans, needs)

@@ -23,8 +23,8 @@ text-at-requires c κs = search needs
 part-requires : tie.Need-part-requires
 part-requires c κs = search needs
 
-is-inside-requires : tie.Need-is-inside-requires
-is-inside-requires c κs = search needs
+any-names-requires : tie.Need-any-names-requires
+any-names-requires c κs = search needs
 
 returns : tie.Need-returns
 returns c = search (goes, needs)
@@ -45,7 +45,7 @@ goes-inside-spec =
     enum-known-line
     text-at-requires
     part-requires
-    is-inside-requires
+    any-names-requires
     returns
     returns-2
     returns-3)

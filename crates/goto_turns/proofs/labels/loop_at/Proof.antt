@@ -9,7 +9,7 @@ add-if1 : tie.Need-add-if1
 add-if1 c = search needs
 
 enters-requires : tie.Need-enters-requires
-enters-requires c κs = let p = c .before .before .before .before .before .before .pre in ((p .1 .0, p .1 .1, p .0 .fits, p .0 .formed, p .0 .ahead .words), p .0 .label)
+enters-requires c κs = let p = c .before .before .before .before .before .before .pre in ((p .1 .0, p .1 .1, p .0 .few, p .0 .fits, p .0 .formed, p .0 .ahead .words), p .0 .label)
 
 rebuild-requires : tie.Need-rebuild-requires
 rebuild-requires c κs = let p = c .before .before .before .before .before .before .before .before .before .pre in loop-calls _ _ _ _ _ _ _ (p .0) (c .before .before .before .before .if1 .taken) _ (c .before .before .enters .ensures) (c .before .if2 .left) (p .1 .1) (p .1 .2)

@@ -25,7 +25,7 @@ add-loop : tie.Need-add-loop Inv-loop μ-loop
 add-loop c = omega (arith, c .loop .inv .upto)
 
 goto-turn-requires : tie.Need-goto-turn-requires Inv-loop μ-loop
-goto-turn-requires c κs = let r = c .before .before .loop .inv in let p = c .before .before .before .before .before .before .before .before .before .before .before .pre in ((omega (arith, c .before .loop-test .taken), omega (arith, r .size, r .fewer, p .1, c .before .before .before .before .before .start .kept .1 .0), p .2), r .ahead)
+goto-turn-requires c κs = let r = c .before .before .loop .inv in let p = c .before .before .before .before .before .before .before .before .before .before .before .pre in ((omega (arith, c .before .loop-test .taken), omega (arith, r .fewer, p .0), omega (arith, r .size, r .fewer, p .1, c .before .before .before .before .before .start .kept .1 .0), p .2), r .ahead)
 
 enum-known-m : tie.Need-enum-known-m Inv-loop μ-loop
 enum-known-m c = search needs
