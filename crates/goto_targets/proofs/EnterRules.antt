@@ -1,18 +1,19 @@
 -- Gotos that enter a loop, as rules for `search`.
---   label-text                   a label is a line as it is; its name is its first token
---   names-at                     a name looked at
---   keep-few, keep-yes, keep-no, list-start, list-next, list-end    the labels listed
---   any-next, any-hit, any-end, goto-at    the scans over words
---   goes-looking, goes-waiting, goes-found       the line of a word
---   enters-is                    the two scans are `enters`
---   gotos-before, gotos-behind   what the scans ask
---   enters-before, enters-behind          the answer
+--   label-text                              a label is a line as it is; its name is its first token
+--   names-at                                a name looked at
+--   keep-yes, keep-no                       a word looked at
+--   list-start, list-next, list-end         the labels listed
+--   any-next, any-hit, any-end, goto-at     the scans over words
+--   goes-looking, goes-waiting, goes-found  the line of a word
+--   enters-is                               the two scans are `enters`
+--   size-listed, size-before, gotos-before, gotos-behind    what the scans ask
+--   enters-before, enters-behind            the answer
 -- Assumes nothing.
 use mathlib.Core.Path.{_≡_, refl, sym, ap, ap₂, _∙_}
-use mathlib.Core.Bool.{Bool, true, false, _&&_, _||_, cond}
+use mathlib.Core.Bool.{Bool, true, false, _||_, cond}
 use mathlib.Core.List.{List, [], _∷_, _++_, append-nil, append-assoc, map}
 use mathlib.Core.Option.{Option, none, some}
-use Prim.Native.Nat.{ℕ, zero, suc, _+_, _-_, _/_, _%_, _≤_, _<_}
+use Prim.Native.Nat.{ℕ, zero, suc, _+_, _/_, _%_, _≤_, _<_}
 use native.Mathlib.Nat.{sub-zero, zero-add}
 use native.Mathlib.Numerals.{add-one}
 use native.Mathlib.Decide.{decLe}
