@@ -1,28 +1,26 @@
--- Names of `r` and digits, and ah bh ch dh.
+-- Names of `r` and digits, and of `var_`.
 --   digits-low, digits-high, digits-next, digits-end    the loop over digits
---   is-numbered-by, numbered-flag    `r` and one or more digits, by where the digits end
+--   is-numbered-by       `r` and one or more digits, by where the digits end
 --   numbered-some, numbered-none    the family, by the width that the suffix says
---   high-yes, high-no     one of the four, by its row; none of them
---   other-numbered, other-var, other-none    a name that is none of the four
+--   other-numbered, other-var, other-none    a name that is not in the table
 -- Assumes nothing.
 use mathlib.Core.Path.{_≡_, refl, sym, ap, _∙_}
-use mathlib.Core.Bool.{Bool, true, false, _&&_, _||_, not, cond, and-false}
+use mathlib.Core.Bool.{Bool, true, false, _&&_, not, cond, and-false}
 use mathlib.Core.List.{List, [], _∷_, _++_}
 use mathlib.Core.Option.{none, some}
 use Prim.Native.Nat.{ℕ, suc, _+_, _≤_, _<_}
 use native.Mathlib.Nat.{sub-zero}
 use native.Mathlib.Numerals.{one-add}
 use native.Mathlib.Omega.{arith}
-use borrow.Author.Tests.{le-leb, lt-leb, lt-ltb, ne-eqb, eqb-true}
+use borrow.Author.Tests.{le-leb, lt-leb, lt-ltb, le-ltb, ne-eqb, eqb-true}
 use lib.Dec.{leb, eqb, ltb}
 use lib.ListN.{length, getD, take, drop}
 use Rattle.definitions.specs.Lists.{_==_, starts-with, ascii, part, take-while}
-use Rattle.definitions.specs.Family.{legacy, digits, suffix-width, is-high, is-numbered, numbered-family, other-family}
+use Rattle.definitions.specs.Family.{digits, suffix-width, is-numbered, numbered-family}
 use Rattle.text.proofs.Parts.{drop-step, drop-end, part-tail}
-use Rattle.text.proofs.Texts.{==-eq}
 use Rattle.family.specs.declared.Register.{Register}
-use Rattle.family.specs.declared.Register.the-variants.{Legacy, Numbered}
-use Rattle.family.specs.Register.{digit-count, above-zero, family-of, high-row}
+use Rattle.family.specs.declared.Register.the-variants.{Numbered}
+use Rattle.family.specs.Register.{digit-count, number-end, above-zero, family-of, rest-family}
 
 -- Digits
 
@@ -87,71 +85,48 @@ first-part : (a b : Bool) → (a && b) ≡ true → a ≡ true
 first-part true b h = refl
 first-part false b h = h
 
-pub numbered-flag : (s : List ℕ) (b : Bool) → b ≡ is-numbered s → b ≡ true → is-numbered s ≡ true
-numbered-flag s b q f = sym q ∙ f
-
-module _ (s : List ℕ) (n : ℕ) (e : n ≡ 1 + digit-count (drop 1 s)) where
-  pub is-numbered-by : (b : Bool) → b ≡ starts-with (ascii "r") s → b ≡ true → ltb 1 n ≡ is-numbered s
+module _ (s : List ℕ) (n : ℕ) (e : n ≡ number-end s) where
+  pub is-numbered-by : ltb 1 n ≡ is-numbered s
   unfolding digit-count
-  is-numbered-by b q f = rw (← q, f, e) (some-digits (digits (drop 1 s)))
-
-  module _ (w : ℕ) (x : List ℕ) (q : above-zero w ≡ suffix-width x) (p : x ≡ part n (length s) s) where
-    suffix : suffix-width (drop (1 + digit-count (drop 1 s)) s) ≡ above-zero w
-    suffix = rw (← e, ← part-tail s n, ← p) (sym q)
-
-    pub numbered-some : is-numbered s ≡ true → (w ≡ 0 → ⊥) → family-of s (Numbered n w) ≡ numbered-family s
-    unfolding digit-count
-    numbered-some g f =
-        let r = first-part (starts-with (ascii "r") s) (not (digits (drop 1 s) == [])) g in
-        rw (suffix, ne-eqb w 0 f, e, numbered-part s r)
-
-    pub numbered-none : w ≡ 0 → none ≡ numbered-family s
-    unfolding digit-count
-    numbered-none f = rw (suffix, f)
-
--- ah bh ch dh
-
-module _ (s : List ℕ) (i : ℕ) (e : i ≡ high-row s) where
-  pub high-yes : i < 4 → family-of s (Legacy i 8) ≡ other-family s
-  unfolding other-family _==_ legacy
-  high-yes h = go (s == ascii "ah") (s == ascii "bh") (s == ascii "ch") (s == ascii "dh") refl refl refl refl
+  is-numbered-by = go (starts-with (ascii "r") s) e
     where
-      at : (name : List ℕ) (k : ℕ) → s ≡ name → high-row name ≡ k → family-of name (Legacy k 8) ≡ other-family name → family-of s (Legacy i 8) ≡ other-family s
-      at name k p q r = rw (e, p, q) r
+      go : (b : Bool) → n ≡ cond b (1 + digit-count (drop 1 s)) 0 → ltb 1 n ≡ (b && not (digits (drop 1 s) == []))
+      go true q = rw q (some-digits (digits (drop 1 s)))
+      go false q = rw q
 
-      go : (a b c d : Bool) → (s == ascii "ah") ≡ a → (s == ascii "bh") ≡ b → (s == ascii "ch") ≡ c → (s == ascii "dh") ≡ d
-          → family-of s (Legacy i 8) ≡ other-family s
-      go true b c d p q r t = at (ascii "ah") 0 (==-eq s (ascii "ah") p) refl refl
-      go false true c d p q r t = at (ascii "bh") 1 (==-eq s (ascii "bh") q) refl refl
-      go false false true d p q r t = at (ascii "ch") 2 (==-eq s (ascii "ch") r) refl refl
-      go false false false true p q r t = at (ascii "dh") 3 (==-eq s (ascii "dh") t) refl refl
-      go false false false false p q r t =
-          let z : i ≡ 4 = e ∙ rw (p, q, r, t) in
-          absurd (omega arith)
+  module _ (h : 1 < n) where
+    flag : is-numbered s ≡ true
+    flag = sym is-numbered-by ∙ lt-ltb 1 n h
 
-  high-no : 4 ≤ i → is-high s ≡ false
-  high-no h = go (s == ascii "ah") (s == ascii "bh") (s == ascii "ch") (s == ascii "dh") e
-    where
-      go : (a b c d : Bool) → i ≡ cond a 0 (cond b 1 (cond c 2 (cond d 3 4))) → (a || b || c || d) ≡ false
-      go true b c d q = absurd (omega arith)
-      go false true c d q = absurd (omega arith)
-      go false false true d q = absurd (omega arith)
-      go false false false true q = absurd (omega arith)
-      go false false false false q = refl
+    starts : starts-with (ascii "r") s ≡ true
+    starts = first-part (starts-with (ascii "r") s) (not (digits (drop 1 s) == [])) flag
 
-  -- none of the four
-  module _ (h : 4 ≤ i) where
-    pub other-numbered : (b : Bool) (r : Register) → b ≡ is-numbered s → b ≡ true → family-of s r ≡ numbered-family s → family-of s r ≡ other-family s
-    unfolding other-family
-    other-numbered b r q f g = rw (high-no h, ← q, f) g
+    ends : n ≡ 1 + digit-count (drop 1 s)
+    ends = e ∙ rw starts
 
-    module _ (b : Bool) (q : b ≡ is-numbered s) (f : b ≡ false) (v : Bool) (p : v ≡ starts-with (ascii "var_") s) where
-      pub other-var : v ≡ true → some (record { name = s; width = 64 }) ≡ other-family s
-      unfolding other-family
-      other-var g = rw (high-no h, ← q, f, ← p, g)
+    module _ (w : ℕ) (x : List ℕ) (q : above-zero w ≡ suffix-width x) (p : x ≡ part n (length s) s) where
+      suffix : suffix-width (drop (1 + digit-count (drop 1 s)) s) ≡ above-zero w
+      suffix = rw (← ends, ← part-tail s n, ← p) (sym q)
 
-      pub other-none : v ≡ false → none ≡ other-family s
-      unfolding other-family
-      other-none g = rw (high-no h, ← q, f, ← p, g)
+      pub numbered-some : (w ≡ 0 → ⊥) → family-of s (Numbered n w) ≡ numbered-family s
+      unfolding digit-count
+      numbered-some f = rw (suffix, ne-eqb w 0 f, ends, numbered-part s starts)
 
-pub ruleset digit-rules = (digits-low, digits-high, digits-next, digits-end, is-numbered-by, numbered-flag, numbered-some, numbered-none, high-yes, other-numbered, other-var, other-none)
+      pub numbered-none : w ≡ 0 → none ≡ numbered-family s
+      unfolding digit-count
+      numbered-none f = rw (suffix, f)
+
+    pub other-numbered : (r : Register) → family-of s r ≡ numbered-family s → family-of s r ≡ rest-family s
+    other-numbered r g = rw flag g
+
+  module _ (h : n ≤ 1) (v : Bool) (p : v ≡ starts-with (ascii "var_") s) where
+    no-flag : is-numbered s ≡ false
+    no-flag = sym is-numbered-by ∙ le-ltb 1 n h
+
+    pub other-var : v ≡ true → some (record { name = s; width = 64 }) ≡ rest-family s
+    other-var g = rw (no-flag, ← p, g)
+
+    pub other-none : v ≡ false → none ≡ rest-family s
+    other-none g = rw (no-flag, ← p, g)
+
+pub ruleset digit-rules = (digits-low, digits-high, digits-next, digits-end, numbered-some, numbered-none, other-numbered, other-var, other-none)

@@ -1,7 +1,6 @@
 -- Where the name of an answer's family stands, and comparing names there.
 --   row-table, row-behind, own-part        the functions `row` and `own_name`
 --   in-table, in-text, nowhere             the family's name, by its row
---   family-rest, family-table              a name that is not in the table; one that is
 --   register-token, kind-token, other-token    a token's family, by its kind
 --   rows-differ, rows-rsp, rows-var        computed of every row: its name is no other row's; rsp is row 7; none is a `var_`
 --   same-rows, same-row-text, same-text-row, same-texts, same-none-left, same-none-right    two families have one name
@@ -19,7 +18,7 @@ use borrow.Author.Tests.{lt-ltb, le-ltb, ltb-true, eq-eqb, ne-eqb}
 use lib.Dec.{eqb, leb, ltb}
 use Rattle.definitions.specs.Lists.{_==_, all, range, up-to, part, starts-with, ascii}
 use Rattle.definitions.specs.Model.{Token, tok}
-use Rattle.definitions.specs.Family.{Family, legacy, legacy-family, other-family, family, fam-of, names}
+use Rattle.definitions.specs.Family.{Family, legacy, family, fam-of, names}
 use Rattle.definitions.specs.Statements.{is-var}
 use Rattle.text.proofs.Texts.{==-sym}
 use Rattle.family.proofs.Table.{below}
@@ -95,33 +94,7 @@ module _ (s : List ℕ) (r : Register) (k : ℕ) (e : k ≡ row r) where
   at-none : 8 ≤ k → (k ≡ 8 → ⊥) → family-of s r ≡ none
   at-none h g = nowhere s r (omega arith)
 
--- `family` and `fam_of`
-
-first-of : Option Family → Option Family → Option Family
-first-of o p = elim o [ some f ↦ some f | none ↦ p ]
-
-family-by : (s : List ℕ) → family s ≡ first-of (legacy-family legacy s) (other-family s)
-unfolding family first-of
-family-by s = refl
-
-first-table : (s : List ℕ) (l : Register) (p : Option Family) → (row l ≡ 9 → ⊥) → first-of (family-of s l) p ≡ family-of s l
-unfolding first-of
-first-table s (Legacy i w) p h = go (ltb i 8) h
-  where
-    go : (b : Bool) → (cond b i 9 ≡ 9 → ⊥) → first-of (cond b (some (record { name = row-name i; width = w })) none) p ≡ cond b (some (record { name = row-name i; width = w })) none
-    go true g = refl
-    go false g = absurd (g refl)
-first-table s (Numbered n w) p h = refl
-first-table s Var p h = refl
-first-table s Nothing p h = absurd (h refl)
-
-module _ (s : List ℕ) (l : Register) (k : ℕ) (e : family-of s l ≡ legacy-family legacy s) (q : k ≡ row l) where
-  pub family-rest : (r : Register) → k ≡ 9 → family-of s r ≡ other-family s → family-of s r ≡ family s
-  unfolding first-of
-  family-rest r h g = rw (family-by s, ← e, nowhere s l (omega arith)) g
-
-  pub family-table : (k ≡ 9 → ⊥) → family-of s l ≡ family s
-  family-table h = sym (family-by s ∙ rw (← e) (first-table s l (other-family s) (λ z. h (q ∙ z))))
+-- `fam_of`
 
 module _ (s : List ℕ) (kind : ℕ) where
   pub register-token : (r : Register) → kind ≡ 1 → family-of s r ≡ family s → family-of s r ≡ fam-of (tok s kind)
@@ -249,4 +222,4 @@ module _ (s : List ℕ) (r : Register) (k : ℕ) (e : k ≡ row r) where
       go (yes h) = sym (named-by is-var (family-of s r) (row-name k) (at-row s r k e h) ∙ rows-var k h)
       go (no h) = rw (at-none s r k e (omega arith) g)
 
-pub ruleset name-rules = (row-table, row-behind, own-part, family-rest, family-table, register-token, kind-token, other-token, same-rows, same-row-text, same-text-row, same-texts, same-none-left, same-none-right, names-same, rsp-row, rsp-text, rsp-none, var-text, var-not, wide-table, wide-behind, wide-numbered)
+pub ruleset name-rules = (row-table, row-behind, own-part, register-token, kind-token, other-token, same-rows, same-row-text, same-text-row, same-texts, same-none-left, same-none-right, names-same, rsp-row, rsp-text, rsp-none, var-text, var-not, wide-table, wide-behind, wide-numbered)

@@ -1,3 +1,4 @@
 pub mod Table
+pub mod Places
 pub mod Digits
 pub mod FamilyNames

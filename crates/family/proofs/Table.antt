@@ -1,28 +1,27 @@
--- The table of legacy names: its rule is computed once, over the whole table, and the rules for the functions that look into it rest on that.
---   Right t              every cell of t holds the name that the definitions have there
---   row-right            so row i of t holds the names of row i of the definitions
+-- The table of names and the place that a hash gives: what is computed once, over the whole table, and the rules for the functions that look
+-- into it.
 --   letters-two, letters-three, letters-count    the name in a cell
---   column-found, column-next, column-end      the loop over a row
---   legacy-found, legacy-next, legacy-end                    the loop over the rows
---   row-is               the first name of a row
 --   below                what a test finds of every number below n
+--   cell-is              the cell at place p holds the name at place p
+--   byte-past            no byte past the end
+--   place-start, place-least, place-only   an entry of the hashes is a place, that of the name with this hash
+--   place-found, place-none   the text is the name at that place; it is not, so it is no name
+--   first-row            the name of a family stands in the first column
 -- Assumes nothing.
 use mathlib.Core.Path.{_≡_, refl, sym, ap, _∙_}
-use mathlib.Core.Bool.{Bool, true, false, _&&_}
-use mathlib.Core.List.{List, [], _∷_, map}
+use mathlib.Core.Bool.{Bool, true, false, _&&_, cond}
+use mathlib.Core.List.{List, [], _∷_}
 use mathlib.Core.Option.{Option, none, some, Option·map}
-use Prim.Native.Nat.{ℕ, zero, suc, _+_, _≤_, _<_}
+use Prim.Native.Nat.{ℕ, zero, suc, _+_, _-_, _*_, _/_, _%_, _≤_, _<_}
 use native.Mathlib.Nat.{add-zero, add-suc, suc-add, zero-add, le-of-suc-le-suc, not-suc-le-zero}
-use lib.Dec.{leb}
+use lib.Dec.{eqb, leb, ltb}
 use native.Mathlib.Omega.{arith}
-use borrow.Author.Tests.{eq-eqb, ne-eqb, lt-ltb, le-ltb, leb-true}
-use lib.ListN.{length, getD, take, drop, length-map, length-take, List·getD-map}
-use Rattle.definitions.specs.Lists.{_==_, all, range, up-to, position}
-use Rattle.definitions.specs.Family.{Family, legacy, widths, legacy-family}
-use Rattle.text.proofs.Parts.{drop-step, drop-end}
-use Rattle.text.proofs.Loops.{position-found, position-next, position-end}
-use Rattle.family.specs.declared.Register.the-variants.{Legacy}
-use Rattle.family.specs.Register.{letters, column, found, family-of, row-name}
+use borrow.Author.Tests.{eq-eqb, ne-eqb, eqb-true, lt-ltb, leb-true, ltb-true}
+use lib.ListN.{length, getD, take, length-take, List·getD-eq-default}
+use Rattle.definitions.specs.Lists.{_==_, all, range, up-to, position, concat}
+use Rattle.definitions.specs.Family.{legacy}
+use Rattle.text.proofs.Texts.{==-eq}
+use Rattle.family.specs.Register.{letters, all-names, name-at, hash, found, row-name}
 
 -- The name in a cell
 
@@ -35,37 +34,6 @@ module _ (s cell : List ℕ) (r : Bool) where
 
 pub letters-count : (cell : List ℕ) → length cell ≡ 3 → length (take 2 cell) ≡ 2
 letters-count cell h = rw length-take (omega arith)
-
--- A default plays no part within the list.
-getD-any : {A : Type 0} (l : List A) (i : ℕ) (d e : A) → i < length l → getD l i d ≡ getD l i e
-getD-any [] i d e h = absurd (not-suc-le-zero h)
-getD-any (x ∷ l) zero d e h = refl
-getD-any (x ∷ l) (suc i) d e h = getD-any l i d e (le-of-suc-le-suc h)
-
-getD-letters : (row : List (List ℕ)) (k : ℕ) (d : List ℕ) → k < length row → getD (map letters row) k [] ≡ letters (getD row k d)
-getD-letters row k d h = List·getD-map letters row k [] ∙ ap letters (getD-any row k [] d h)
-
--- The loop over a row
-
-module _ (s : List ℕ) (row : List (List ℕ)) (k : ℕ) (n : length row ≡ 4) (inv : column s row 0 ≡ column s row k) where
-  long : 4 ≡ length (map letters row)
-  long = sym (length-map row letters ∙ n)
-
-  module _ (d : List ℕ) (b : Bool) (h : k < 4) (e : b ≡ (s == letters (getD row k d))) where
-    cell-name : b ≡ (s == getD (map letters row) k [])
-    cell-name = rw (getD-letters row k d (omega arith)) e
-
-    pub column-found : b ≡ true → found 4 k ≡ column s row 0
-    unfolding column
-    column-found f = rw (lt-ltb k 4 h) (position-found (s ==_) (map letters row) k 4 long (column s row 0) inv [] b h cell-name f)
-
-    pub column-next : b ≡ false → column s row 0 ≡ column s row (k + 1)
-    unfolding column
-    column-next f = position-next (s ==_) (map letters row) k 4 long (column s row 0) inv [] b h cell-name f
-
-  pub column-end : 4 ≤ k → none ≡ column s row 0
-  unfolding column
-  column-end h = position-end (s ==_) (map letters row) k 4 long (column s row 0) inv h
 
 -- A test of every number below n
 
@@ -87,62 +55,89 @@ range-at p a (suc n) (suc i) t h =
 pub below : (p : ℕ → Bool) (n i : ℕ) → all p (up-to n) ≡ true → i < n → p i ≡ true
 below p n i t h = rw zero-add at (range-at p 0 n i t h)
 
--- The whole table
+-- The cells
 
-abbrev pub Right : List (List (List ℕ)) → Type 0
-Right t = map (map letters) t ≡ legacy
+abbrev cell-right : List (List (List ℕ)) → List (List ℕ) → List ℕ → ℕ → Bool
+cell-right t d e p = letters (getD (getD t (p / 4) d) (p % 4) e) == name-at p
 
-legacy-rows : length legacy ≡ 8
-unfolding legacy
-legacy-rows = refl
+pub cell-is : (t : List (List (List ℕ))) (d : List (List ℕ)) (e : List ℕ) (p : ℕ) (s : List ℕ) (r : Bool)
+    → all (cell-right t d e) (up-to 36) ≡ true → p < 36 → r ≡ (s == letters (getD (getD t (p / 4) d) (p % 4) e)) → r ≡ (s == name-at p)
+cell-is t d e p s r right h q =
+    q ∙ ap (s ==_) (==-eq (letters (getD (getD t (p / 4) d) (p % 4) e)) (name-at p) (below (cell-right t d e) 36 p right h))
 
-module _ (t : List (List (List ℕ))) (right : Right t) (i : ℕ) (h : i < 8) where
-  rows : i < length t
-  rows = omega (arith, length-map t (map letters), ap length right, legacy-rows)
+pub first-row : (i : ℕ) (s : List ℕ) (r : Bool) → i < 8 → r ≡ (s == name-at (4 * i)) → r ≡ (s == row-name i)
+unfolding all range _==_ concat legacy all-names
+first-row i s r h q =
+    q ∙ ap (s ==_) (==-eq (name-at (4 * i)) (row-name i) (below (λ i. name-at (4 * i) == row-name i) 8 i refl h))
 
-  pub row-right : (d : List (List ℕ)) → map letters (getD t i d) ≡ getD legacy i []
-  row-right d =
-      ap (map letters) (getD-any t i d [] rows) ∙ sym (List·getD-map (map letters) t i []) ∙ ap (λ (l : List (List (List ℕ))). getD l i []) right
+-- The hashes
 
-  row-cells : (d : List (List ℕ)) → 0 < length (getD t i d)
-  unfolding all range legacy
-  row-cells d =
-      let z : leb 1 (length (getD legacy i [])) ≡ true = below (λ i. leb 1 (length (getD legacy i []))) 8 i refl h in
-      omega (arith, leb-true 1 (length (getD legacy i [])) z, length-map (getD t i d) letters, ap length (row-right d))
+pub byte-past : (s : List ℕ) (k : ℕ) → length s ≤ k → 0 ≡ getD s k 0
+byte-past s k h = sym (List·getD-eq-default s 0 h)
 
-  pub row-is : (d : List (List ℕ)) (e : List ℕ) (s : List ℕ) (r : Bool) → r ≡ (s == letters (getD (getD t i d) 0 e)) → r ≡ (s == row-name i)
-  row-is d e s r q = q ∙ ap (s ==_) (sym (getD-letters (getD t i d) 0 e (row-cells d)) ∙ ap (λ (l : List (List ℕ)). getD l 0 []) (row-right d))
+module _ (t : List ℕ) (h c : ℕ) (e : c ≡ getD t h 0) where
+  pub place-start : all (λ h. leb 48 (getD t h 0)) (up-to 128) ≡ true → h < 128 → 48 ≤ c
+  place-start right g = rw e (leb-true 48 (getD t h 0) (below (λ h. leb 48 (getD t h 0)) 128 h right g))
 
-after : List ℕ → Option Family → Option ℕ → Option Family
-after name later o = elim o [ none ↦ later | some k ↦ some (record { name = name; width = getD widths k 0 }) ]
+  pub place-least : all (λ h. ltb (getD t h 0 - 48) 36) (up-to 128) ≡ true → h < 128 → c - 48 < 36
+  place-least right g = rw e (ltb-true (getD t h 0 - 48) 36 (below (λ h. ltb (getD t h 0 - 48) 36) 128 h right g))
 
-legacy-step : (s : List ℕ) (i : ℕ) → i < 8 → legacy-family (drop i legacy) s ≡ after (row-name i) (legacy-family (drop (i + 1) legacy) s) (position (s ==_) (getD legacy i []))
-unfolding legacy-family after
-legacy-step s i h = rw (drop-step [] legacy i (omega (arith, legacy-rows)))
+  pub place-only : all (λ q. eqb (getD t (hash (name-at q)) 0 - 48) q) (up-to 36) ≡ true → (q : ℕ) → q < 36 → hash (name-at q) ≡ h → c - 48 ≡ q
+  place-only right q g f =
+      rw (e, ← f) (eqb-true (getD t (hash (name-at q)) 0 - 48) q (below (λ q. eqb (getD t (hash (name-at q)) 0 - 48) q) 36 q right g))
 
-column-is : (s : List ℕ) (row : List (List ℕ)) → column s row 0 ≡ position (s ==_) (map letters row)
-unfolding column
-column-is s row = same (position (s ==_) (map letters row))
+-- The place of a text among the names
+
+pub position-at : {A : Type 0} (p : A → Bool) (d : A) (xs : List A) (k : ℕ) → position p xs ≡ some k → (k < length xs) × (p (getD xs k d) ≡ true)
+unfolding position
+position-at p d [] k e = let z : _≡_ {A = ℕ} 0 1 = cc in absurd (omega arith)
+position-at {A} p d (x ∷ xs) k e = go (p x) refl e (position-at p d xs)
   where
-    same : (o : Option ℕ) → Option·map (0 +_) o ≡ o
-    same none = refl
-    same (some k) = ap some (omega arith)
+    later : (o : Option ℕ) → position p xs ≡ o → Option·map suc o ≡ some k
+        → ((j : ℕ) → position p xs ≡ some j → (j < length xs) × (p (getD xs j d) ≡ true)) → (k < suc (length xs)) × (p (getD (x ∷ xs) k d) ≡ true)
+    later none f g h = let z : _≡_ {A = ℕ} 0 1 = cc in absurd (omega arith)
+    later (some j) f g h =
+        let z : suc j ≡ k = cc in
+        let y = h j f in
+        (omega arith, rw (← z) (y .1))
 
-module _ (s : List ℕ) (i : ℕ) (inv : legacy-family legacy s ≡ legacy-family (drop i legacy) s) where
-  module _ (t : List (List (List ℕ))) (right : Right t) (h : i < 8) (k : ℕ) (d : List (List ℕ)) (e : found 4 k ≡ column s (getD t i d) 0) where
-    here : position (s ==_) (getD legacy i []) ≡ found 4 k
-    here = ap (position (s ==_)) (sym (row-right t right i h d)) ∙ sym (column-is s (getD t i d)) ∙ sym e
+    go : (b : Bool) → p x ≡ b → cond b (some 0) (Option·map suc (position p xs)) ≡ some k
+        → ((j : ℕ) → position p xs ≡ some j → (j < length xs) × (p (getD xs j d) ≡ true)) → (k < suc (length xs)) × (p (getD (x ∷ xs) k d) ≡ true)
+    go true f g h = let z : 0 ≡ k = cc in (omega arith, rw (← z) f)
+    go false f g h = later (position p xs) refl g h
 
-    pub legacy-found : k < 4 → family-of s (Legacy i (getD widths k 0)) ≡ legacy-family legacy s
-    unfolding after
-    legacy-found g = rw (lt-ltb i 8 h) (sym (inv ∙ legacy-step s i h ∙ rw (here, lt-ltb k 4 g)))
+is-some-of : Option ℕ → ℕ → Bool
+is-some-of none k = false
+is-some-of (some j) k = eqb j k
 
-    pub legacy-next : 4 ≤ k → legacy-family legacy s ≡ legacy-family (drop (i + 1) legacy) s
-    unfolding after
-    legacy-next g = inv ∙ legacy-step s i h ∙ rw (here, le-ltb k 4 g)
+some-of : (o : Option ℕ) (k : ℕ) → is-some-of o k ≡ true → some k ≡ o
+unfolding is-some-of
+some-of none k e = let z : _≡_ {A = ℕ} 0 1 = cc in absurd (omega arith)
+some-of (some j) k e = ap some (sym (eqb-true j k e))
 
-  pub legacy-end : 8 ≤ i → none ≡ legacy-family legacy s
-  unfolding legacy-family
-  legacy-end h = sym (inv ∙ rw (drop-end legacy i (omega (arith, legacy-rows))))
+own-place : (p : ℕ) → p < 36 → some p ≡ position (name-at p ==_) all-names
+unfolding all range _==_ concat legacy all-names position is-some-of
+own-place p h = some-of (position (name-at p ==_) all-names) p (below (λ p. is-some-of (position (name-at p ==_) all-names) p) 36 p refl h)
 
-pub ruleset table-rules = (letters-two, letters-three, letters-count, column-found, column-next, column-end, row-is, legacy-found, legacy-next, legacy-end)
+name-count : length all-names ≡ 36
+unfolding concat legacy all-names
+name-count = refl
+
+module _ (s : List ℕ) (p : ℕ) (b : Bool) (e : b ≡ (s == name-at p)) where
+  pub place-found : p < 36 → b ≡ true → found 36 p ≡ position (s ==_) all-names
+  place-found h f = rw (lt-ltb p 36 h, ==-eq s (name-at p) (sym e ∙ f)) (own-place p h)
+
+  pub place-none : (h : ℕ) → h ≡ hash s → ((q : ℕ) → q < 36 → hash (name-at q) ≡ h → p ≡ q) → b ≡ false → found 36 36 ≡ position (s ==_) all-names
+  place-none h g only f = go (position (s ==_) all-names) refl
+    where
+      go : (o : Option ℕ) → position (s ==_) all-names ≡ o → none ≡ o
+      go none q = refl
+      go (some k) q =
+          let y = position-at (s ==_) [] all-names k q in
+          let same : s ≡ name-at k = ==-eq s (name-at k) (y .1) in
+          let z : p ≡ k = only k (omega (arith, name-count)) (sym (g ∙ ap hash same)) in
+          let w : (s == name-at p) ≡ true = rw z (y .1) in
+          let x : _≡_ {A = ℕ} 0 1 = cc in
+          absurd (omega arith)
+
+pub ruleset table-rules = (letters-two, letters-three, letters-count, place-found, place-none, first-row)

@@ -1,11 +1,14 @@
 -- What an answer of the code says of a text, as the definitions' families.
 --   letters cell         the name in a cell of three bytes: without a 0 at its end
---   column s row k       the column of the name s in a row of cells, from column k on
+--   all-names            the legacy names, row by row, and behind them ah bh ch dh
+--   name-at p            the name at place p of them
+--   hash s               a number that tells these names from each other
 --   found n k            k, where it is below n
 --   digit-count s        how many digits s starts with
+--   number-end s         how many bytes `r` and digits at the start of s are, 0 without an `r`
 --   above-zero w         w, where it is not 0
 --   family-of s r        the family and the width that the answer r gives the text s
---   high-row s           the row of ah, bh, ch or dh, 4 for another text
+--   rest-family s        the family of a text that is none of the names
 --   row-name i           the name of the family in row i of the table
 --   row r                where the name of r's family stands: its row of the table; 8, in the text; 9, nowhere
 --   own-name s r         the part of the text s that is its family's name, where it stands there
@@ -14,15 +17,15 @@
 --   named p o            o is a family, and p holds of its name
 --   is-rsp o, is-var-family o, is-wide o    o is the family rsp; a `var_`; a family, of width 32 or more
 -- Assumes nothing.
-use Prim.Native.Nat.{ℕ}
+use Prim.Native.Nat.{ℕ, _+_, _*_, _%_}
 use mathlib.Core.Bool.{Bool, false}
-use mathlib.Core.List.{List, [], map}
+use mathlib.Core.List.{List, [], _∷_, _++_}
 use mathlib.Core.Option.{Option, none, some}
 use lib.Dec.{eqb, leb, ltb}
-use lib.ListN.{length, take, getD}
-use Rattle.definitions.specs.Lists.{if_then_else_, part, position-from, _==_, ascii}
+use lib.ListN.{length, take, drop, getD}
+use Rattle.definitions.specs.Lists.{if_then_else_, part, concat, _==_, starts-with, ascii}
 use Rattle.definitions.specs.Model.{Token}
-use Rattle.definitions.specs.Family.{Family, legacy, digits, names}
+use Rattle.definitions.specs.Family.{Family, legacy, digits, is-numbered, numbered-family, names}
 use Rattle.definitions.specs.Statements.{is-var}
 use Rattle.family.specs.declared.Register.{Register}
 use Rattle.family.specs.declared.Register.the-variants.{Legacy, Numbered, Var, Nothing}
@@ -30,14 +33,23 @@ use Rattle.family.specs.declared.Register.the-variants.{Legacy, Numbered
 abbrev pub letters : List ℕ → List ℕ
 letters cell = if eqb (getD cell 2 0) 0 then take 2 cell else cell
 
-unfoldable pub column : List ℕ → List (List ℕ) → ℕ → Option ℕ
-column s row k = position-from k (s ==_) (map letters row)
+unfoldable pub all-names : List (List ℕ)
+all-names = concat legacy ++ (ascii "ah" ∷ ascii "bh" ∷ ascii "ch" ∷ ascii "dh" ∷ [])
+
+abbrev pub name-at : ℕ → List ℕ
+name-at p = getD all-names p []
+
+unfoldable pub hash : List ℕ → ℕ
+hash s = (5 * getD s 0 0 + 4 * getD s 1 0 + 2 * getD s 2 0) % 128
 
 abbrev pub found : ℕ → ℕ → Option ℕ
 found n k = if ltb k n then some k else none
 
 unfoldable pub digit-count : List ℕ → ℕ
 digit-count s = length (digits s)
+
+abbrev pub number-end : List ℕ → ℕ
+number-end s = if starts-with (ascii "r") s then 1 + digit-count (drop 1 s) else 0
 
 abbrev pub above-zero : ℕ → Option ℕ
 above-zero w = if eqb w 0 then none else some w
@@ -51,13 +63,11 @@ family-of s (Numbered n w) = some (record { name = part 0 n s; width = w })
 family-of s Var = some (record { name = s; width = 64 })
 family-of s Nothing = none
 
-abbrev pub high-row : List ℕ → ℕ
-high-row s =
-    if s == ascii "ah" then 0
-    else if s == ascii "bh" then 1
-    else if s == ascii "ch" then 2
-    else if s == ascii "dh" then 3
-    else 4
+abbrev pub rest-family : List ℕ → Option Family
+rest-family s =
+    if is-numbered s then numbered-family s
+    else if starts-with (ascii "var_") s then some (record { name = s; width = 64 })
+    else none
 
 abbrev pub row : Register → ℕ
 row (Legacy i w) = if ltb i 8 then i else 9

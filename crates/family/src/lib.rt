@@ -1,17 +1,16 @@
 // Registers: `family` and `fam_of` of pseudo_opt.rs. An answer is a `Register`: it holds no text, so family names are compared where they
 // stand, in the table or in the text that was looked up.
 //
-// A look-up compares the text with at most 36 names and scans no byte behind the token's text; a test on an answer compares at most one
-// name. Contracts cite `family`, `fam-of` and `names` of Rattle.definitions.specs.Family; `family-of` of this crate's specs/ says which family
+// A look-up compares the text with one name, which its hash gives, and scans no byte behind the token's text; a test on an answer compares
+// at most one name. Contracts cite `family`, `fam-of` and `names` of Rattle.definitions.specs.Family; `family-of` of this crate's specs/ says which family
 // an answer gives a text.
 ghost use mathlib.Core.Path.{_≡_};
-ghost use mathlib.Core.Bool.{true};
-ghost use Prim.Native.Nat.{_+_, _<_};
-ghost use lib.ListN.{drop};
-ghost use Rattle.definitions.specs.Lists.{_==_};
+ghost use Prim.Native.Nat.{ℕ, _+_, _<_};
+ghost use lib.ListN.{getD, drop};
+ghost use Rattle.definitions.specs.Lists.{_==_, position};
 ghost use Rattle.definitions.specs.Model.{tok};
-ghost use Rattle.definitions.specs.Family.{legacy, legacy-family, suffix-width, is-numbered, numbered-family, other-family, family, fam-of};
-ghost use Rattle.family.specs.Register.{letters, column, found, digit-count, above-zero, family-of, high-row, row, row-name, own-name, same-name, names-family, is-rsp, is-var-family, is-wide};
+ghost use Rattle.definitions.specs.Family.{suffix-width, numbered-family, family, fam-of};
+ghost use Rattle.family.specs.Register.{letters, all-names, name-at, hash, found, digit-count, number-end, above-zero, family-of, rest-family, row, row-name, own-name, same-name, names-family, is-rsp, is-var-family, is-wide};
 
 pub enum Register {
     // The row of the table, and the width in bits.
@@ -23,8 +22,9 @@ pub enum Register {
     Nothing,
 }
 
-// A row is a family, a column a width. A name of two letters is filled up with a 0.
-const LEGACY: [[[u8; 3]; 4]; 8] = [
+// A row is a family, a column a width; the last row is the 8 bits above those of `al`, `bl`, `cl` and `dl`. A name of two letters is filled
+// up with a 0.
+const NAMES: [[[u8; 3]; 4]; 9] = [
     [*b"rax", *b"eax", *b"ax\0", *b"al\0"],
     [*b"rbx", *b"ebx", *b"bx\0", *b"bl\0"],
     [*b"rcx", *b"ecx", *b"cx\0", *b"cl\0"],
@@ -33,9 +33,14 @@ const LEGACY: [[[u8; 3]; 4]; 8] = [
     [*b"rdi", *b"edi", *b"di\0", *b"dil"],
     [*b"rbp", *b"ebp", *b"bp\0", *b"bpl"],
     [*b"rsp", *b"esp", *b"sp\0", *b"spl"],
+    [*b"ah\0", *b"bh\0", *b"ch\0", *b"dh\0"],
 ];
 
 const WIDTHS: [usize; 4] = [64, 32, 16, 8];
+
+// The place of a name in the table, row by row, at the name's hash, counted from the byte `0` on; no two names have one hash.
+const PLACES: [u8; 128] =
+    *b"00K00P0000Q0000R0000S30AF070D00;00H0?M0000J000000040008000<C0000000002000060000:0000>00O@00E00000I0B00L000000100G50009000=00000N";
 
 // The text is the name in a cell of the table.
 fn is_name(cell: [u8; 3], s: &[u8]) -> bool
@@ -48,56 +53,53 @@ fn is_name(cell: [u8; 3], s: &[u8]) -> bool
     }
 }
 
-// The column of the name in a row of the table, 4 where it is not there.
-fn column(row: [[u8; 3]; 4], s: &[u8]) -> usize
-    ensures { λ r. ⌜ found 4 r ≡ column (now (s .entry)) row 0 ⌝ }
+// The text is the name at place p of the table.
+fn is_at(p: usize, s: &[u8]) -> bool
+    requires { ⌜ p < 36 ⌝ }
+    ensures { λ r. ⌜ r ≡ (now (s .entry) == name-at p) ⌝ }
 {
-    let mut k = 0;
-    while k < 4 {
-        let cell = row[k];
-        if is_name(cell, s) {
-            return k;
-        }
-        k += 1;
-    }
-    4
+    let table = NAMES;
+    let row = table[p / 4];
+    let cell = row[p % 4];
+    is_name(cell, s)
 }
 
-// A name of the table.
-fn legacy(s: &[u8]) -> Register
-    ensures { λ r. ⌜ family-of (now (s .entry)) r ≡ legacy-family legacy (now (s .entry)) ⌝ }
+fn wide(x: u8) -> usize
+    ensures { λ r. ⌜ (r ≡ x) × (r < 256) ⌝ }
 {
-    let table = LEGACY;
-    let mut i = 0;
-    while i < 8 {
-        let row = table[i];
-        let k = column(row, s);
-        if k < 4 {
-            let w = WIDTHS[k];
-            return Register::Legacy(i, w);
-        }
-        i += 1;
-    }
-    Register::Nothing
+    x as usize
 }
 
-// The row of ah, bh, ch or dh, 4 for another text.
-fn high_row(s: &[u8]) -> usize
-    ensures { λ r. ⌜ r ≡ high-row (now (s .entry)) ⌝ }
+// The byte at k, 0 past the end.
+fn byte(s: &[u8], k: usize) -> usize
+    ensures { λ r. ⌜ (r ≡ getD (now (s .entry)) k 0) × (r < 256) ⌝ }
 {
-    if text::equal(s, b"ah") {
-        return 0;
+    if k < s.len() { wide(s[k]) } else { 0 }
+}
+
+fn hash(s: &[u8]) -> usize
+    ensures { λ r. ⌜ (r ≡ hash (now (s .entry))) × (r < 128) ⌝ }
+{
+    (5 * byte(s, 0) + 4 * byte(s, 1) + 2 * byte(s, 2)) % 128
+}
+
+// The place of the only name that may have the hash h.
+fn place_of(h: usize) -> usize
+    requires { ⌜ h < 128 ⌝ }
+    ensures { λ p. ⌜ (p < 36) × ((q : ℕ) → q < 36 → hash (name-at q) ≡ h → p ≡ q) ⌝ }
+{
+    wide(PLACES[h]) - 48
+}
+
+// The place of a name in the table, 36 where it is not there.
+fn place(s: &[u8]) -> usize
+    ensures { λ r. ⌜ found 36 r ≡ position (now (s .entry) ==_) all-names ⌝ }
+{
+    let p = place_of(hash(s));
+    if is_at(p, s) {
+        return p;
     }
-    if text::equal(s, b"bh") {
-        return 1;
-    }
-    if text::equal(s, b"ch") {
-        return 2;
-    }
-    if text::equal(s, b"dh") {
-        return 3;
-    }
-    4
+    36
 }
 
 // The place behind the digits that follow the first byte.
@@ -117,14 +119,14 @@ fn digits_end(s: &[u8]) -> usize
     i
 }
 
-// `r` and one or more digits stand at the start.
-fn is_numbered(s: &[u8]) -> bool
-    ensures { λ r. ⌜ r ≡ is-numbered (now (s .entry)) ⌝ }
+// The place behind `r` and digits at the start, at most 1 where no digit follows an `r` there.
+fn number_end(s: &[u8]) -> usize
+    ensures { λ r. ⌜ r ≡ number-end (now (s .entry)) ⌝ }
 {
     if text::starts_with(s, b"r") {
-        1 < digits_end(s)
+        digits_end(s)
     } else {
-        false
+        0
     }
 }
 
@@ -150,12 +152,11 @@ fn suffix_width(s: &[u8]) -> usize
     0
 }
 
-// A name that starts with `r` and digits.
-fn numbered(s: &[u8]) -> Register
-    requires { ⌜ is-numbered (now s) ≡ true ⌝ }
+// A name that starts with `r` and digits, n bytes of it.
+fn numbered(s: &[u8], n: usize) -> Register
+    requires { ⌜ (n ≡ number-end (now s)) × (1 < n) ⌝ }
     ensures { λ r. ⌜ family-of (now (s .entry)) r ≡ numbered-family (now (s .entry)) ⌝ }
 {
-    let n = digits_end(s);
     let w = suffix_width(text::part(s, n, s.len()));
     if w == 0 {
         return Register::Nothing;
@@ -165,14 +166,11 @@ fn numbered(s: &[u8]) -> Register
 
 // A name that is not in the table.
 fn other(s: &[u8]) -> Register
-    ensures { λ r. ⌜ family-of (now (s .entry)) r ≡ other-family (now (s .entry)) ⌝ }
+    ensures { λ r. ⌜ family-of (now (s .entry)) r ≡ rest-family (now (s .entry)) ⌝ }
 {
-    let i = high_row(s);
-    if i < 4 {
-        return Register::Legacy(i, 8);
-    }
-    if is_numbered(s) {
-        return numbered(s);
+    let n = number_end(s);
+    if 1 < n {
+        return numbered(s, n);
     }
     if text::starts_with(s, b"var_") {
         return Register::Var;
@@ -196,8 +194,15 @@ fn row(r: Register) -> usize
 pub fn family(s: &[u8]) -> Register
     ensures { λ r. ⌜ family-of (now (s .entry)) r ≡ family (now (s .entry)) ⌝ }
 {
-    let l = legacy(s);
-    if row(l) == 9 { other(s) } else { l }
+    let p = place(s);
+    if p < 32 {
+        let w = WIDTHS[p % 4];
+        return Register::Legacy(p / 4, w);
+    }
+    if p < 36 {
+        return Register::Legacy(p - 32, 8);
+    }
+    other(s)
 }
 
 // The same of a register token.
@@ -234,10 +239,7 @@ fn is_row(i: usize, name: &[u8]) -> bool
     requires { ⌜ i < 8 ⌝ }
     ensures { λ r. ⌜ r ≡ (now (name .entry) == row-name i) ⌝ }
 {
-    let table = LEGACY;
-    let row = table[i];
-    let cell = row[0];
-    is_name(cell, name)
+    is_at(4 * i, name)
 }
 
 // The answers ra of the text a and rb of the text b are of one family.

@@ -1,6 +1,5 @@
 -- `family::digits_end` meets its contract. At i, the digits from i on are left.
 -- Assumes nothing.
--- `family::digits_end` meets its contract. At i, the digits from i on are left.
 use mathlib.Core.Path.{_≡_}
 use Prim.Native.Nat.{_+_, _-_, _≤_}
 use lib.ListN.{length, drop}

@@ -1,6 +1,5 @@
 -- `family::is_name` meets its contract.
 -- Assumes nothing.
--- `family::is_name` meets its contract.
 use Rattle.family.proofs.Table.{table-rules}
 use borrow.Author.Needs.{needs}
 use Rattle.family.proofs.is_name.Statement.{statement}

@@ -5,9 +5,6 @@ use borrow.Author.Needs.{needs}
 use Rattle.family.proofs.numbered.Statement.{statement}
 use Rattle.family.proofs.numbered.Tie as tie
 
-digits-end-requires : tie.Need-digits-end-requires
-digits-end-requires c κs = search needs
-
 part-requires : tie.Need-part-requires
 part-requires c κs = search needs
 
@@ -21,5 +18,4 @@ returns-2 : tie.Need-returns-2
 returns-2 c = search (digit-rules, needs)
 
 pub numbered-spec : {M : Type 1} → statement M
-numbered-spec =
-    tie.close (tie.spec digits-end-requires part-requires suffix-width-requires returns returns-2)
+numbered-spec = tie.close (tie.spec part-requires suffix-width-requires returns returns-2)

@@ -1,6 +1,5 @@
 -- `family::suffix_width` meets its contract.
 -- Assumes nothing.
--- `family::suffix_width` meets its contract.
 use Rattle.text.proofs.Bools.{bools}
 use Rattle.definitions.specs.Family.{suffix-width}
 use borrow.Author.Needs.{needs}

@@ -1,10 +1,9 @@
--- `family::is_numbered` meets its contract.
+-- `family::number_end` meets its contract.
 -- Assumes nothing.
 use Rattle.text.proofs.Bools.{bools}
-use Rattle.family.proofs.Digits.{digit-rules}
 use borrow.Author.Needs.{needs}
-use Rattle.family.proofs.is_numbered.Statement.{statement}
-use Rattle.family.proofs.is_numbered.Tie as tie
+use Rattle.family.proofs.number_end.Statement.{statement}
+use Rattle.family.proofs.number_end.Tie as tie
 
 slice-aggregate-starts-with : tie.Need-slice-aggregate-starts-with
 slice-aggregate-starts-with c = search needs
@@ -16,13 +15,13 @@ digits-end-requires : tie.Need-digits-end-requires
 digits-end-requires c κs = search needs
 
 returns : tie.Need-returns
-returns c = search (bools, digit-rules, needs)
+returns c = search (bools, needs)
 
 returns-2 : tie.Need-returns-2
-returns-2 c = search (bools, digit-rules, needs)
+returns-2 c = search (bools, needs)
 
-pub is-numbered-spec : {M : Type 1} → statement M
-is-numbered-spec =
+pub number-end-spec : {M : Type 1} → statement M
+number-end-spec =
     tie.close
     (tie.spec
     slice-aggregate-starts-with
