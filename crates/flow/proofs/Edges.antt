@@ -7,7 +7,7 @@
 --   case-left, case-end, cases-some, cases-other, cases-none    to the cases of a switch
 --   left-yes, left-no, left-start, left-next, left-end          out of one block, out of those around a line
 --   leaves-yes, leaves-no                            the same as the definition has it
---   jump-some, jump-none, jumps-from, jumps-start, jumps-next, jumps-end    to labels
+--   jump-some, jump-none, jumps-from, jumps-start, jumps-next, jumps-end, jumps-none    to labels
 -- Assumes nothing.
 use Prim.Native.Nat.{ℕ, zero, suc, _+_, _-_, _<_, _≤_}
 use mathlib.Core.Path.{_≡_, refl, sym, ap, _∙_, fun-ext}
@@ -27,6 +27,7 @@ use Rattle.definitions.specs.Statements.{is-kw, first-symbol, targets, has-kw}
 use Rattle.definitions.specs.Blocks.{Blocks}
 use Rattle.definitions.specs.FlowGraph.{end-of, past-end, is-loop, is-switch, is-case, closes, loops-back, cases, leaves, label-line, jumps}
 use Rattle.text.proofs.Parts.{drop-step, drop-end}
+use Rattle.line_keywords.proofs.NoGotos.{no-jumps}
 use Rattle.theory.proofs.Bools.{same-test}
 use Rattle.theory.proofs.ListLaws.{any-found, any-here, member-filter, range-member}
 use Rattle.bits.specs.Edges.{Added}
@@ -331,3 +332,6 @@ module _ (L : List Line) (l : Line) (j : ℕ) where
   pub jumps-end : length (l .tokens) ≤ j → jumps-from L (l .tokens) j ≡ []
   unfolding jumps-from leads-from targets concat
   jumps-end h = rw (drop-end (l .tokens) j h)
+
+pub jumps-none : (n r : ℕ) (L : List Line) (i : ℕ) (b : Bool) (l : List ℕ) → b ≡ has-kw (line L i) (ascii "goto") → b ≡ false → Drawn n r l l (from i (jumps L i))
+jumps-none n r L i b l e f = from-nil n r i (jumps L i) l (no-jumps L i (sym e ∙ f))

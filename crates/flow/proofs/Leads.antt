@@ -2,7 +2,8 @@
 --   target-none, target-some            the label that the symbol after a goto names
 --   jump-yes, jump-no                   a token that is a goto, and one that is not
 --   leads-yes, leads-no, leads-other    whether it leads to a label
---   lead-start, lead-next, lead-fail, lead-end        the loop of `line_gotos_lead`
+--   lead-start, lead-next, lead-fail, lead-end        the loop of `tokens_lead`
+--   leads-none                          a line without a goto
 --   lines-start, lines-next, lines-fail, lines-end    the loop of `gotos_lead`
 -- Assumes nothing.
 use Prim.Native.Nat.{ℕ, _+_, _<_, _≤_}
@@ -16,7 +17,7 @@ use lib.ListN.{length, getD, drop}
 use Rattle.definitions.specs.Lists.{if_then_else_, _>>=_, is-some, all, up-to, ascii}
 use Rattle.definitions.specs.Model.{Token, Line, line, token, no-token}
 use Rattle.definitions.specs.Columns.{listing}
-use Rattle.definitions.specs.Statements.{is-kw, first-symbol, targets}
+use Rattle.definitions.specs.Statements.{is-kw, has-kw, first-symbol, targets}
 use Rattle.definitions.specs.FlowGraph.{label-line, leads, gotos-lead}
 use Rattle.text.proofs.Parts.{drop-step, drop-end}
 use Rattle.text.proofs.Loops.{all-found, all-next, all-end}
@@ -24,6 +25,7 @@ use Rattle.model.proofs.Decode.{length-listing}
 use Rattle.pseudo_opt.specs.Places.{text-at}
 use Rattle.pseudo_opt.specs.declared.Found.{Found}
 use Rattle.pseudo_opt.specs.declared.Found.the-variants.{At, Nothing}
+use Rattle.line_keywords.proofs.NoGotos.{no-leads}
 use Rattle.theory.proofs.ListLaws.{getD-range, length-range}
 use Rattle.flow.specs.Buckets.{line-of}
 use Rattle.flow.specs.declared.labels.Label.{Label}
@@ -93,6 +95,10 @@ module _ (L : List Line) (ts : List Token) (j n : ℕ) (r : Bool) (inv : r ≡ a
   lead-end h = sym (inv ∙ rw (drop-end ts j (omega arith)))
 
 pub ruleset leading = (lead-start, lead-next, lead-fail, lead-end)
+
+pub leads-none : (L : List Line) (i : ℕ) (b : Bool) → b ≡ has-kw (line L i) (ascii "goto") → b ≡ false → true ≡ all is-some (leads L i)
+unfolding all
+leads-none L i b e f = rw (no-leads L i (sym e ∙ f))
 
 -- The lines from i on
 

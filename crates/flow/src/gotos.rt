@@ -1,6 +1,6 @@
 // Where gotos lead, and question 9: has every goto keyword a symbol after it, the first of which names a label?
 //
-// Each token is looked at once, and after each goto the tokens up to the next symbol; `label_line` finds the label. Contracts cite `leads`
+// Each token of a line with a goto is looked at once, and after each goto the tokens up to the next symbol; `label_line` finds the label. Contracts cite `leads`
 // and `gotos-lead` of Rattle.definitions.specs.FlowGraph.
 ghost use mathlib.Core.Path.{_≡_};
 ghost use mathlib.Core.Bool.{_||_, not};
@@ -15,6 +15,7 @@ ghost use Rattle.flow.specs.Buckets.{Indexed, line-of};
 ghost use Rattle.flow.specs.Gotos.{goto-line, jump};
 use crate::labels::Label;
 use crate::labels::label_line;
+use line_keywords::has_kw;
 use model::columns::text_at;
 use model::columns::token_count;
 use pseudo_opt::Found;
@@ -97,8 +98,8 @@ fn goto_leads(
     }
 }
 
-// Every goto of line i leads to a label.
-fn line_gotos_lead(
+// Every goto of line i leads to a label, asked token by token.
+fn tokens_lead(
     lines: &[u32],
     tokens: &[u32],
     text: &[u8],
@@ -120,6 +121,26 @@ fn line_gotos_lead(
         }
     }
     true
+}
+
+// The same, asked only of a line that has a goto.
+fn line_gotos_lead(
+    lines: &[u32],
+    tokens: &[u32],
+    text: &[u8],
+    heads: &[usize],
+    nexts: &[usize],
+    i: usize,
+) -> bool
+    requires { ⌜ (1024 ≤ length (now heads)) × (length (now lines) ≤ length (now nexts)) ⌝ }
+    requires { ⌜ Indexed (listing (now lines) (now tokens) (now text)) (now heads) (now nexts) (length (now lines)) ⌝ }
+    ensures { λ r. ⌜ r ≡ all is-some (leads (listing (now (lines .entry)) (now (tokens .entry)) (now (text .entry))) i) ⌝ }
+{
+    if has_kw(lines, tokens, text, i, b"goto") {
+        tokens_lead(lines, tokens, text, heads, nexts, i)
+    } else {
+        true
+    }
 }
 
 // 9: has every goto keyword a symbol after it, the first of which names a label?

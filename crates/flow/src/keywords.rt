@@ -10,10 +10,10 @@ ghost use Rattle.definitions.specs.Model.{token, line, Punct};
 ghost use Rattle.definitions.specs.Columns.{listing};
 ghost use Rattle.definitions.specs.Statements.{has-kw};
 ghost use Rattle.definitions.specs.FlowGraph.{is-else-close, is-loop, is-switch, is-case};
+use line_keywords::has_kw;
 use model::columns::kind;
 use model::columns::text_at;
 use model::columns::token_count;
-use pseudo_opt::keywords::has_kw;
 use pseudo_opt::keywords::is_kw;
 
 // Token j of line i is a punct that contains `}`.

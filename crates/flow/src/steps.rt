@@ -26,6 +26,7 @@ use crate::keywords::is_loop;
 use crate::keywords::is_switch;
 use crate::keywords::leaves_block;
 use crate::labels::Label;
+use line_keywords::has_kw;
 use model::columns::token_count;
 
 // The step from line p to line q, unless it leads past the last line.
@@ -301,8 +302,8 @@ fn jump_step(
     step(space, lines.len(), r, i, q);
 }
 
-// The steps of line i to the labels of its gotos.
-fn jumps(
+// The steps of line i to the labels of its gotos, token by token.
+fn token_jumps(
     lines: &[u32],
     tokens: &[u32],
     text: &[u8],
@@ -324,6 +325,30 @@ fn jumps(
     while j < n {
         jump_step(lines, tokens, text, heads, nexts, space, r, i, j);
         j += 1;
+    }
+}
+
+// The same, asked only of a line that has a goto.
+fn jumps(
+    lines: &[u32],
+    tokens: &[u32],
+    text: &[u8],
+    heads: &[usize],
+    nexts: &[usize],
+    space: &mut [u64],
+    r: usize,
+    i: usize,
+)
+    requires { ⌜ (let n = length (now lines) in
+        Matrices n r (now space) × (i < n) × (1024 ≤ length (now heads)) × (n ≤ length (now nexts))) ⌝ }
+    requires { ⌜ Indexed (listing (now lines) (now tokens) (now text)) (now heads) (now nexts) (length (now lines)) ⌝ }
+    ensures { λ z.
+        ⌜ (let L = listing (now (lines .entry)) (now (tokens .entry)) (now (text .entry)) in
+        Drawn (length (now (lines .entry))) r (now (space .entry)) (now (space .exit)) (from i (jumps L i))) ⌝ }
+{
+    if has_kw(lines, tokens, text, i, b"goto") {
+        token_jumps(lines, tokens, text, heads, nexts, space, r, i);
+        return;
     }
 }
 
