@@ -5,7 +5,7 @@ use std::time::Instant;
 
 use javrenzu::{working_space, Destination, Listing};
 use oracle::columns::{encode, Columns};
-use oracle::generate::{creeping_back, listing, plausible, Kind};
+use oracle::generate::{creeping_back, listing, plausible, uncrossed, Kind};
 use oracle::pseudo::PseudoLine;
 use oracle::passes::{run, Pass};
 use oracle::{answers, sweeps};
@@ -125,6 +125,7 @@ fn splits_listings() -> Vec<(&'static str, Vec<PseudoLine>)> {
         ("plausible", accepted(180)),
         ("plausible", accepted(850)),
         ("hundreds of gotos, most definitions crossed", listing(Kind::Full, 1, 4)),
+        ("hundreds of gotos and of definitions, none crossed", uncrossed()),
         ("hundreds of families", listing(Kind::Full, 1, 2)),
     ]
 }

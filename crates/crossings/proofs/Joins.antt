@@ -4,7 +4,8 @@
 --   joined, marked-join     `join` and `mark`: the first of the two lines joined with the second
 --   label-inside            a goto leads to a line of the listing
 --   token-none, token-some  `mark_token`
---   tokens-start, tokens-next, tokens-end     the loop of `mark_line`
+--   tokens-start, tokens-next, tokens-end     the loop of `mark_tokens`
+--   line-none               a line without a goto
 --   lines-start, lines-next, lines-end        the loop of `mark_lines`
 --   marked-empty, empty-kept     what was marked in an empty column
 --   goto-start, goto-found, goto-next, goto-end     the loop of `has_goto`
@@ -24,7 +25,7 @@ use lib.Dec.{leb, ltb}
 use lib.ListN.{length, getD, set, drop}
 use lib.Seq.{getD-set-same, getD-set-other}
 use Rattle.definitions.specs.Lists.{_>>=_, to-list, any, concat, range, up-to, last-position, _==_, ascii}
-use Rattle.definitions.specs.Model.{Token, Line, line, token, no-token}
+use Rattle.definitions.specs.Model.{Line, line, token, no-token}
 use Rattle.definitions.specs.Columns.{listing}
 use Rattle.definitions.specs.Statements.{is-kw, has-kw, is-label, label, first-symbol, targets}
 use Rattle.definitions.specs.FlowGraph.{label-line, jumps}
@@ -32,6 +33,7 @@ use Rattle.definitions.specs.SplitPoints.{Jump, all-jumps, crosses}
 use Rattle.text.proofs.Parts.{drop-step}
 use Rattle.text.proofs.Loops.{any-found as loop-found, any-next as loop-next, any-end as loop-end}
 use Rattle.model.proofs.Decode.{length-listing}
+use Rattle.line_keywords.proofs.NoGotos.{no-jumps}
 use Rattle.theory.proofs.Bools.{clash, same-test, and-both, and-split, or-left, or-right, or-cases, not-so, lt-or-ge}
 use Rattle.theory.proofs.ListLaws.{any-found, any-here, member-range, range-member, getD-range, length-range}
 use Rattle.flow.specs.Gotos.{jump, goto-line}
@@ -284,18 +286,11 @@ module _ (L : List Line) (n i : ℕ) (r : Bool) (inv : r ≡ goto-in L n i) wher
   unfolding goto-in
   goto-end h = loop-end (λ i. has-kw (line L i) (ascii "goto")) (up-to n) i n (sym (length-range 0 n)) r inv h
 
--- A listing without gotos
+-- Lines without gotos
 
-no-targets : (ts : List Token) → any (is-kw (ascii "goto")) ts ≡ false → targets ts ≡ []
-unfolding any targets
-no-targets [] e = refl
-no-targets (t ∷ ts) e =
-    let h = or-none (is-kw (ascii "goto") t) (any (is-kw (ascii "goto")) ts) e in
-    rw (h .0) (no-targets ts (h .1))
-
-no-jumps : (L : List Line) (i : ℕ) → has-kw (line L i) (ascii "goto") ≡ false → jumps L i ≡ []
-unfolding jumps has-kw concat
-no-jumps L i e = rw (no-targets (line L i .tokens) e)
+pub line-none : (L : List Line) (i : ℕ) (b : Bool) (far : List ℕ) → b ≡ has-kw (line L i) (ascii "goto") → b ≡ false → Marked far far (line-gotos L i)
+unfolding line-gotos any
+line-none L i b far e f = rw (no-jumps L i (sym e ∙ f)) (record { at = λ k. sym (or-false (crossed far k)) })
 
 no-jumps-from : (L : List Line) (a n : ℕ) → any (λ i. has-kw (line L i) (ascii "goto")) (range a n) ≡ false → concat (map (λ i. map (goto i) (jumps L i)) (range a n)) ≡ []
 unfolding range concat any
@@ -310,4 +305,4 @@ no-gotos l t x y q e =
     no-jumps-from (listing l t x) 0 (length (listing l t x))
     (ap (λ (n : ℕ). any (λ i. has-kw (line (listing l t x) i) (ascii "goto")) (up-to n)) (length-listing l t x) ∙ sym q ∙ e)
 
-pub ruleset joins = (joined, marked-join, label-inside, token-none, token-some, tokens-start, tokens-next, tokens-end, lines-start, lines-next, lines-end, goto-start, goto-found, goto-next, goto-end)
+pub ruleset joins = (joined, marked-join, label-inside, token-none, token-some, tokens-start, tokens-next, tokens-end, line-none, lines-start, lines-next, lines-end, goto-start, goto-found, goto-next, goto-end)

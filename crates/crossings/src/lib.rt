@@ -18,8 +18,8 @@ ghost use Rattle.crossings.specs.Crossed.{goto, gotos, line-gotos, cross
 use flow::gotos::jump;
 use flow::labels::Label;
 use flow::labels::index;
+use line_keywords::has_kw;
 use model::columns::token_count;
-use pseudo_opt::keywords::has_kw;
 use recover::words::greater;
 use recover::words::narrow;
 use recover::words::word;
@@ -78,8 +78,8 @@ fn mark_token(
     mark(far, i, q);
 }
 
-// The gotos of line i.
-fn mark_line(
+// The gotos of line i, token by token.
+fn mark_tokens(
     lines: &[u32],
     tokens: &[u32],
     text: &[u8],
@@ -97,6 +97,28 @@ fn mark_line(
     while j < n {
         mark_token(lines, tokens, text, heads, nexts, far, i, j);
         j += 1;
+    }
+}
+
+// The same, asked only of a line that has a goto.
+fn mark_line(
+    lines: &[u32],
+    tokens: &[u32],
+    text: &[u8],
+    heads: &[usize],
+    nexts: &[usize],
+    far: &mut [u16],
+    i: usize,
+)
+    requires { ⌜ (1024 ≤ length (now heads)) × (length (now lines) ≤ length (now nexts)) × (i < length (now lines)) × (length (now lines) ≤ length (now far)) × (length (now far) ≤ 1024) ⌝ }
+    requires { ⌜ Indexed (listing (now lines) (now tokens) (now text)) (now heads) (now nexts) (length (now lines)) ⌝ }
+    ensures { λ _.
+        ⌜ (let L = listing (now (lines .entry)) (now (tokens .entry)) (now (text .entry)) in
+        Marked (now (far .entry)) (now (far .exit)) (line-gotos L i)) ⌝ }
+{
+    if has_kw(lines, tokens, text, i, b"goto") {
+        mark_tokens(lines, tokens, text, heads, nexts, far, i);
+        return;
     }
 }
 

@@ -110,6 +110,15 @@ fn many_gotos(r: &mut Random, most: usize) -> Vec<PseudoLine> {
     }))
 }
 
+/// Hundreds of gotos and of definitions, none of which a goto crosses: each goto leads to the label right behind it or right before it.
+pub fn uncrossed() -> Vec<PseudoLine> {
+    function(MAX_LINES, (0..MAX_LINES / 3).flat_map(|k| {
+        let definition = line(1, &format!("{} = {k};", ["rax", "rbx", "rcx", "r8"][k % 4]));
+        let (label, goto) = (line(0, &format!("L{k}:")), line(1, &format!("if (rcx) goto L{k};")));
+        if k % 2 == 0 { [definition, goto, label] } else { [definition, label, goto] }
+    }))
+}
+
 /// Values that creep back one line a sweep: each line closes a loop that the line before opens.
 fn creeping(r: &mut Random, most: usize) -> Vec<PseudoLine> {
     let families = r.between(1, 12.min(most / 16));
