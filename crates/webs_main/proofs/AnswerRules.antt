@@ -18,7 +18,7 @@ use Rattle.json_read.specs.declared.Answer.{Answer}
 use Rattle.json_read.specs.declared.Answer.the-variants as read
 use Rattle.json_read.specs.Answers as reader
 use Rattle.json_append.specs.Appended.{Appended}
-use Rattle.webs_main.specs.Rows.{all-rows, refused-text}
+use Rattle.rows.specs.Rows.{all-rows, refused-text}
 use Rattle.webs_main.specs.Program.{room, web-room, webs-text, columns-text, read-text, program}
 
 module _ (out : List ℕ) (out′ : List ℕ) (e : ℕ) where

@@ -1,2 +1,1 @@
-mod RowRules
 mod AnswerRules

@@ -13,7 +13,7 @@ use Rattle.definitions.specs.Lists.{if_then_else_, part}
 use Rattle.definitions.specs.Answers.{refused, accepted}
 use Rattle.definitions.specs.Calls.{Columns, Passed, Lent, Called, web-call}
 use Rattle.json_definitions.specs.JsonCalls.{read-call}
-use Rattle.webs_main.specs.Rows.{all-rows, refused-text}
+use Rattle.rows.specs.Rows.{all-rows, refused-text}
 
 abbrev pub room : Columns
 room = record { lines = replicate 64 0; addresses = replicate 64 0; tokens = replicate 1024 0; text = replicate 8192 0 }

@@ -1,12 +1,12 @@
 // What the program prints, behind place 0 of a lent slice.
 //
 // Contracts cite `program` of this crate's specs/Program.antt.
-use crate::rows::put_refused;
-use crate::rows::put_rows;
 use json_read::Answer;
 use json_read::read_json;
 use pseudo_ssa::Webs;
 use pseudo_ssa::recover;
+use rows::put_refused;
+use rows::put_rows;
 ghost use mathlib.Core.Path.{_≡_};
 ghost use lib.ListN.{take};
 ghost use Rattle.json_append.specs.Appended.{Appended};

@@ -3,8 +3,6 @@
 //
 // The contract is that of `answer::put_answer`: what is printed is `program` of specs/Program.antt of what is read, if it has room in `output`.
 mod answer;
-mod names;
-mod rows;
 
 fn main() {
     // One byte more than the program takes, so that a longer input shows.

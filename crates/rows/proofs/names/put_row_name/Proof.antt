@@ -1,9 +1,9 @@
--- `webs_main::names::put_row_name` meets its contract: the table holds each name at three times its row.
+-- `rows::names::put_row_name` meets its contract: the table holds each name at three times its row.
 -- Assumes nothing.
 use borrow.Author.Needs.{needs}
-use Rattle.webs_main.proofs.RowRules.{row-name-put}
-use Rattle.webs_main.proofs.names.put_row_name.Statement.{statement}
-use Rattle.webs_main.proofs.names.put_row_name.Tie as tie
+use Rattle.rows.proofs.RowRules.{row-name-put}
+use Rattle.rows.proofs.names.put_row_name.Statement.{statement}
+use Rattle.rows.proofs.names.put_row_name.Tie as tie
 
 mul-a : tie.Need-mul-a
 mul-a c = search needs

@@ -1,10 +1,10 @@
--- `webs_main::rows::put_web` meets its contract.
+-- `rows::put_web` meets its contract.
 -- Assumes nothing.
 use borrow.Author.Needs.{needs}
 use Rattle.json_append.proofs.Appends.{append-3}
-use Rattle.webs_main.proofs.RowRules.{web-is}
-use Rattle.webs_main.proofs.rows.put_web.Statement.{statement}
-use Rattle.webs_main.proofs.rows.put_web.Tie as tie
+use Rattle.rows.proofs.RowRules.{web-is}
+use Rattle.rows.proofs.put_web.Statement.{statement}
+use Rattle.rows.proofs.put_web.Tie as tie
 
 slice-aggregate-put : tie.Need-slice-aggregate-put
 slice-aggregate-put c = search needs

@@ -26,7 +26,7 @@ use Rattle.model.specs.Places.{line-start, line-end}
 use Rattle.json_definitions.specs.Writer.{decimal}
 use Rattle.json_append.specs.Appended.{most, Appended}
 use Rattle.json_append.proofs.Appends.{append-nothing, append-then, append-as}
-use Rattle.webs_main.specs.Rows.{name-of, number-text, place-text, mark-text, web-text, row-text, token-row, rows, row-at, line-rows, all-rows, refused-text}
+use Rattle.rows.specs.Rows.{name-of, number-text, place-text, mark-text, web-text, row-text, token-row, rows, row-at, line-rows, all-rows, refused-text}
 
 -- Names
 

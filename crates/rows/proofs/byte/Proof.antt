@@ -1,9 +1,9 @@
--- `webs_main::rows::byte` meets its contract.
+-- `rows::byte` meets its contract.
 -- Assumes nothing.
 use borrow.Author.Needs.{needs}
 use Rattle.model.proofs.Access.{access}
-use Rattle.webs_main.proofs.rows.byte.Statement.{statement}
-use Rattle.webs_main.proofs.rows.byte.Tie as tie
+use Rattle.rows.proofs.byte.Statement.{statement}
+use Rattle.rows.proofs.byte.Tie as tie
 
 shared-slice-read-result : tie.Need-shared-slice-read-result
 shared-slice-read-result c = search needs

@@ -1,9 +1,9 @@
--- `webs_main::rows::put_mark` meets its contract.
+-- `rows::put_mark` meets its contract.
 -- Assumes nothing.
 use borrow.Author.Needs.{needs}
-use Rattle.webs_main.proofs.RowRules.{mark-def, mark-use}
-use Rattle.webs_main.proofs.rows.put_mark.Statement.{statement}
-use Rattle.webs_main.proofs.rows.put_mark.Tie as tie
+use Rattle.rows.proofs.RowRules.{mark-def, mark-use}
+use Rattle.rows.proofs.put_mark.Statement.{statement}
+use Rattle.rows.proofs.put_mark.Tie as tie
 
 slice-aggregate-put : tie.Need-slice-aggregate-put
 slice-aggregate-put c = search needs

@@ -1,6 +1,8 @@
 // Rows, behind a place of a lent slice. Each function takes time linear in what it writes and in the tokens that it looks at.
 //
 // Contracts: `Appended` of Rattle.json_append.specs.Appended, of the texts of this crate's specs/Rows.antt.
+mod names;
+
 use crate::names::put_name;
 use family::Register;
 use family::fam_of;
@@ -19,7 +21,7 @@ ghost use Rattle.definitions.specs.Family.{fam-of};
 ghost use Rattle.family.specs.Register.{family-of};
 ghost use Rattle.model.specs.Places.{line-start};
 ghost use Rattle.json_append.specs.Appended.{Appended};
-ghost use Rattle.webs_main.specs.Rows.{name-of, number-text, place-text, mark-text, web-text, row-text, row-at, line-rows, all-rows, refused-text};
+ghost use Rattle.rows.specs.Rows.{name-of, number-text, place-text, mark-text, web-text, row-text, row-at, line-rows, all-rows, refused-text};
 
 // The number of a token without a family.
 const NO_FAMILY: usize = 4294967295;

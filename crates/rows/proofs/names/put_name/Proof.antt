@@ -1,9 +1,9 @@
--- `webs_main::names::put_name` meets its contract.
+-- `rows::names::put_name` meets its contract.
 -- Assumes nothing.
 use borrow.Author.Needs.{needs}
-use Rattle.webs_main.proofs.RowRules.{name-legacy, name-behind, name-numbered, name-var, name-nothing}
-use Rattle.webs_main.proofs.names.put_name.Statement.{statement}
-use Rattle.webs_main.proofs.names.put_name.Tie as tie
+use Rattle.rows.proofs.RowRules.{name-legacy, name-behind, name-numbered, name-var, name-nothing}
+use Rattle.rows.proofs.names.put_name.Statement.{statement}
+use Rattle.rows.proofs.names.put_name.Tie as tie
 
 enum-known-r : tie.Need-enum-known-r
 enum-known-r c = search needs

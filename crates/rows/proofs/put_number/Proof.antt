@@ -1,10 +1,10 @@
--- `webs_main::rows::put_number` meets its contract.
+-- `rows::put_number` meets its contract.
 -- Assumes nothing.
 use borrow.Author.Needs.{needs}
 use Rattle.json_append.proofs.Appends.{append-2}
-use Rattle.webs_main.proofs.RowRules.{number-is}
-use Rattle.webs_main.proofs.rows.put_number.Statement.{statement}
-use Rattle.webs_main.proofs.rows.put_number.Tie as tie
+use Rattle.rows.proofs.RowRules.{number-is}
+use Rattle.rows.proofs.put_number.Statement.{statement}
+use Rattle.rows.proofs.put_number.Tie as tie
 
 wide-requires : tie.Need-wide-requires
 wide-requires c κs = search needs

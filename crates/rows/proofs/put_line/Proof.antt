@@ -1,13 +1,13 @@
--- `webs_main::rows::put_line` meets its contract. What is written, and what is left at k, are the whole.
+-- `rows::put_line` meets its contract. What is written, and what is left at k, are the whole.
 -- Assumes nothing.
 use Prim.Native.Nat.{_-_}
 use native.Mathlib.Omega.{arith}
 use borrow.Author.Needs.{needs}
 use Rattle.model.specs.Places.{line-start}
-use Rattle.webs_main.specs.Rows.{row-at}
-use Rattle.webs_main.proofs.RowRules.{Going, going-start, going-next, line-done}
-use Rattle.webs_main.proofs.rows.put_line.Statement.{statement}
-use Rattle.webs_main.proofs.rows.put_line.Tie as tie
+use Rattle.rows.specs.Rows.{row-at}
+use Rattle.rows.proofs.RowRules.{Going, going-start, going-next, line-done}
+use Rattle.rows.proofs.put_line.Statement.{statement}
+use Rattle.rows.proofs.put_line.Tie as tie
 
 abbrev Inv-loop : tie.InvT-loop
 Inv-loop out₀ at lines tokens text numbers marks i end to₀ k₀ out to k = Going (row-at lines tokens text numbers marks i) (line-start lines i) end out₀ at out to k

@@ -1,10 +1,10 @@
--- `webs_main::rows::put_row` meets its contract.
+-- `rows::put_row` meets its contract.
 -- Assumes nothing.
 use borrow.Author.Needs.{needs}
 use Rattle.json_append.proofs.Appends.{append-2}
-use Rattle.webs_main.proofs.RowRules.{row-is}
-use Rattle.webs_main.proofs.rows.put_row.Statement.{statement}
-use Rattle.webs_main.proofs.rows.put_row.Tie as tie
+use Rattle.rows.proofs.RowRules.{row-is}
+use Rattle.rows.proofs.put_row.Statement.{statement}
+use Rattle.rows.proofs.put_row.Tie as tie
 
 token-text-requires : tie.Need-token-text-requires
 token-text-requires c κs = search needs

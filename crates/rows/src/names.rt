@@ -4,7 +4,7 @@ use json_append::bytes::put;
 ghost use Prim.Native.Nat.{_<_};
 ghost use Rattle.family.specs.Register.{row-name, family-of};
 ghost use Rattle.json_append.specs.Appended.{Appended};
-ghost use Rattle.webs_main.specs.Rows.{name-of};
+ghost use Rattle.rows.specs.Rows.{name-of};
 
 // The name of the family in row i of the table of legacy registers.
 fn put_row_name(out: &mut [u8], at: usize, i: usize) -> usize

@@ -1,9 +1,9 @@
--- `webs_main::rows::put_token` meets its contract.
+-- `rows::put_token` meets its contract.
 -- Assumes nothing.
 use borrow.Author.Needs.{needs}
-use Rattle.webs_main.proofs.RowRules.{token-none, token-some}
-use Rattle.webs_main.proofs.rows.put_token.Statement.{statement}
-use Rattle.webs_main.proofs.rows.put_token.Tie as tie
+use Rattle.rows.proofs.RowRules.{token-none, token-some}
+use Rattle.rows.proofs.put_token.Statement.{statement}
+use Rattle.rows.proofs.put_token.Tie as tie
 
 word-requires : tie.Need-word-requires
 word-requires c κs = search needs

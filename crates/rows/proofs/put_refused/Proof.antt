@@ -1,10 +1,10 @@
--- `webs_main::rows::put_refused` meets its contract.
+-- `rows::put_refused` meets its contract.
 -- Assumes nothing.
 use borrow.Author.Needs.{needs}
 use Rattle.json_append.proofs.Appends.{append-3}
-use Rattle.webs_main.proofs.RowRules.{refused-is}
-use Rattle.webs_main.proofs.rows.put_refused.Statement.{statement}
-use Rattle.webs_main.proofs.rows.put_refused.Tie as tie
+use Rattle.rows.proofs.RowRules.{refused-is}
+use Rattle.rows.proofs.put_refused.Statement.{statement}
+use Rattle.rows.proofs.put_refused.Tie as tie
 
 slice-aggregate-put : tie.Need-slice-aggregate-put
 slice-aggregate-put c = search needs

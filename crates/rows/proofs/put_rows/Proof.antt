@@ -1,14 +1,14 @@
--- `webs_main::rows::put_rows` meets its contract. What is written, and what is left at i, are the whole.
+-- `rows::put_rows` meets its contract. What is written, and what is left at i, are the whole.
 -- Assumes nothing.
 use Prim.Native.Nat.{_-_}
 use mathlib.Core.Path.{refl}
 use native.Mathlib.Omega.{arith}
 use lib.ListN.{length}
 use borrow.Author.Needs.{needs}
-use Rattle.webs_main.specs.Rows.{line-rows}
-use Rattle.webs_main.proofs.RowRules.{Going, going-start, going-next, all-done}
-use Rattle.webs_main.proofs.rows.put_rows.Statement.{statement}
-use Rattle.webs_main.proofs.rows.put_rows.Tie as tie
+use Rattle.rows.specs.Rows.{line-rows}
+use Rattle.rows.proofs.RowRules.{Going, going-start, going-next, all-done}
+use Rattle.rows.proofs.put_rows.Statement.{statement}
+use Rattle.rows.proofs.put_rows.Tie as tie
 
 abbrev Inv-loop : tie.InvT-loop
 Inv-loop out₀ lines tokens text numbers marks to₀ i₀ out to i = Going (line-rows lines tokens text numbers marks) 0 (length lines) out₀ 0 out to i

@@ -1,10 +1,10 @@
--- `webs_main::rows::put_place` meets its contract.
+-- `rows::put_place` meets its contract.
 -- Assumes nothing.
 use borrow.Author.Needs.{needs}
 use Rattle.json_append.proofs.Appends.{append-3}
-use Rattle.webs_main.proofs.RowRules.{place-is}
-use Rattle.webs_main.proofs.rows.put_place.Statement.{statement}
-use Rattle.webs_main.proofs.rows.put_place.Tie as tie
+use Rattle.rows.proofs.RowRules.{place-is}
+use Rattle.rows.proofs.put_place.Statement.{statement}
+use Rattle.rows.proofs.put_place.Tie as tie
 
 put-number-requires : tie.Need-put-number-requires
 put-number-requires c κs = search needs
