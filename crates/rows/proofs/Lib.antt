@@ -1,1 +1,4 @@
 pub mod RowRules
+mod Taken
+pub mod Room
+pub mod Accepted

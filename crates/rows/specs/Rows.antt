@@ -11,16 +11,21 @@
 --   line-rows .. i         the rows of line i
 --   all-rows ..            the rows of the listing with the columns l, t, x, the web numbers and the definition bytes
 --   refused-text n         `refused n`
+--   Short l t x w          of columns that questions 1 and 2 let pass: w is no longer than 28 bytes for each token and the text
+--   Printed w out e        the first e bytes of out are w
 -- Assumes nothing.
-use Prim.Native.Nat.{ℕ, _-_}
+use Prim.Native.Nat.{ℕ, _+_, _*_, _-_, _≤_}
+use mathlib.Core.Path.{_≡_}
+use mathlib.Core.Bool.{true}
 use mathlib.Core.List.{List, [], _++_, map}
 use mathlib.Core.Option.{Option, none, some}
 use lib.Dec.{eqb}
-use lib.ListN.{length, getD}
+use lib.ListN.{length, take, getD}
 use Rattle.definitions.specs.Lists.{if_then_else_, concat, range, ascii}
 use Rattle.definitions.specs.Model.{Token, no-token}
 use Rattle.definitions.specs.Columns.{token-list}
 use Rattle.definitions.specs.Family.{Family, fam-of}
+use Rattle.definitions.specs.Questions.{limits, question-1, question-2}
 use Rattle.definitions.specs.Answers.{no-family}
 use Rattle.model.specs.Places.{line-start, line-end}
 use Rattle.json_definitions.specs.Writer.{decimal}
@@ -62,3 +67,10 @@ module _ (l t x numbers marks : List ℕ) where
 
 unfoldable pub refused-text : ℕ → List ℕ
 refused-text n = ascii "refused " ++ (decimal n ++ ascii "\n")
+
+abbrev pub Short : List ℕ → List ℕ → List ℕ → List ℕ → Type 0
+Short l t x w = question-1 limits l t x ≡ true → question-2 l t x ≡ true → length w ≤ 28 * length t + length x
+
+pub record Printed (w out : List ℕ) (e : ℕ) : Type 0 where
+  pub bytes : take e out ≡ w
+  pub within : e ≤ length out

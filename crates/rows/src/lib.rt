@@ -1,6 +1,7 @@
 // Rows, behind a place of a lent slice. Each function takes time linear in what it writes and in the tokens that it looks at.
 //
 // Contracts: `Appended` of Rattle.json_append.specs.Appended, of the texts of this crate's specs/Rows.antt.
+pub mod columns;
 mod names;
 
 use crate::names::put_name;
@@ -14,14 +15,14 @@ use model::columns::token_kind;
 use model::columns::token_text;
 ghost use mathlib.Core.Path.{_≡_};
 ghost use Prim.Native.Nat.{_-_, _≤_};
-ghost use lib.ListN.{getD};
+ghost use lib.ListN.{length, getD};
 ghost use Rattle.definitions.specs.Model.{no-token};
 ghost use Rattle.definitions.specs.Columns.{token-list};
 ghost use Rattle.definitions.specs.Family.{fam-of};
 ghost use Rattle.family.specs.Register.{family-of};
 ghost use Rattle.model.specs.Places.{line-start};
 ghost use Rattle.json_append.specs.Appended.{Appended};
-ghost use Rattle.rows.specs.Rows.{name-of, number-text, place-text, mark-text, web-text, row-text, row-at, line-rows, all-rows, refused-text};
+ghost use Rattle.rows.specs.Rows.{name-of, number-text, place-text, mark-text, web-text, row-text, row-at, line-rows, all-rows, refused-text, Short};
 
 // The number of a token without a family.
 const NO_FAMILY: usize = 4294967295;
@@ -152,6 +153,8 @@ pub fn put_rows(
 ) -> usize
     ensures { λ e. ⌜ Appended (now (out .entry)) 0
         (all-rows (now (lines .entry)) (now (tokens .entry)) (now (text .entry)) (now (numbers .entry)) (now (marks .entry))) (now (out .exit)) e ⌝ }
+    ensures { λ _. ⌜ Short (now (lines .entry)) (now (tokens .entry)) (now (text .entry))
+        (all-rows (now (lines .entry)) (now (tokens .entry)) (now (text .entry)) (now (numbers .entry)) (now (marks .entry))) ⌝ }
 {
     let mut to = 0;
     let mut i = 0;
@@ -165,6 +168,7 @@ pub fn put_rows(
 // `refused n`.
 pub fn put_refused(out: &mut [u8], n: usize) -> usize
     ensures { λ e. ⌜ Appended (now (out .entry)) 0 (refused-text n) (now (out .exit)) e ⌝ }
+    ensures { λ _. ⌜ length (refused-text n) ≤ 29 ⌝ }
 {
     let a = put(out, 0, b"refused ");
     let b = put_decimal(out, a, wide(n));

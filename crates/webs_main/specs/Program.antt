@@ -9,7 +9,7 @@ use Prim.Native.Nat.{ℕ}
 use mathlib.Core.List.{List}
 use lib.Dec.{ltb}
 use lib.ListN.{length, replicate, take}
-use Rattle.definitions.specs.Lists.{if_then_else_, part}
+use Rattle.definitions.specs.Lists.{if_then_else_}
 use Rattle.definitions.specs.Answers.{refused, accepted}
 use Rattle.definitions.specs.Calls.{Columns, Passed, Lent, Called, web-call}
 use Rattle.json_definitions.specs.JsonCalls.{read-call}
@@ -30,7 +30,7 @@ columns-text l t x = webs-text l t x (web-call l t x web-room)
 unfoldable pub read-text : Passed → List ℕ
 read-text p = elim (p .answer) [
   | refused n ↦ refused-text n
-  | accepted n ↦ columns-text (take (n .lines) (p .out .lines)) (take (n .tokens) (p .out .tokens)) (part 0 (n .text) (p .out .text))
+  | accepted n ↦ columns-text (take (n .lines) (p .out .lines)) (take (n .tokens) (p .out .tokens)) (take (n .text) (p .out .text))
 ]
 
 unfoldable pub program : List ℕ → List ℕ

@@ -5,11 +5,13 @@ use json_read::Answer;
 use json_read::read_json;
 use pseudo_ssa::Webs;
 use pseudo_ssa::recover;
+use rows::columns::first;
+use rows::columns::first_bytes;
 use rows::put_refused;
 use rows::put_rows;
-ghost use mathlib.Core.Path.{_≡_};
-ghost use lib.ListN.{take};
-ghost use Rattle.json_append.specs.Appended.{Appended};
+ghost use Prim.Native.Nat.{_≤_};
+ghost use lib.ListN.{length};
+ghost use Rattle.rows.specs.Rows.{Printed};
 ghost use Rattle.webs_main.specs.Program.{columns-text, program};
 
 // The most bytes of input.
@@ -17,7 +19,8 @@ const MOST_INPUT: usize = 32768;
 
 // The answer of the web call, made with room for 1,024 tokens and working space for 64 lines.
 fn put_webs(out: &mut [u8], lines: &[u32], tokens: &[u32], text: &[u8]) -> usize
-    ensures { λ e. ⌜ Appended (now (out .entry)) 0 (columns-text (now (lines .entry)) (now (tokens .entry)) (now (text .entry))) (now (out .exit)) e ⌝ }
+    requires { ⌜ (36864 ≤ length (now out)) × (length (now tokens) ≤ 1024) × (length (now text) ≤ 8192) ⌝ }
+    ensures { λ e. ⌜ Printed (columns-text (now (lines .entry)) (now (tokens .entry)) (now (text .entry))) (now (out .exit)) e ⌝ }
 {
     let mut numbers = [0u32; 1024];
     let mut marks = [0u8; 1024];
@@ -28,16 +31,10 @@ fn put_webs(out: &mut [u8], lines: &[u32], tokens: &[u32], text: &[u8]) -> usize
     }
 }
 
-// The first n words, as many of them as there are.
-fn first(words: &[u32], n: usize) -> &[u32]
-    ensures { λ r. ⌜ now r ≡ take n (now (words .entry)) ⌝ }
-{
-    if n <= words.len() { &words[..n] } else { words }
-}
-
-// What the program prints on the input s.
+// What the program prints on the input s. The room is 28 bytes for each of 1,024 tokens, and 8,192 bytes of text.
 pub fn put_answer(out: &mut [u8], s: &[u8]) -> usize
-    ensures { λ e. ⌜ Appended (now (out .entry)) 0 (program (now (s .entry))) (now (out .exit)) e ⌝ }
+    requires { ⌜ 36864 ≤ length (now out) ⌝ }
+    ensures { λ e. ⌜ Printed (program (now (s .entry))) (now (out .exit)) e ⌝ }
 {
     let mut lines = [0u32; 64];
     let mut addresses = [0u64; 64];
@@ -51,7 +48,7 @@ pub fn put_answer(out: &mut [u8], s: &[u8]) -> usize
             out,
             first(&lines, k),
             first(&tokens, n),
-            text::part(&text, 0, x),
+            first_bytes(&text, x),
         ),
         Answer::Refused => put_refused(out, 10),
     }

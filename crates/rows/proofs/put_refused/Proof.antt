@@ -3,6 +3,8 @@
 use borrow.Author.Needs.{needs}
 use Rattle.json_append.proofs.Appends.{append-3}
 use Rattle.rows.proofs.RowRules.{refused-is}
+use native.Mathlib.Omega.{arith}
+use Rattle.rows.proofs.Room.{refused-short}
 use Rattle.rows.proofs.put_refused.Statement.{statement}
 use Rattle.rows.proofs.put_refused.Tie as tie
 
@@ -28,7 +30,7 @@ same-length : tie.Need-same-length
 same-length c = search needs
 
 returns : tie.Need-returns
-returns c = search (append-3, refused-is, needs)
+returns c = (search (append-3, refused-is, needs), refused-short _ (omega arith))
 
 pub put-refused-spec : {M : Type 1} → statement M
 put-refused-spec =

@@ -7,6 +7,7 @@ use lib.ListN.{length}
 use borrow.Author.Needs.{needs}
 use Rattle.rows.specs.Rows.{line-rows}
 use Rattle.rows.proofs.RowRules.{Going, going-start, going-next, all-done}
+use Rattle.rows.proofs.Room.{rows-short}
 use Rattle.rows.proofs.put_rows.Statement.{statement}
 use Rattle.rows.proofs.put_rows.Tie as tie
 
@@ -35,7 +36,7 @@ same-length : tie.Need-same-length Inv-loop μ-loop
 same-length c = search needs
 
 returns : tie.Need-returns Inv-loop μ-loop
-returns c = search (all-done, needs)
+returns c = (search (all-done, needs), rows-short _ _ _ _ _ (c .before .before .before .shared-slice-known4 .given))
 
 pub put-rows-spec : {M : Type 1} → statement M
 put-rows-spec =

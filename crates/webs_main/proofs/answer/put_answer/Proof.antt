@@ -1,7 +1,7 @@
 -- `webs_main::answer::put_answer` meets its contract.
 -- Assumes nothing.
 use borrow.Author.Needs.{needs}
-use Rattle.webs_main.proofs.AnswerRules.{program-long, read-accepted, read-refused}
+use Rattle.webs_main.proofs.AnswerRules.{refused-printed, program-long, read-accepted, read-refused}
 use Rattle.webs_main.proofs.answer.put_answer.Statement.{statement}
 use Rattle.webs_main.proofs.answer.put_answer.Tie as tie
 
@@ -12,7 +12,7 @@ same-length : tie.Need-same-length
 same-length c = search needs
 
 returns : tie.Need-returns
-returns c = search (program-long, needs)
+returns c = search (refused-printed, program-long, needs)
 
 slice-aggregate-read-json : tie.Need-slice-aggregate-read-json
 slice-aggregate-read-json c = search needs
@@ -44,11 +44,11 @@ slice-aggregate-first-2 c = search needs
 first-requires-2 : tie.Need-first-requires-2
 first-requires-2 c κs = search needs
 
-slice-aggregate-part : tie.Need-slice-aggregate-part
-slice-aggregate-part c = search needs
+slice-aggregate-first-bytes : tie.Need-slice-aggregate-first-bytes
+slice-aggregate-first-bytes c = search needs
 
-part-requires : tie.Need-part-requires
-part-requires c κs = search needs
+first-bytes-requires : tie.Need-first-bytes-requires
+first-bytes-requires c κs = search needs
 
 put-webs-requires : tie.Need-put-webs-requires
 put-webs-requires c κs = search needs
@@ -69,7 +69,7 @@ same-length-3 : tie.Need-same-length-3
 same-length-3 c = search needs
 
 returns-3 : tie.Need-returns-3
-returns-3 c = search (read-accepted, read-refused, needs)
+returns-3 c = search (refused-printed, read-accepted, read-refused, needs)
 
 pub put-answer-spec : {M : Type 1} → statement M
 put-answer-spec =
@@ -88,8 +88,8 @@ put-answer-spec =
     first-requires
     slice-aggregate-first-2
     first-requires-2
-    slice-aggregate-part
-    part-requires
+    slice-aggregate-first-bytes
+    first-bytes-requires
     put-webs-requires
     enum-told
     put-refused-requires-2

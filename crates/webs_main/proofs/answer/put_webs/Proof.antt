@@ -1,7 +1,7 @@
 -- `webs_main::answer::put_webs` meets its contract.
 -- Assumes nothing.
 use borrow.Author.Needs.{needs}
-use Rattle.webs_main.proofs.AnswerRules.{webs-accepted, webs-refused}
+use Rattle.webs_main.proofs.AnswerRules.{refused-printed, webs-accepted, webs-refused}
 use Rattle.webs_main.proofs.answer.put_webs.Statement.{statement}
 use Rattle.webs_main.proofs.answer.put_webs.Tie as tie
 
@@ -45,7 +45,7 @@ same-length-2 : tie.Need-same-length-2
 same-length-2 c = search needs
 
 returns-2 : tie.Need-returns-2
-returns-2 c = search (webs-accepted, webs-refused, needs)
+returns-2 c = search (refused-printed, webs-accepted, webs-refused, needs)
 
 pub put-webs-spec : {M : Type 1} → statement M
 put-webs-spec =
