@@ -2,12 +2,14 @@
 //!
 //! Prints each difference with the file's name, last `N listings, M differences`; exit status 0 only for 0 differences.
 //! WORD: `leaves`, the reading layer function by function; `webs`, `splits`, `choose`, `recover_loops` and `recover_goto_loops`, those
-//! calls with every lent word; `passes`, the goto pass, then the loop pass; `json`, the reader and writer on each text and on damaged copies of it.
+//! calls with every lent word; `passes`, the goto pass, then the loop pass; `json`, the reader and writer on each text and on damaged
+//! copies of it; `program`, what the web program prints on each text.
 
 mod leaves;
 mod lent;
 mod numbers;
 mod passes;
+mod program;
 mod texts;
 
 use std::error::Error;
@@ -36,7 +38,8 @@ fn main() -> Result<ExitCode, Box<dyn Error>> {
         "recover_goto_loops" => Comparison::Listing(passes::recover_goto_loops),
         "passes" => Comparison::Listing(passes::passes),
         "json" => Comparison::Text(texts::differences),
-        _ => return Err(format!("{word}: the words are: leaves, webs, splits, choose, recover_loops, recover_goto_loops, passes, json").into()),
+        "program" => Comparison::Text(program::differences),
+        _ => return Err(format!("{word}: the words are: leaves, webs, splits, choose, recover_loops, recover_goto_loops, passes, json, program").into()),
     };
     let (mut listings, mut lines, mut wrong) = (0, 0, 0);
     for file in json::files(Path::new(dir))? {

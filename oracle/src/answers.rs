@@ -83,6 +83,15 @@ pub fn family_name(token: &Token) -> Option<String> {
     fam_of(token).map(|(family, _)| family)
 }
 
+/// Rows `line token family#web D|U`, one for each token with a family.
+pub fn rows(lines: &[PseudoLine], webs: &Webs) -> String {
+    let tokens = lines.iter().enumerate().flat_map(|(i, l)| l.tokens.iter().enumerate().map(move |(k, t)| (i, k, t)));
+    let row = |((i, k, t), (number, mark)): ((usize, usize, &Token), (&u32, &u8))| {
+        family_name(t).map(|family| format!("{i} {k} {family}#{number} {}\n", if *mark == 1 { 'D' } else { 'U' }))
+    };
+    tokens.zip(webs.numbers.iter().zip(&webs.marks)).filter_map(row).collect()
+}
+
 fn entries(lines: &[PseudoLine], seg: &Seg, sweeps: u64) -> Webs {
     let tokens = lines.iter().enumerate().flat_map(|(i, l)| l.tokens.iter().enumerate().map(move |(k, t)| (i, k, t)));
     let (numbers, marks) = tokens.map(|(i, k, t)| entry(seg, i, k, t)).unzip();

@@ -3,7 +3,7 @@
 use std::error::Error;
 use std::fs;
 
-use oracle::answers::{self, family_name, NO_FAMILY};
+use oracle::answers;
 use oracle::json;
 use oracle::pseudo::PseudoLine;
 
@@ -34,18 +34,9 @@ fn show_pass(name: &str, before: &[PseudoLine], after: Result<Vec<PseudoLine>, u
     }
 }
 
-/// Rows `line token family#web D|U`, one for each token with a family.
 fn show_webs(lines: &[PseudoLine]) {
-    let webs = match answers::webs(lines) {
-        Ok(webs) => webs,
-        Err(number) => return println!("webs: refused {number}"),
-    };
-    println!("webs, after {} sweeps:", webs.sweeps);
-    let places = lines.iter().enumerate().flat_map(|(i, l)| (0..l.tokens.len()).map(move |k| (i, k)));
-    for (((i, k), number), mark) in places.zip(&webs.numbers).zip(&webs.marks) {
-        if *number != NO_FAMILY {
-            let family = family_name(&lines[i].tokens[k]).expect("a token with a number has a family");
-            println!("{i} {k} {family}#{number} {}", if *mark == 1 { 'D' } else { 'U' });
-        }
+    match answers::webs(lines) {
+        Ok(webs) => print!("webs, after {} sweeps:\n{}", webs.sweeps, answers::rows(lines, &webs)),
+        Err(number) => println!("webs: refused {number}"),
     }
 }

@@ -1,0 +1,90 @@
+-- The command as a function from the bytes that it reads to what it prints, or to the number of its refusal.
+--   told r out                    what the answer r says, with what stands in the slice `out`
+--   rows-of l t x c               the rows of the answer c of a call that numbers the tokens of the columns l, t, x
+--   chosen-line a                 the first line of the chooser's answer
+--   webs-answer, splits-answer, choose-answer, loops-answer    what a word answers to a listing in columns
+--   loops-in lent .., answer-in lent ..    the same with the columns `lent` lent
+--   json-answer out c             the JSON of the listing in the columns c, in a slice that holds `out` before
+--   word-answer w out c           what the word w answers; `check` prints as it goes, and nothing after that
+--   answer w out n                what the word w answers to the first n bytes of the slice
+-- Assumes nothing.
+use Prim.Native.Nat.{ℕ}
+use mathlib.Core.List.{List, [], _++_}
+use lib.ListN.{take}
+use Rattle.definitions.specs.Lists.{ascii}
+use Rattle.definitions.specs.Questions.{Limits}
+use Rattle.definitions.specs.Answers.{Answer, refused, accepted, loops}
+use Rattle.definitions.specs.Calls.{Columns, Passed, Lent, Called, Chosen, by-webs, by-splits, pass-call, web-call, split-call, choose-call}
+use Rattle.json_definitions.specs.JsonCalls.{Written, read-call, write-call}
+use Rattle.rows.specs.Rows.{all-rows}
+use Rattle.javrenzu.specs.Room.{room, lent-room, split-room, pass-room}
+use Rattle.javrenzu.specs.declared.calls.Said.{Said}
+use Rattle.javrenzu.specs.declared.calls.Said.the-variants.{Text, ByWebs, BySplits, Refused}
+use Rattle.javrenzu.specs.declared.words.Word.{Word}
+use Rattle.javrenzu.specs.declared.words.Word.the-variants.{Webs, Splits, Choose, RecoverLoops, Check, Help, Unknown}
+
+abbrev pub told : Said → List ℕ → Answer (List ℕ)
+told (Text e) out = accepted (take e out)
+told (ByWebs e) out = accepted (ascii "webs\n" ++ take e out)
+told (BySplits e) out = accepted (ascii "splits\n" ++ take e out)
+told (Refused n) out = refused n
+
+-- Rows
+
+unfoldable pub rows-of : {A : Type 0} → List ℕ → List ℕ → List ℕ → (A → List ℕ) → Called A → Answer (List ℕ)
+rows-of l t x head c = elim (c .answer) [ refused n ↦ refused n | accepted a ↦ accepted (head a ++ all-rows l t x (c .lent .numbers) (c .lent .marks)) ]
+
+abbrev pub chosen-line : Chosen → List ℕ
+chosen-line (by-webs sweeps) = ascii "webs\n"
+chosen-line by-splits = ascii "splits\n"
+
+unfoldable pub webs-answer : List ℕ → List ℕ → List ℕ → Answer (List ℕ)
+webs-answer l t x = rows-of l t x (λ sweeps. []) (web-call l t x lent-room)
+
+unfoldable pub splits-answer : List ℕ → List ℕ → List ℕ → Answer (List ℕ)
+splits-answer l t x = rows-of l t x (λ _. []) (split-call l t x split-room)
+
+unfoldable pub choose-answer : List ℕ → List ℕ → List ℕ → Answer (List ℕ)
+choose-answer l t x = rows-of l t x chosen-line (choose-call l t x lent-room)
+
+-- JSON
+
+abbrev pub cut : Limits → Columns → Columns
+cut n c = record { lines = take (n .lines) (c .lines); addresses = take (n .lines) (c .addresses); tokens = take (n .tokens) (c .tokens); text = take (n .text) (c .text) }
+
+unfoldable pub written-text : Written → Answer (List ℕ)
+written-text w = elim (w .answer) [ refused n ↦ refused n | accepted e ↦ accepted (take e (w .out)) ]
+
+abbrev pub json-answer : List ℕ → Columns → Answer (List ℕ)
+json-answer out c = written-text (write-call c out)
+
+unfoldable pub passed-text : List ℕ → Passed → Answer (List ℕ)
+passed-text out p = elim (p .answer) [ refused n ↦ refused n | accepted n ↦ json-answer out (cut n (p .out)) ]
+
+-- the pass with these columns lent
+abbrev pub loops-in : Columns → List ℕ → Columns → Answer (List ℕ)
+loops-in lent out c = passed-text out (pass-call loops c lent)
+
+abbrev pub loops-answer : List ℕ → Columns → Answer (List ℕ)
+loops-answer out c = loops-in pass-room out c
+
+-- The command
+
+abbrev pub word-answer : Word → List ℕ → Columns → Answer (List ℕ)
+word-answer Webs out c = webs-answer (c .lines) (c .tokens) (c .text)
+word-answer Splits out c = splits-answer (c .lines) (c .tokens) (c .text)
+word-answer Choose out c = choose-answer (c .lines) (c .tokens) (c .text)
+word-answer RecoverLoops out c = loops-answer out c
+word-answer Check out c = accepted []
+word-answer Help out c = accepted []
+word-answer Unknown out c = accepted []
+
+unfoldable pub read-answer : Word → List ℕ → Passed → Answer (List ℕ)
+read-answer w out p = elim (p .answer) [ refused n ↦ refused n | accepted n ↦ word-answer w out (cut n (p .out)) ]
+
+-- with these columns lent to the reader
+abbrev pub answer-in : Columns → Word → List ℕ → ℕ → Answer (List ℕ)
+answer-in lent w out n = read-answer w out (read-call (take n out) lent)
+
+abbrev pub answer : Word → List ℕ → ℕ → Answer (List ℕ)
+answer w out n = answer-in room w out n
