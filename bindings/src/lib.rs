@@ -1,4 +1,7 @@
 //! The proved calls. A listing is lent as columns of words; what a call writes, and when, is in include/javrenzu.h.
+//! `engine` has them with the engine's own types and signatures.
+
+pub mod engine;
 
 /// The number of the question that a listing, an output, a working space or a text was refused by, 1 to 10.
 pub type Refusal = u8;
@@ -22,7 +25,8 @@ pub const fn working_space(n: usize) -> usize {
     4 * n * n.div_ceil(64) + 8 * n + 64
 }
 
-mod library {
+/// The library's functions as C sees them; a slice is a pointer and a length.
+pub mod library {
     extern "C" {
         #[allow(clippy::too_many_arguments)] // a slice is a pointer and a length
         pub fn javrenzu_webs(

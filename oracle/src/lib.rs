@@ -8,6 +8,7 @@
 //! | `columns` | a listing as four columns of words, and back |
 //! | `questions` | the questions of document 01 and each call's refusal |
 //! | `answers` | the reference answers of one listing |
+//! | `variables` | `Seg` with `key` and `starts`, for any arguments |
 //! | `leaves` | the original, function by function |
 //! | `json` | strict reader and writer of document 01's JSON |
 //! | `notation` | a line from its text, split into tokens as the original prints it |
@@ -31,6 +32,7 @@ pub mod questions;
 pub mod random;
 mod sweeps;
 pub mod theorems;
+pub mod variables;
 pub mod vectors;
 
 pub use sweeps::sweeps;
