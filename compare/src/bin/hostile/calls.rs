@@ -5,7 +5,7 @@ use javrenzu::working_space;
 use oracle::answers::{self, Choice, Webs};
 use oracle::columns::{decode, encode, Columns};
 use oracle::json;
-use oracle::passes::Pass;
+use oracle::passes::{self, Pass};
 use oracle::pseudo::PseudoLine;
 use oracle::questions::{refuse_choose, refuse_json_reader, refuse_json_writer, refuse_pass, refuse_splits, refuse_webs, LentEntries};
 use oracle::random::Random;
@@ -198,18 +198,28 @@ impl Output {
     }
 }
 
+/// A loop pass as C sees it.
+type PassFunction = unsafe extern "C" fn(
+    *const u32, usize, *const u64, usize, *const u32, usize, *const u8, usize,
+    *mut u32, usize, *mut u64, usize, *mut u32, usize, *mut u8, usize, *mut usize, *mut usize, *mut usize,
+) -> usize;
+
 fn recover_loops(r: &mut Random, guard: usize) -> Outcome {
+    pass(r, guard, Pass::Loops, library::javrenzu_recover_loops)
+}
+
+fn pass(r: &mut Random, guard: usize, pass: Pass, function: PassFunction) -> Outcome {
     let c = inputs::columns(r);
     let n = c.lines.len();
     let (mut l, mut out) = (Input::of(&c, r, guard), Output::around(n, c.tokens.len() + 8 * n, c.text.len() + 32 * n, r, guard));
-    let want = match refuse_pass(&c, out.lengths(), Pass::Loops) {
+    let want = match refuse_pass(&c, out.lengths(), pass) {
         Some(number) => Err(number),
-        None => answers::recover_loops(&decode(&c)).map(|lines| encode(&lines)),
+        None => Ok(encode(&passes::run(pass, &decode(&c)).expect("question 6 was asked"))),
     };
     let [nlines, ntokens, nbytes] = &mut out.counts;
     // SAFETY: as in `webs`.
     let refusal = unsafe {
-        library::javrenzu_recover_loops(
+        function(
             l.lines.pointer(), l.lines.len(), l.addresses.pointer(), l.addresses.len(), l.tokens.pointer(), l.tokens.len(),
             l.text.pointer(), l.text.len(), out.lines.pointer(), out.lines.len(), out.addresses.pointer(), out.addresses.len(),
             out.tokens.pointer(), out.tokens.len(), out.text.pointer(), out.text.len(), nlines.pointer(), ntokens.pointer(), nbytes.pointer(),
