@@ -70,7 +70,7 @@ impl Columns {
         let (mut token_start, mut text_start) = (0, 0);
         let mut token = |&word: &u32| {
             let text_end = (word / 256) as usize;
-            let t = std::str::from_utf8(&self.text[text_start..text_end]).expect("a pass leaves UTF-8 (theorem recover-loops-utf8)").to_string();
+            let t = std::str::from_utf8(&self.text[text_start..text_end]).expect("a pass leaves UTF-8 (loop_theory/proofs/Utf8Kept.antt)").to_string();
             text_start = text_end;
             Token { t, k: KINDS[(word % 256) as usize] }
         };
