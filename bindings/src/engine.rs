@@ -8,7 +8,7 @@ mod columns;
 mod passes;
 mod variables;
 
-pub use passes::{recover_loops, try_recover_loops};
+pub use passes::{recover_goto_loops, recover_loops, try_recover_goto_loops, try_recover_loops};
 pub use variables::{recover, split_points, try_recover, try_split_points, Seg, Webs};
 
 /// Token classes, in the order of their numbers 0 to 7.

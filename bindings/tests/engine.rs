@@ -49,6 +49,8 @@ struct Pass {
 }
 
 const LOOPS: Pass = Pass { original: answers::recover_loops, plain: engine::recover_loops, tried: engine::try_recover_loops };
+const GOTO_LOOPS: Pass =
+    Pass { original: answers::recover_goto_loops, plain: engine::recover_goto_loops, tried: engine::try_recover_goto_loops };
 
 /// The listing after the pass, which both forms must leave; as it was where the pass refuses.
 fn passed(pass: &Pass, lines: &[OriginalLine]) -> Vec<OriginalLine> {
@@ -123,8 +125,7 @@ fn the_engines_order() {
             let lines = listing(kind, SEED, index);
             variables(&lines);
             passed(&LOOPS, &lines);
-            let lines = answers::recover_goto_loops(&lines).unwrap_or(lines);
-            variables(&passed(&LOOPS, &lines));
+            variables(&passed(&LOOPS, &passed(&GOTO_LOOPS, &lines)));
         }
         println!("{kind:?}: {} listings of seed {SEED}", count * times);
     }
@@ -156,6 +157,7 @@ fn sized(lines: usize, tokens: usize, text: usize) -> Vec<engine::PseudoLine> {
 fn limits_are_those_of_question_1() {
     let most = sized(MAX_LINES, MAX_TOKENS, MAX_TEXT);
     assert_eq!(engine::try_recover_loops(&mut most.clone()), Ok(()));
+    assert_eq!(engine::try_recover_goto_loops(&mut most.clone()), Ok(()));
     assert!(engine::try_recover(&most).is_ok());
     let beyond = [
         sized(MAX_LINES + 1, MAX_TOKENS, MAX_TEXT),
@@ -167,6 +169,8 @@ fn limits_are_those_of_question_1() {
         let mut after = lines.clone();
         engine::recover_loops(&mut after);
         assert_eq!(engine::try_recover_loops(&mut after), Err(1));
+        engine::recover_goto_loops(&mut after);
+        assert_eq!(engine::try_recover_goto_loops(&mut after), Err(1));
         assert_eq!(after, lines);
         assert_eq!(engine::try_recover(&lines).err(), Some(1));
         assert!(engine::recover(&lines).is_none());

@@ -14,6 +14,16 @@ pub fn try_recover_loops(lines: &mut Vec<PseudoLine>) -> Result<(), Refusal> {
     rewrite(lines, crate::recover_loops)
 }
 
+/// Backward gotos made `while` and `for`; a listing that is refused stays as it was.
+pub fn recover_goto_loops(lines: &mut Vec<PseudoLine>) {
+    _ = try_recover_goto_loops(lines);
+}
+
+/// `recover_goto_loops`, or its refusal, as `try_recover_loops`.
+pub fn try_recover_goto_loops(lines: &mut Vec<PseudoLine>) -> Result<(), Refusal> {
+    rewrite(lines, crate::recover_goto_loops)
+}
+
 fn rewrite(lines: &mut Vec<PseudoLine>, pass: fn(Listing, &[u64], Destination) -> Result<Counts, Refusal>) -> Result<(), Refusal> {
     let columns = Columns::of(lines)?;
     let mut room = columns.room();
