@@ -1,7 +1,7 @@
 //! The engine's own calls on a short listing: a guarded do-while loop becomes a `for`, then each register is printed with its variable.
 //!   cargo run --release --offline --manifest-path bindings/Cargo.toml --example engine
 
-use javrenzu::engine::{recover_loops, PseudoLine, Seg, Token, TokenKind};
+use javrenzu::engine::{recover_goto_loops, recover_loops, PseudoLine, Seg, Token, TokenKind};
 
 /// A line of tokens, each with the first letter of its kind.
 fn line(indent: u8, tokens: &[(&str, char)]) -> PseudoLine {
@@ -31,6 +31,7 @@ fn main() {
         line(1, &[("return", 'k'), (" ", 'p'), ("rcx", 'r'), (";", 'p')]),
         line(0, &[("}", 'p')]),
     ];
+    recover_goto_loops(&mut lines);
     recover_loops(&mut lines);
     let seg = Seg::new(&lines, true);
     for (i, l) in lines.iter().enumerate() {

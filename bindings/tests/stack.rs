@@ -1,6 +1,6 @@
 //! No theorem bounds the stack, so it is measured: every call runs within a stack of 128 KiB, on listings of full size and of all other kinds.
 
-use javrenzu::{choose, read_json, recover_loops, splits, webs, working_space, write_json, Destination, Listing};
+use javrenzu::{choose, read_json, recover_goto_loops, recover_loops, splits, webs, working_space, write_json, Destination, Listing};
 use oracle::columns::{encode, Columns};
 use oracle::generate::{listing, Kind};
 
@@ -15,6 +15,7 @@ fn every_call(c: &Columns) {
     assert!(splits(listing, &mut numbers, &mut marks).is_ok());
     let (mut lines, mut addresses, mut tokens, mut text) = (vec![0; n], vec![0; n], vec![0; t + 8 * n], vec![0; x + 32 * n]);
     _ = recover_loops(listing, &c.addresses, Destination { lines: &mut lines, addresses: &mut addresses, tokens: &mut tokens, text: &mut text });
+    _ = recover_goto_loops(listing, &c.addresses, Destination { lines: &mut lines, addresses: &mut addresses, tokens: &mut tokens, text: &mut text });
     let mut json = vec![0; 100 * n + 64 * t + 6 * x + 2];
     let length = write_json(listing, &c.addresses, &mut json).expect("the text has room");
     let out = Destination { lines: &mut lines, addresses: &mut addresses, tokens: &mut tokens, text: &mut text };

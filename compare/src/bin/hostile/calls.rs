@@ -21,11 +21,12 @@ pub struct Outcome {
 
 type Call = fn(&mut Random, usize) -> Outcome;
 
-pub const CALLS: [(&str, Call); 6] = [
+pub const CALLS: [(&str, Call); 7] = [
     ("javrenzu_webs", webs),
     ("javrenzu_splits", splits),
     ("javrenzu_choose", choose),
     ("javrenzu_recover_loops", recover_loops),
+    ("javrenzu_recover_goto_loops", recover_goto_loops),
     ("javrenzu_read_json", read_json),
     ("javrenzu_write_json", write_json),
 ];
@@ -206,6 +207,10 @@ type PassFunction = unsafe extern "C" fn(
 
 fn recover_loops(r: &mut Random, guard: usize) -> Outcome {
     pass(r, guard, Pass::Loops, library::javrenzu_recover_loops)
+}
+
+fn recover_goto_loops(r: &mut Random, guard: usize) -> Outcome {
+    pass(r, guard, Pass::GotoLoops, library::javrenzu_recover_goto_loops)
 }
 
 fn pass(r: &mut Random, guard: usize, pass: Pass, function: PassFunction) -> Outcome {

@@ -48,9 +48,9 @@ fn main() -> Result<ExitCode, Box<dyn Error>> {
             outcome.faults.iter().for_each(|fault| println!("call {index}, {name}: {fault}"));
         }
     }
-    println!("{:<24}{:>9}{}", "function", "accepted", (1..=10).map(|n| format!("{n:>9}")).collect::<String>());
+    println!("{:<28}{:>9}{}", "function", "accepted", (1..=10).map(|n| format!("{n:>9}")).collect::<String>());
     for (name, counts) in answered {
-        println!("{name:<24}{}", counts.map(|n| format!("{n:>9}")).concat());
+        println!("{name:<28}{}", counts.map(|n| format!("{n:>9}")).concat());
     }
     println!("{count} calls, {faults} faults");
     Ok(ExitCode::from(u8::from(faults != 0)))
