@@ -1,27 +1,39 @@
--- The place of a text among the legacy names and the high bytes, by its two or three letters.
+-- The table of names and the place that a hash gives: what is computed once, over the whole table, and the rules for the functions that look
+-- into it.
+--   letters-two, letters-three, letters-count    the name in a cell
 --   below                what a test finds of every number below n
---   letter-some, two-low, two-high, two-none, two-other, three-r, three-e, three-low    rules for the functions by letters
---   letter-known, letters-known, two-known, three-known    letters that have a place are the name there
---   own-place, place-own    the place of the name at each place, as is computed
---   place-right          so `place-by` finds the place of every text
---   length-two, length-three, length-other    the same, by the length of the text
---   row-of               the name of a family stands in the first column
+--   cell-is              the cell at place p holds the name at place p
+--   byte-past            no byte past the end
+--   place-start, place-least, place-only   an entry of the hashes is a place, that of the name with this hash
+--   place-found, place-none   the text is the name at that place; it is not, so it is no name
+--   first-row            the name of a family stands in the first column
 -- Assumes nothing.
 use mathlib.Core.Path.{_≡_, refl, sym, ap, _∙_}
 use mathlib.Core.Bool.{Bool, true, false, _&&_, cond}
-use mathlib.Core.List.{List, [], _∷_, _++_}
+use mathlib.Core.List.{List, [], _∷_}
 use mathlib.Core.Option.{Option, none, some, Option·map}
-use Prim.Native.Nat.{ℕ, zero, suc, _+_, _-_, _*_, _≤_, _<_}
-use native.Mathlib.Decide.{decLt}
+use Prim.Native.Nat.{ℕ, zero, suc, _+_, _-_, _*_, _/_, _%_, _≤_, _<_}
 use native.Mathlib.Nat.{add-zero, add-suc, suc-add, zero-add, le-of-suc-le-suc, not-suc-le-zero}
-use lib.Dec.{eqb, ltb}
+use lib.Dec.{eqb, leb, ltb}
 use native.Mathlib.Omega.{arith}
-use borrow.Author.Tests.{eq-eqb, ne-eqb, eqb-true, eqb-false, lt-ltb, le-ltb, ltb-true, ltb-false}
-use lib.ListN.{length, getD}
+use borrow.Author.Tests.{eq-eqb, ne-eqb, eqb-true, lt-ltb, leb-true, ltb-true}
+use lib.ListN.{length, getD, take, length-take, List·getD-eq-default}
 use Rattle.definitions.specs.Lists.{_==_, all, range, up-to, position, concat}
 use Rattle.definitions.specs.Family.{legacy}
-use Rattle.text.proofs.Texts.{==-eq, eq-==, ne-==}
-use Rattle.family.specs.Register.{letter-row, letters-row, place-at, place-two, place-three, place-by, all-names, name-at, found, row-name}
+use Rattle.text.proofs.Texts.{==-eq}
+use Rattle.family.specs.Register.{letters, all-names, name-at, hash, found, row-name}
+
+-- The name in a cell
+
+module _ (s cell : List ℕ) (r : Bool) where
+  pub letters-two : getD cell 2 0 ≡ 0 → r ≡ (s == take 2 cell) → r ≡ (s == letters cell)
+  letters-two h e = rw (eq-eqb (getD cell 2 0) 0 h) e
+
+  pub letters-three : (getD cell 2 0 ≡ 0 → ⊥) → r ≡ (s == cell) → r ≡ (s == letters cell)
+  letters-three h e = rw (ne-eqb (getD cell 2 0) 0 h) e
+
+pub letters-count : (cell : List ℕ) → length cell ≡ 3 → length (take 2 cell) ≡ 2
+letters-count cell h = rw length-take (omega arith)
 
 -- A test of every number below n
 
@@ -43,170 +55,36 @@ range-at p a (suc n) (suc i) t h =
 pub below : (p : ℕ → Bool) (n i : ℕ) → all p (up-to n) ≡ true → i < n → p i ≡ true
 below p n i t h = rw zero-add at (range-at p 0 n i t h)
 
--- The functions, by the tests that led to an answer
+-- The cells
 
-pub letter-some : (a w : ℕ) → w ≡ a → 97 ≤ a → a ≤ 100 → w - 97 ≡ letter-row a
-letter-some a w e h g = rw (le-ltb a 97 h, le-ltb 100 a g, e)
+abbrev cell-right : List (List (List ℕ)) → List (List ℕ) → List ℕ → ℕ → Bool
+cell-right t d e p = letters (getD (getD t (p / 4) d) (p % 4) e) == name-at p
 
-module _ (a b i : ℕ) where
-  module _ (e : i ≡ letter-row a) where
-    pub two-low : (r : ℕ) → b ≡ 108 → r ≡ place-at i 3 → r ≡ place-two a b
-    unfolding place-two
-    two-low r h q = rw (h, ← e) q
+pub cell-is : (t : List (List (List ℕ))) (d : List (List ℕ)) (e : List ℕ) (p : ℕ) (s : List ℕ) (r : Bool)
+    → all (cell-right t d e) (up-to 36) ≡ true → p < 36 → r ≡ (s == letters (getD (getD t (p / 4) d) (p % 4) e)) → r ≡ (s == name-at p)
+cell-is t d e p s r right h q =
+    q ∙ ap (s ==_) (==-eq (letters (getD (getD t (p / 4) d) (p % 4) e)) (name-at p) (below (cell-right t d e) 36 p right h))
 
-    module _ (h : b ≡ 104) where
-      pub two-high : i < 8 → 32 + i ≡ place-two a b
-      unfolding place-two
-      two-high g = rw (h, ← e, lt-ltb i 8 g)
-
-      pub two-none : 8 ≤ i → 36 ≡ place-two a b
-      unfolding place-two
-      two-none g = rw (h, ← e, le-ltb i 8 g)
-
-  pub two-other : (r : ℕ) → (b ≡ 108 → ⊥) → (b ≡ 104 → ⊥) → i ≡ letters-row a b → r ≡ place-at i 2 → r ≡ place-two a b
-  unfolding place-two
-  two-other r h g e q = rw (ne-eqb b 108 h, ne-eqb b 104 g, ← e) q
-
-module _ (a b c i r : ℕ) where
-  pub three-r : a ≡ 114 → i ≡ letters-row b c → r ≡ place-at i 0 → r ≡ place-three a b c
-  unfolding place-three
-  three-r h e q = rw (h, ← e) q
-
-  module _ (h : a ≡ 114 → ⊥) where
-    pub three-e : a ≡ 101 → i ≡ letters-row b c → r ≡ place-at i 1 → r ≡ place-three a b c
-    unfolding place-three
-    three-e g e q = rw (g, ← e) q
-
-    module _ (g : a ≡ 101 → ⊥) where
-      pub three-low : c ≡ 108 → i ≡ letters-row a b → 4 ≤ i → r ≡ place-at i 3 → r ≡ place-three a b c
-      unfolding place-three
-      three-low f e k q = rw (ne-eqb a 114 h, ne-eqb a 101 g, f, ← e, le-ltb i 4 k) q
-
-pub ruleset letter-rules = (letter-some, two-low, two-high, two-none, two-other, three-r, three-e, three-low)
-
--- Letters that have a place
-
-letter-known : (a i : ℕ) → letter-row a ≡ i → i < 8 → (a ≡ 97 + i) × (i < 4)
-letter-known a i e h = go (ltb a 97) (ltb 100 a) refl refl e
-  where
-    go : (x y : Bool) → ltb a 97 ≡ x → ltb 100 a ≡ y → cond x 8 (cond y 8 (a - 97)) ≡ i → (a ≡ 97 + i) × (i < 4)
-    go true y p q f = absurd (omega arith)
-    go false true p q f = absurd (omega arith)
-    go false false p q f = (omega (arith, ltb-false a 97 p, ltb-false 100 a q), omega (arith, ltb-false a 97 p, ltb-false 100 a q))
-
-x-name : (i : ℕ) → i < 4 → (97 + i) ∷ 120 ∷ [] ≡ name-at (4 * i + 2)
+pub first-row : (i : ℕ) (s : List ℕ) (r : Bool) → i < 8 → r ≡ (s == name-at (4 * i)) → r ≡ (s == row-name i)
 unfolding all range _==_ concat legacy all-names
-x-name i h = ==-eq ((97 + i) ∷ 120 ∷ []) (name-at (4 * i + 2)) (below (λ i. ((97 + i) ∷ 120 ∷ []) == name-at (4 * i + 2)) 4 i refl h)
+first-row i s r h q =
+    q ∙ ap (s ==_) (==-eq (name-at (4 * i)) (row-name i) (below (λ i. name-at (4 * i) == row-name i) 8 i refl h))
 
-l-name : (i : ℕ) → i < 4 → (97 + i) ∷ 108 ∷ [] ≡ name-at (4 * i + 3)
-unfolding all range _==_ concat legacy all-names
-l-name i h = ==-eq ((97 + i) ∷ 108 ∷ []) (name-at (4 * i + 3)) (below (λ i. ((97 + i) ∷ 108 ∷ []) == name-at (4 * i + 3)) 4 i refl h)
+-- The hashes
 
-h-name : (i : ℕ) → i < 4 → (97 + i) ∷ 104 ∷ [] ≡ name-at (32 + i)
-unfolding all range _==_ concat legacy all-names
-h-name i h = ==-eq ((97 + i) ∷ 104 ∷ []) (name-at (32 + i)) (below (λ i. ((97 + i) ∷ 104 ∷ []) == name-at (32 + i)) 4 i refl h)
+pub byte-past : (s : List ℕ) (k : ℕ) → length s ≤ k → 0 ≡ getD s k 0
+byte-past s k h = sym (List·getD-eq-default s 0 h)
 
-r-name : (i : ℕ) → i < 8 → 114 ∷ name-at (4 * i + 2) ≡ name-at (4 * i + 0)
-unfolding all range _==_ concat legacy all-names
-r-name i h = ==-eq (114 ∷ name-at (4 * i + 2)) (name-at (4 * i + 0)) (below (λ i. (114 ∷ name-at (4 * i + 2)) == name-at (4 * i + 0)) 8 i refl h)
+module _ (t : List ℕ) (h c : ℕ) (e : c ≡ getD t h 0) where
+  pub place-start : all (λ h. leb 48 (getD t h 0)) (up-to 128) ≡ true → h < 128 → 48 ≤ c
+  place-start right g = rw e (leb-true 48 (getD t h 0) (below (λ h. leb 48 (getD t h 0)) 128 h right g))
 
-e-name : (i : ℕ) → i < 8 → 101 ∷ name-at (4 * i + 2) ≡ name-at (4 * i + 1)
-unfolding all range _==_ concat legacy all-names
-e-name i h = ==-eq (101 ∷ name-at (4 * i + 2)) (name-at (4 * i + 1)) (below (λ i. (101 ∷ name-at (4 * i + 2)) == name-at (4 * i + 1)) 8 i refl h)
+  pub place-least : all (λ h. ltb (getD t h 0 - 48) 36) (up-to 128) ≡ true → h < 128 → c - 48 < 36
+  place-least right g = rw e (ltb-true (getD t h 0 - 48) 36 (below (λ h. ltb (getD t h 0 - 48) 36) 128 h right g))
 
-low-name : (i : ℕ) → 4 ≤ i → i < 8 → name-at (4 * i + 2) ++ (108 ∷ []) ≡ name-at (4 * i + 3)
-unfolding all range _==_ concat legacy all-names
-low-name i g h =
-    let z : cond (ltb i 4) true ((name-at (4 * i + 2) ++ (108 ∷ [])) == name-at (4 * i + 3)) ≡ true =
-    below (λ i. cond (ltb i 4) true ((name-at (4 * i + 2) ++ (108 ∷ [])) == name-at (4 * i + 3))) 8 i refl h
-    in
-    ==-eq (name-at (4 * i + 2) ++ (108 ∷ [])) (name-at (4 * i + 3)) (rw (le-ltb i 4 g) at z)
-
-pair-eq : (a b c d : ℕ) → a ≡ c → b ≡ d → a ∷ b ∷ [] ≡ c ∷ d ∷ []
-pair-eq a b c d p q = rw (p, q)
-
-letters-known : (a b i : ℕ) → letters-row a b ≡ i → i < 8 → a ∷ b ∷ [] ≡ name-at (4 * i + 2)
-unfolding letters-row concat legacy all-names
-letters-known a b i e h = go (eqb b 120) (eqb b 105) (eqb b 112) (eqb a 115) (eqb a 100) (eqb a 98) refl refl refl refl refl refl e
-  where
-    at : (c d k : ℕ) → a ≡ c → b ≡ d → k ≡ i → c ∷ d ∷ [] ≡ name-at (4 * k + 2) → a ∷ b ∷ [] ≡ name-at (4 * i + 2)
-    at c d k p q r n = pair-eq a b c d p q ∙ n ∙ ap (λ (k : ℕ). name-at (4 * k + 2)) r
-
-    go : (x y z p q r : Bool) → eqb b 120 ≡ x → eqb b 105 ≡ y → eqb b 112 ≡ z → eqb a 115 ≡ p → eqb a 100 ≡ q → eqb a 98 ≡ r
-        → cond x (letter-row a) (cond y (cond p 4 (cond q 5 8)) (cond z (cond r 6 (cond p 7 8)) 8)) ≡ i → a ∷ b ∷ [] ≡ name-at (4 * i + 2)
-    go true y z p q r ex ey ez ep eq er f =
-        let k = letter-known a i f h in
-        pair-eq a b (97 + i) 120 (k .0) (eqb-true b 120 ex) ∙ x-name i (k .1)
-    go false true z true q r ex ey ez ep eq er f = at 115 105 4 (eqb-true a 115 ep) (eqb-true b 105 ey) f refl
-    go false true z false true r ex ey ez ep eq er f = at 100 105 5 (eqb-true a 100 eq) (eqb-true b 105 ey) f refl
-    go false true z false false r ex ey ez ep eq er f = absurd (omega arith)
-    go false false true p q true ex ey ez ep eq er f = at 98 112 6 (eqb-true a 98 er) (eqb-true b 112 ez) f refl
-    go false false true true q false ex ey ez ep eq er f = at 115 112 7 (eqb-true a 115 ep) (eqb-true b 112 ez) f refl
-    go false false true false q false ex ey ez ep eq er f = absurd (omega arith)
-    go false false false p q r ex ey ez ep eq er f = absurd (omega arith)
-
-at-known : (i k : ℕ) → place-at i k < 36 → (i < 8) × (4 * i + k ≡ place-at i k)
-at-known i k h = go (ltb i 8) refl h
-  where
-    go : (x : Bool) → ltb i 8 ≡ x → cond x (4 * i + k) 36 < 36 → (i < 8) × (4 * i + k ≡ cond x (4 * i + k) 36)
-    go true e g = (ltb-true i 8 e, refl)
-    go false e g = absurd (omega arith)
-
-two-known : (a b : ℕ) → place-two a b < 36 → a ∷ b ∷ [] ≡ name-at (place-two a b)
-unfolding place-two
-two-known a b h = go (eqb b 108) (eqb b 104) refl refl h
-  where
-    high : (x : Bool) → ltb (letter-row a) 8 ≡ x → b ≡ 104 → cond x (32 + letter-row a) 36 < 36 → a ∷ b ∷ [] ≡ name-at (cond x (32 + letter-row a) 36)
-    high true e q g =
-        let k = letter-known a (letter-row a) refl (ltb-true (letter-row a) 8 e) in
-        pair-eq a b (97 + letter-row a) 104 (k .0) q ∙ h-name (letter-row a) (k .1)
-    high false e q g = absurd (omega arith)
-
-    go : (x y : Bool) → eqb b 108 ≡ x → eqb b 104 ≡ y
-        → cond x (place-at (letter-row a) 3) (cond y (cond (ltb (letter-row a) 8) (32 + letter-row a) 36) (place-at (letters-row a b) 2)) < 36
-        → a ∷ b ∷ [] ≡ name-at (cond x (place-at (letter-row a) 3) (cond y (cond (ltb (letter-row a) 8) (32 + letter-row a) 36) (place-at (letters-row a b) 2)))
-    go true y ex ey g =
-        let m = at-known (letter-row a) 3 g in
-        let k = letter-known a (letter-row a) refl (m .0) in
-        pair-eq a b (97 + letter-row a) 108 (k .0) (eqb-true b 108 ex) ∙ l-name (letter-row a) (k .1) ∙ ap name-at (m .1)
-    go false true ex ey g = high (ltb (letter-row a) 8) refl (eqb-true b 104 ey) g
-    go false false ex ey g =
-        let m = at-known (letters-row a b) 2 g in
-        letters-known a b (letters-row a b) refl (m .0) ∙ ap name-at (m .1)
-
-three-known : (a b c : ℕ) → place-three a b c < 36 → a ∷ b ∷ c ∷ [] ≡ name-at (place-three a b c)
-unfolding place-three
-three-known a b c h = go (eqb a 114) (eqb a 101) (eqb c 108) (ltb (letters-row a b) 4) refl refl refl refl h
-  where
-    front : (d k : ℕ) → a ≡ d → place-at (letters-row b c) k < 36 → ((i : ℕ) → i < 8 → d ∷ name-at (4 * i + 2) ≡ name-at (4 * i + k))
-        → a ∷ b ∷ c ∷ [] ≡ name-at (place-at (letters-row b c) k)
-    front d k p g n =
-        let m = at-known (letters-row b c) k g in
-        ap (λ (x : ℕ). x ∷ b ∷ c ∷ []) p
-        ∙ ap (λ (l : List ℕ). d ∷ l) (letters-known b c (letters-row b c) refl (m .0))
-        ∙ n (letters-row b c) (m .0)
-        ∙ ap name-at (m .1)
-
-    go : (x y z w : Bool) → eqb a 114 ≡ x → eqb a 101 ≡ y → eqb c 108 ≡ z → ltb (letters-row a b) 4 ≡ w
-        → cond x (place-at (letters-row b c) 0) (cond y (place-at (letters-row b c) 1) (cond z (cond w 36 (place-at (letters-row a b) 3)) 36)) < 36
-        → a ∷ b ∷ c ∷ [] ≡ name-at (cond x (place-at (letters-row b c) 0) (cond y (place-at (letters-row b c) 1) (cond z (cond w 36 (place-at (letters-row a b) 3)) 36)))
-    go true y z w ex ey ez ew g = front 114 0 (eqb-true a 114 ex) g r-name
-    go false true z w ex ey ez ew g = front 101 1 (eqb-true a 101 ey) g e-name
-    go false false true true ex ey ez ew g = absurd (omega arith)
-    go false false true false ex ey ez ew g =
-        let m = at-known (letters-row a b) 3 g in
-        ap (λ (x : ℕ). a ∷ b ∷ x ∷ []) (eqb-true c 108 ez)
-        ∙ ap (λ (l : List ℕ). l ++ (108 ∷ [])) (letters-known a b (letters-row a b) refl (m .0))
-        ∙ low-name (letters-row a b) (ltb-false (letters-row a b) 4 ew) (m .0)
-        ∙ ap name-at (m .1)
-    go false false false w ex ey ez ew g = absurd (omega arith)
-
-by-known : (s : List ℕ) → place-by s < 36 → s ≡ name-at (place-by s)
-by-known [] h = absurd (omega arith)
-by-known (a ∷ []) h = absurd (omega arith)
-by-known (a ∷ (b ∷ [])) h = two-known a b h
-by-known (a ∷ (b ∷ (c ∷ []))) h = three-known a b c h
-by-known (a ∷ (b ∷ (c ∷ (d ∷ s)))) h = absurd (omega arith)
+  pub place-only : all (λ q. eqb (getD t (hash (name-at q)) 0 - 48) q) (up-to 36) ≡ true → (q : ℕ) → q < 36 → hash (name-at q) ≡ h → c - 48 ≡ q
+  place-only right q g f =
+      rw (e, ← f) (eqb-true (getD t (hash (name-at q)) 0 - 48) q (below (λ q. eqb (getD t (hash (name-at q)) 0 - 48) q) 36 q right g))
 
 -- The place of a text among the names
 
@@ -245,82 +123,21 @@ name-count : length all-names ≡ 36
 unfolding concat legacy all-names
 name-count = refl
 
-place-own : (k : ℕ) → k < 36 → place-by (name-at k) ≡ k
-unfolding all range concat legacy all-names letters-row place-two place-three
-place-own k h = eqb-true (place-by (name-at k)) k (below (λ k. eqb (place-by (name-at k)) k) 36 k refl h)
+module _ (s : List ℕ) (p : ℕ) (b : Bool) (e : b ≡ (s == name-at p)) where
+  pub place-found : p < 36 → b ≡ true → found 36 p ≡ position (s ==_) all-names
+  place-found h f = rw (lt-ltb p 36 h, ==-eq s (name-at p) (sym e ∙ f)) (own-place p h)
 
-place-right : (s : List ℕ) (p : ℕ) → p ≡ place-by s → found 36 p ≡ position (s ==_) all-names
-place-right s p e = go (decLt p 36)
-  where
-    none-there : 36 ≤ p → (o : Option ℕ) → position (s ==_) all-names ≡ o → none ≡ o
-    none-there h none q = refl
-    none-there h (some k) q =
-        let y = position-at (s ==_) [] all-names k q in
-        let l : k < 36 = omega (arith, name-count) in
-        let z : p ≡ k = e ∙ ap place-by (==-eq s (name-at k) (y .1)) ∙ place-own k l in
-        absurd (omega arith)
+  pub place-none : (h : ℕ) → h ≡ hash s → ((q : ℕ) → q < 36 → hash (name-at q) ≡ h → p ≡ q) → b ≡ false → found 36 36 ≡ position (s ==_) all-names
+  place-none h g only f = go (position (s ==_) all-names) refl
+    where
+      go : (o : Option ℕ) → position (s ==_) all-names ≡ o → none ≡ o
+      go none q = refl
+      go (some k) q =
+          let y = position-at (s ==_) [] all-names k q in
+          let same : s ≡ name-at k = ==-eq s (name-at k) (y .1) in
+          let z : p ≡ k = only k (omega (arith, name-count)) (sym (g ∙ ap hash same)) in
+          let w : (s == name-at p) ≡ true = rw z (y .1) in
+          let x : _≡_ {A = ℕ} 0 1 = cc in
+          absurd (omega arith)
 
-    go : Dec (p < 36) → found 36 p ≡ position (s ==_) all-names
-    go (yes h) =
-        let n : s ≡ name-at p = by-known s (rw e at h) ∙ ap name-at (sym e) in
-        rw (lt-ltb p 36 h) (own-place p h ∙ ap (λ (s : List ℕ). position (s ==_) all-names) (sym n))
-    go (no h) = rw (le-ltb p 36 (omega arith)) (none-there (omega arith) (position (s ==_) all-names) refl)
-
-two-list : (s : List ℕ) → length s ≡ 2 → place-by s ≡ place-two (getD s 0 0) (getD s 1 0)
-two-list [] h = absurd (omega arith)
-two-list (a ∷ []) h = absurd (omega arith)
-two-list (a ∷ (b ∷ [])) h = refl
-two-list (a ∷ (b ∷ (c ∷ s))) h = absurd (omega arith)
-
-three-list : (s : List ℕ) → length s ≡ 3 → place-by s ≡ place-three (getD s 0 0) (getD s 1 0) (getD s 2 0)
-three-list [] h = absurd (omega arith)
-three-list (a ∷ []) h = absurd (omega arith)
-three-list (a ∷ (b ∷ [])) h = absurd (omega arith)
-three-list (a ∷ (b ∷ (c ∷ []))) h = refl
-three-list (a ∷ (b ∷ (c ∷ (d ∷ s)))) h = absurd (omega arith)
-
-other-list : (s : List ℕ) → (length s ≡ 2 → ⊥) → (length s ≡ 3 → ⊥) → place-by s ≡ 36
-other-list [] h g = refl
-other-list (a ∷ []) h g = refl
-other-list (a ∷ (b ∷ [])) h g = absurd (h refl)
-other-list (a ∷ (b ∷ (c ∷ []))) h g = absurd (g refl)
-other-list (a ∷ (b ∷ (c ∷ (d ∷ s)))) h g = refl
-
-module _ (s : List ℕ) where
-  pub length-two : (p : ℕ) → length s ≡ 2 → p ≡ place-two (getD s 0 0) (getD s 1 0) → found 36 p ≡ position (s ==_) all-names
-  length-two p h e = place-right s p (e ∙ sym (two-list s h))
-
-  pub length-three : (p : ℕ) → length s ≡ 3 → p ≡ place-three (getD s 0 0) (getD s 1 0) (getD s 2 0) → found 36 p ≡ position (s ==_) all-names
-  length-three p h e = place-right s p (e ∙ sym (three-list s h))
-
-  pub length-other : (length s ≡ 2 → ⊥) → (length s ≡ 3 → ⊥) → found 36 36 ≡ position (s ==_) all-names
-  length-other h g = place-right s 36 (sym (other-list s h g))
-
-first-name : (i : ℕ) → i < 8 → name-at (4 * i) ≡ row-name i
-unfolding all range _==_ concat legacy all-names
-first-name i h = ==-eq (name-at (4 * i)) (row-name i) (below (λ i. name-at (4 * i) == row-name i) 8 i refl h)
-
-found-some : (p k : ℕ) → found 36 p ≡ some k → p ≡ k
-found-some p k e = go (ltb p 36) e
-  where
-    go : (x : Bool) → _≡_ {A = Option ℕ} (cond x (some p) none) (some k) → p ≡ k
-    go true f = cc
-    go false f = let z : _≡_ {A = ℕ} 0 1 = cc in absurd (omega arith)
-
-pub row-of : (s : List ℕ) (p i : ℕ) → found 36 p ≡ position (s ==_) all-names → i < 8 → eqb p (4 * i) ≡ (s == row-name i)
-row-of s p i e h = go (eqb p (4 * i)) refl
-  where
-    go : (x : Bool) → eqb p (4 * i) ≡ x → x ≡ (s == row-name i)
-    go true q =
-        let z : p ≡ 4 * i = eqb-true p (4 * i) q in
-        let y : position (s ==_) all-names ≡ some p = sym e ∙ rw (lt-ltb p 36 (omega arith)) in
-        sym (eq-== s (row-name i) (==-eq s (name-at p) (position-at (s ==_) [] all-names p y .1) ∙ ap name-at z ∙ first-name i h))
-    go false q = sym (ne-== s (row-name i) not-it)
-      where
-        not-it : s ≡ row-name i → ⊥
-        not-it n =
-            let l : 4 * i < 36 = omega arith in
-            let y : found 36 p ≡ some (4 * i) = e ∙ ap (λ (s : List ℕ). position (s ==_) all-names) (n ∙ sym (first-name i h)) ∙ sym (own-place (4 * i) l) in
-            eqb-false p (4 * i) q (found-some p (4 * i) y)
-
-pub ruleset table-rules = (length-two, length-three, length-other, row-of)
+pub ruleset table-rules = (letters-two, letters-three, letters-count, place-found, place-none, first-row)

@@ -1,9 +1,8 @@
 -- What an answer of the code says of a text, as the definitions' families.
---   letter-row a, letters-row a b    the row of the legacy names whose letter is a; whose letters are a and b; 8 where there is none
---   place-at i k         the place of column k of row i among all names, 36 where i is no row
---   place-two a b, place-three a b c, place-by s    the place of a name of two letters; of three; of any: 36 where it is no name
+--   letters cell         the name in a cell of three bytes: without a 0 at its end
 --   all-names            the legacy names, row by row, and behind them ah bh ch dh
 --   name-at p            the name at place p of them
+--   hash s               a number that tells these names from each other
 --   found n k            k, where it is below n
 --   digit-count s        how many digits s starts with
 --   number-end s         how many bytes `r` and digits at the start of s are, 0 without an `r`
@@ -18,12 +17,12 @@
 --   named p o            o is a family, and p holds of its name
 --   is-rsp o, is-var-family o, is-wide o    o is the family rsp; a `var_`; a family, of width 32 or more
 -- Assumes nothing.
-use Prim.Native.Nat.{ℕ, _+_, _-_, _*_}
+use Prim.Native.Nat.{ℕ, _+_, _*_, _%_}
 use mathlib.Core.Bool.{Bool, false}
 use mathlib.Core.List.{List, [], _∷_, _++_}
 use mathlib.Core.Option.{Option, none, some}
 use lib.Dec.{eqb, leb, ltb}
-use lib.ListN.{length, drop, getD}
+use lib.ListN.{length, take, drop, getD}
 use Rattle.definitions.specs.Lists.{if_then_else_, part, concat, _==_, starts-with, ascii}
 use Rattle.definitions.specs.Model.{Token}
 use Rattle.definitions.specs.Family.{Family, legacy, digits, is-numbered, numbered-family, names}
@@ -31,44 +30,17 @@ use Rattle.definitions.specs.Statements.{is-var}
 use Rattle.family.specs.declared.Register.{Register}
 use Rattle.family.specs.declared.Register.the-variants.{Legacy, Numbered, Var, Nothing}
 
-abbrev pub letter-row : ℕ → ℕ
-letter-row a = if ltb a 97 then 8 else if ltb 100 a then 8 else a - 97
-
-unfoldable pub letters-row : ℕ → ℕ → ℕ
-letters-row a b =
-    if eqb b 120 then letter-row a
-    else if eqb b 105 then (if eqb a 115 then 4 else if eqb a 100 then 5 else 8)
-    else if eqb b 112 then (if eqb a 98 then 6 else if eqb a 115 then 7 else 8)
-    else 8
-
-abbrev pub place-at : ℕ → ℕ → ℕ
-place-at i k = if ltb i 8 then 4 * i + k else 36
-
-unfoldable pub place-two : ℕ → ℕ → ℕ
-place-two a b =
-    if eqb b 108 then place-at (letter-row a) 3
-    else if eqb b 104 then (if ltb (letter-row a) 8 then 32 + letter-row a else 36)
-    else place-at (letters-row a b) 2
-
-unfoldable pub place-three : ℕ → ℕ → ℕ → ℕ
-place-three a b c =
-    if eqb a 114 then place-at (letters-row b c) 0
-    else if eqb a 101 then place-at (letters-row b c) 1
-    else if eqb c 108 then (if ltb (letters-row a b) 4 then 36 else place-at (letters-row a b) 3)
-    else 36
-
-abbrev pub place-by : List ℕ → ℕ
-place-by [] = 36
-place-by (a ∷ []) = 36
-place-by (a ∷ (b ∷ [])) = place-two a b
-place-by (a ∷ (b ∷ (c ∷ []))) = place-three a b c
-place-by (a ∷ (b ∷ (c ∷ (d ∷ s)))) = 36
+abbrev pub letters : List ℕ → List ℕ
+letters cell = if eqb (getD cell 2 0) 0 then take 2 cell else cell
 
 unfoldable pub all-names : List (List ℕ)
 all-names = concat legacy ++ (ascii "ah" ∷ ascii "bh" ∷ ascii "ch" ∷ ascii "dh" ∷ [])
 
 abbrev pub name-at : ℕ → List ℕ
 name-at p = getD all-names p []
+
+unfoldable pub hash : List ℕ → ℕ
+hash s = (5 * getD s 0 0 + 4 * getD s 1 0 + 2 * getD s 2 0) % 128
 
 abbrev pub found : ℕ → ℕ → Option ℕ
 found n k = if ltb k n then some k else none

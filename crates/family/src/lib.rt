@@ -1,16 +1,16 @@
 // Registers: `family` and `fam_of` of pseudo_opt.rs. An answer is a `Register`: it holds no text, so family names are compared where they
-// stand, by the row of the legacy names or in the text that was looked up.
+// stand, in the table or in the text that was looked up.
 //
-// A look-up of a legacy name is a few comparisons of its two or three bytes; of another name it scans no byte behind the token's text. A test
-// on an answer compares at most one name. Contracts cite `family`, `fam-of` and `names` of Rattle.definitions.specs.Family; `family-of` of this crate's specs/ says which family
+// A look-up compares the text with one name, which its hash gives, and scans no byte behind the token's text; a test on an answer compares
+// at most one name. Contracts cite `family`, `fam-of` and `names` of Rattle.definitions.specs.Family; `family-of` of this crate's specs/ says which family
 // an answer gives a text.
 ghost use mathlib.Core.Path.{_≡_};
-ghost use Prim.Native.Nat.{_+_, _<_};
-ghost use lib.ListN.{drop};
+ghost use Prim.Native.Nat.{ℕ, _+_, _<_};
+ghost use lib.ListN.{getD, drop};
 ghost use Rattle.definitions.specs.Lists.{_==_, position};
 ghost use Rattle.definitions.specs.Model.{tok};
 ghost use Rattle.definitions.specs.Family.{suffix-width, numbered-family, family, fam-of};
-ghost use Rattle.family.specs.Register.{letter-row, letters-row, place-at, place-two, place-three, all-names, found, digit-count, number-end, above-zero, family-of, rest-family, row, row-name, own-name, same-name, names-family, is-rsp, is-var-family, is-wide};
+ghost use Rattle.family.specs.Register.{letters, all-names, name-at, hash, found, digit-count, number-end, above-zero, family-of, rest-family, row, row-name, own-name, same-name, names-family, is-rsp, is-var-family, is-wide};
 
 pub enum Register {
     // The row of the table, and the width in bits.
@@ -22,109 +22,82 @@ pub enum Register {
     Nothing,
 }
 
+// A row is a family, a column a width; the last row is the 8 bits above those of `al`, `bl`, `cl` and `dl`. A name of two letters is filled
+// up with a 0.
+const NAMES: [[[u8; 3]; 4]; 9] = [
+    [*b"rax", *b"eax", *b"ax\0", *b"al\0"],
+    [*b"rbx", *b"ebx", *b"bx\0", *b"bl\0"],
+    [*b"rcx", *b"ecx", *b"cx\0", *b"cl\0"],
+    [*b"rdx", *b"edx", *b"dx\0", *b"dl\0"],
+    [*b"rsi", *b"esi", *b"si\0", *b"sil"],
+    [*b"rdi", *b"edi", *b"di\0", *b"dil"],
+    [*b"rbp", *b"ebp", *b"bp\0", *b"bpl"],
+    [*b"rsp", *b"esp", *b"sp\0", *b"spl"],
+    [*b"ah\0", *b"bh\0", *b"ch\0", *b"dh\0"],
+];
+
 const WIDTHS: [usize; 4] = [64, 32, 16, 8];
 
+// The place of a name in the table, row by row, at the name's hash, counted from the byte `0` on; no two names have one hash.
+const PLACES: [u8; 128] =
+    *b"00K00P0000Q0000R0000S30AF070D00;00H0?M0000J000000040008000<C0000000002000060000:0000>00O@00E00000I0B00L000000100G50009000=00000N";
+
+// The text is the name in a cell of the table.
+fn is_name(cell: [u8; 3], s: &[u8]) -> bool
+    ensures { λ r. ⌜ r ≡ (now (s .entry) == letters cell) ⌝ }
+{
+    if cell[2] == 0 {
+        text::equal(s, &cell[..2])
+    } else {
+        text::equal(s, &cell)
+    }
+}
+
+// The text is the name at place p of the table.
+fn is_at(p: usize, s: &[u8]) -> bool
+    requires { ⌜ p < 36 ⌝ }
+    ensures { λ r. ⌜ r ≡ (now (s .entry) == name-at p) ⌝ }
+{
+    let table = NAMES;
+    let row = table[p / 4];
+    let cell = row[p % 4];
+    is_name(cell, s)
+}
+
 fn wide(x: u8) -> usize
-    ensures { λ r. ⌜ r ≡ x ⌝ }
+    ensures { λ r. ⌜ (r ≡ x) × (r < 256) ⌝ }
 {
     x as usize
 }
 
-// The row of the family whose letter is a, 8 where it is none: `a`, `b`, `c` or `d`.
-fn letter_row(a: u8) -> usize
-    ensures { λ r. ⌜ r ≡ letter-row a ⌝ }
+// The byte at k, 0 past the end.
+fn byte(s: &[u8], k: usize) -> usize
+    ensures { λ r. ⌜ (r ≡ getD (now (s .entry)) k 0) × (r < 256) ⌝ }
 {
-    if a < b'a' {
-        return 8;
-    }
-    if b'd' < a {
-        return 8;
-    }
-    wide(a) - 97
+    if k < s.len() { wide(s[k]) } else { 0 }
 }
 
-// The row of the family whose name of 16 bits is the letters a and b, 8 where it is none: `ax`, `bx`, `cx`, `dx`, `si`, `di`, `bp` or `sp`.
-fn letters_row(a: u8, b: u8) -> usize
-    ensures { λ r. ⌜ r ≡ letters-row a b ⌝ }
+fn hash(s: &[u8]) -> usize
+    ensures { λ r. ⌜ (r ≡ hash (now (s .entry))) × (r < 128) ⌝ }
 {
-    if b == b'x' {
-        return letter_row(a);
-    }
-    if b == b'i' {
-        if a == b's' {
-            return 4;
-        }
-        if a == b'd' {
-            return 5;
-        }
-        return 8;
-    }
-    if b == b'p' {
-        if a == b'b' {
-            return 6;
-        }
-        if a == b's' {
-            return 7;
-        }
-        return 8;
-    }
-    8
+    (5 * byte(s, 0) + 4 * byte(s, 1) + 2 * byte(s, 2)) % 128
 }
 
-// The place of the name in column k of row i, 36 where i is no row.
-fn place_at(i: usize, k: usize) -> usize
-    requires { ⌜ k < 4 ⌝ }
-    ensures { λ r. ⌜ r ≡ place-at i k ⌝ }
+// The place of the only name that may have the hash h.
+fn place_of(h: usize) -> usize
+    requires { ⌜ h < 128 ⌝ }
+    ensures { λ p. ⌜ (p < 36) × ((q : ℕ) → q < 36 → hash (name-at q) ≡ h → p ≡ q) ⌝ }
 {
-    if i < 8 { 4 * i + k } else { 36 }
+    wide(PLACES[h]) - 48
 }
 
-// The place of a name of two letters.
-fn place_two(a: u8, b: u8) -> usize
-    ensures { λ r. ⌜ r ≡ place-two a b ⌝ }
-{
-    if b == b'l' {
-        return place_at(letter_row(a), 3);
-    }
-    if b == b'h' {
-        let i = letter_row(a);
-        if i < 8 {
-            return 32 + i;
-        }
-        return 36;
-    }
-    place_at(letters_row(a, b), 2)
-}
-
-// The place of a name of three letters.
-fn place_three(a: u8, b: u8, c: u8) -> usize
-    ensures { λ r. ⌜ r ≡ place-three a b c ⌝ }
-{
-    if a == b'r' {
-        return place_at(letters_row(b, c), 0);
-    }
-    if a == b'e' {
-        return place_at(letters_row(b, c), 1);
-    }
-    if c == b'l' {
-        let i = letters_row(a, b);
-        if i < 4 {
-            return 36;
-        }
-        return place_at(i, 3);
-    }
-    36
-}
-
-// The place of a name among all names, row by row, 36 where it is none of them.
+// The place of a name in the table, 36 where it is not there.
 fn place(s: &[u8]) -> usize
     ensures { λ r. ⌜ found 36 r ≡ position (now (s .entry) ==_) all-names ⌝ }
 {
-    if s.len() == 2 {
-        return place_two(s[0], s[1]);
-    }
-    if s.len() == 3 {
-        return place_three(s[0], s[1], s[2]);
+    let p = place_of(hash(s));
+    if is_at(p, s) {
+        return p;
     }
     36
 }
@@ -266,7 +239,7 @@ fn is_row(i: usize, name: &[u8]) -> bool
     requires { ⌜ i < 8 ⌝ }
     ensures { λ r. ⌜ r ≡ (now (name .entry) == row-name i) ⌝ }
 {
-    place(name) == 4 * i
+    is_at(4 * i, name)
 }
 
 // The answers ra of the text a and rb of the text b are of one family.

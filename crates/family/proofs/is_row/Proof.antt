@@ -5,14 +5,14 @@ use borrow.Author.Needs.{needs}
 use Rattle.family.proofs.is_row.Statement.{statement}
 use Rattle.family.proofs.is_row.Tie as tie
 
-place-requires : tie.Need-place-requires
-place-requires c κs = search needs
+mul-is-at : tie.Need-mul-is-at
+mul-is-at c = search needs
 
-mul-result : tie.Need-mul-result
-mul-result c = search needs
+is-at-requires : tie.Need-is-at-requires
+is-at-requires c κs = search needs
 
 returns : tie.Need-returns
 returns c = search (table-rules, needs)
 
 pub is-row-spec : {M : Type 1} → statement M
-is-row-spec = tie.close (tie.spec place-requires mul-result returns)
+is-row-spec = tie.close (tie.spec mul-is-at is-at-requires returns)
