@@ -35,9 +35,9 @@ use Rattle.json_write.specs.Answers.{written as json-written}
 use Rattle.json_read.specs.declared.Answer.{Answer as Read}
 use Rattle.json_read.specs.declared.Answer.the-variants as read
 use Rattle.json_read.specs.Answers.{called as read-called}
-use Rattle.recover_loops.specs.declared.Answer.{Answer as Pass}
-use Rattle.recover_loops.specs.declared.Answer.the-variants as pass
-use Rattle.recover_loops.specs.Answers.{passed-with}
+use Rattle.pass_call.specs.declared.Answer.{Answer as Pass}
+use Rattle.pass_call.specs.declared.Answer.the-variants as pass
+use Rattle.pass_call.specs.Answers.{passed-with}
 use Rattle.rows.specs.Rows.{all-rows, Short}
 use Rattle.rows.proofs.Accepted.{Asked, web-asked, split-asked, choose-asked, printed}
 use Rattle.javrenzu.specs.Room.{token-zeros, text-zeros, mark-zeros, space-zeros, word-zeros, byte-zeros, lent-room, split-room}

@@ -3,8 +3,8 @@
 // Contracts cite specs/Command.antt. Local arrays take up to 0.7 MiB; rows take at most 28 bytes for each of 16,384 tokens, and 262,144 of text.
 use crate::room;
 use choose::Choice;
+use pass_call::Answer;
 use pseudo_ssa::Webs;
-use recover_loops::Answer;
 use rows::columns::first;
 use rows::columns::first_addresses;
 use rows::columns::first_bytes;
