@@ -2,7 +2,8 @@
 --   rows-taken                                    rows have room
 --   webs-said, webs-refused, splits-said, splits-refused, chose-webs, chose-splits, choose-refused    the calls that number tokens
 --   json-said, json-refused                       the writer
---   loops-said, loops-large, .. loops-overflow    the pass
+--   pass-accepted, pass-left, pass-lent           what a pass answers and leaves, and what is lent to it
+--   json-cut, loops-cut, word-cut                 the first words of columns
 --   for-webs, .. for-unknown                      the word
 --   read-said, read-refused                       the reader
 -- Assumes nothing.
@@ -14,8 +15,9 @@ use borrow.Author.Tests.{leb-true}
 use lib.Dec.{leb}
 use lib.ListN.{length, take, replicate}
 use mathlib.Core.Bool.{_&&_}
-use Rattle.definitions.specs.Answers.{Answer, refused, accepted, loops}
-use Rattle.definitions.specs.Calls.{Columns, by-webs, by-splits, pass-call, web-call, split-call, choose-call}
+use Rattle.definitions.specs.Model.{Line}
+use Rattle.definitions.specs.Answers.{Answer, refused, accepted, loops, goto-loops}
+use Rattle.definitions.specs.Calls.{Columns, Passed, by-webs, by-splits, pass-call, web-call, split-call, choose-call}
 use Rattle.model.proofs.Ands.{both}
 use Rattle.write.specs.Holds.{columns}
 use Rattle.json_definitions.specs.JsonCalls.{read-call, write-call}
@@ -40,12 +42,12 @@ use Rattle.pass_call.specs.declared.Answer.the-variants as pass
 use Rattle.pass_call.specs.Answers.{passed-with}
 use Rattle.rows.specs.Rows.{all-rows, Short}
 use Rattle.rows.proofs.Accepted.{Asked, web-asked, split-asked, choose-asked, printed}
-use Rattle.javrenzu.specs.Room.{token-zeros, text-zeros, mark-zeros, space-zeros, word-zeros, byte-zeros, lent-room, split-room}
+use Rattle.javrenzu.specs.Room.{token-zeros, text-zeros, mark-zeros, space-zeros, word-zeros, byte-zeros, lent-room, split-room, pass-room}
 use Rattle.javrenzu.specs.declared.calls.Said.{Said}
 use Rattle.javrenzu.specs.declared.calls.Said.the-variants.{Text, ByWebs, BySplits, Refused}
 use Rattle.javrenzu.specs.declared.words.Word.{Word}
 use Rattle.javrenzu.specs.declared.words.Word.the-variants as word
-use Rattle.javrenzu.specs.Command.{told, rows-of, webs-answer, splits-answer, choose-answer, written-text, json-answer, passed-text, loops-in, loops-answer, word-answer, read-answer, answer-in, answer}
+use Rattle.javrenzu.specs.Command.{told, rows-of, webs-answer, splits-answer, choose-answer, written-text, json-answer, after, pass-answer, passes-answer, word-answer, read-answer, answer-in, answer}
 
 -- Rows
 
@@ -118,41 +120,30 @@ module _ (c : Columns) (out out′ : List ℕ) (r : Wrote) (q : json-written r o
   unfolding written-text
   json-refused h = rw (← q, h)
 
-module _ (c : Columns) (out out′ : List ℕ) (r : Pass) (l a t x : List ℕ) (given : Columns) (q : passed-with r (columns l a t x) ≡ pass-call loops c given) where
-  pub loops-said : (k m n : ℕ) (v : Answer (List ℕ)) → r ≡ pass.Accepted k m n → v ≡ json-answer out (columns (take k l) (take k a) (take m t) (take n x))
-      → v ≡ loops-in given out c
-  unfolding passed-text
-  loops-said k m n v h f = rw (← q, h) f
+-- Passes
 
-  pub loops-large : r ≡ pass.TooLarge → told (Refused 1) out′ ≡ loops-in given out c
-  unfolding passed-text
-  loops-large h = rw (← q, h)
+pub pass-accepted : (f : Columns → Answer (List ℕ)) (r : Pass) (l a t x : List ℕ) (k m n : ℕ) (v : Answer (List ℕ)) → r ≡ pass.Accepted k m n → v ≡ f (columns (take k l) (take k a) (take m t) (take n x))
+    → v ≡ after f (passed-with r (columns l a t x))
+unfolding after
+pass-accepted f r l a t x k m n v h e = rw h e
 
-  pub loops-malformed : r ≡ pass.Malformed → told (Refused 2) out′ ≡ loops-in given out c
-  unfolding passed-text
-  loops-malformed h = rw (← q, h)
+module _ (f : Columns → Answer (List ℕ)) (v : Answer (List ℕ)) where
+  pub pass-left : (p q : Passed) → p ≡ q → v ≡ after f p → v ≡ after f q
+  pass-left p q h e = rw (← h) e
 
-  pub loops-not-utf8 : r ≡ pass.NotUtf8 → told (Refused 3) out′ ≡ loops-in given out c
-  unfolding passed-text
-  loops-not-utf8 h = rw (← q, h)
-
-  pub loops-no-room : r ≡ pass.NoRoom → told (Refused 4) out′ ≡ loops-in given out c
-  unfolding passed-text
-  loops-no-room h = rw (← q, h)
-
-  pub loops-overflow : r ≡ pass.Overflow → told (Refused 6) out′ ≡ loops-in given out c
-  unfolding passed-text
-  loops-overflow h = rw (← q, h)
-
-pub loops-room : (out w b : List ℕ) (c : Columns) (v : Answer (List ℕ)) → w ≡ word-zeros → b ≡ byte-zeros
-    → v ≡ loops-in (columns (replicate 1024 0) (replicate 1024 0) w b) out c → v ≡ loops-answer out c
-loops-room out w b c v p q f = rw (← p, ← q) f
+  pub pass-lent : (P : List Line → Answer (List Line)) (c : Columns) (w b : List ℕ) → w ≡ word-zeros → b ≡ byte-zeros
+      → v ≡ after f (pass-call P c (columns (replicate 1024 0) (replicate 1024 0) w b)) → v ≡ after f (pass-call P c pass-room)
+  pass-lent P c w b p q e = rw (← p, ← q) e
 
 -- The first words
 
 pub json-cut : (out l a t x l′ a′ t′ x′ : List ℕ) (k m n : ℕ) (v : Answer (List ℕ)) → l′ ≡ take k l → a′ ≡ take k a → t′ ≡ take m t → x′ ≡ take n x
     → v ≡ json-answer out (columns l′ a′ t′ x′) → v ≡ json-answer out (columns (take k l) (take k a) (take m t) (take n x))
 json-cut out l a t x l′ a′ t′ x′ k m n v i j y z f = rw (← i, ← j, ← y, ← z) f
+
+pub loops-cut : (out l a t x l′ a′ t′ x′ : List ℕ) (k m n : ℕ) (v : Answer (List ℕ)) → l′ ≡ take k l → a′ ≡ take k a → t′ ≡ take m t → x′ ≡ take n x
+    → v ≡ pass-answer loops out (columns l′ a′ t′ x′) → v ≡ pass-answer loops out (columns (take k l) (take k a) (take m t) (take n x))
+loops-cut out l a t x l′ a′ t′ x′ k m n v i j y z f = rw (← i, ← j, ← y, ← z) f
 
 pub word-cut : (w : Word) (out l a t x l′ a′ t′ x′ : List ℕ) (k m n : ℕ) (v : Answer (List ℕ)) → l′ ≡ take k l → a′ ≡ take k a → t′ ≡ take m t → x′ ≡ take n x
     → v ≡ word-answer w out (columns l′ a′ t′ x′) → v ≡ word-answer w out (columns (take k l) (take k a) (take m t) (take n x))
@@ -170,8 +161,14 @@ module _ (w : Word) (c : Columns) (out : List ℕ) (v : Answer (List ℕ)) where
   pub for-choose : w ≡ word.Choose → v ≡ choose-answer (c .lines) (c .tokens) (c .text) → v ≡ word-answer w out c
   for-choose h f = rw h f
 
-  pub for-loops : w ≡ word.RecoverLoops → v ≡ loops-answer out c → v ≡ word-answer w out c
+  pub for-loops : w ≡ word.RecoverLoops → v ≡ pass-answer loops out c → v ≡ word-answer w out c
   for-loops h f = rw h f
+
+  pub for-goto-loops : w ≡ word.RecoverGotoLoops → v ≡ pass-answer goto-loops out c → v ≡ word-answer w out c
+  for-goto-loops h f = rw h f
+
+  pub for-passes : w ≡ word.Passes → v ≡ passes-answer out c → v ≡ word-answer w out c
+  for-passes h f = rw h f
 
   pub for-check : w ≡ word.Check → v ≡ accepted [] → v ≡ word-answer w out c
   for-check h f = rw h f

@@ -2,9 +2,12 @@
 --   told r out                    what the answer r says, with what stands in the slice `out`
 --   rows-of l t x c               the rows of the answer c of a call that numbers the tokens of the columns l, t, x
 --   chosen-line a                 the first line of the chooser's answer
---   webs-answer, splits-answer, choose-answer, loops-answer    what a word answers to a listing in columns
---   loops-in lent .., answer-in lent ..    the same with the columns `lent` lent
+--   webs-answer, splits-answer, choose-answer    what a word answers to a listing in columns
 --   json-answer out c             the JSON of the listing in the columns c, in a slice that holds `out` before
+--   after f p                     what f answers to the columns that a call left, or the refusal of the call
+--   pass-answer P out c           the JSON of what the pass P makes of the columns c
+--   passes-answer out c           the JSON of what the loop pass makes of what the goto pass makes of them
+--   pass-in P lent .., passes-in lent .., answer-in lent ..    the same with the columns `lent` lent
 --   word-answer w out c           what the word w answers; `check` prints as it goes, and nothing after that
 --   answer w out n                what the word w answers to the first n bytes of the slice
 -- Assumes nothing.
@@ -13,7 +16,8 @@ use mathlib.Core.List.{List, [], _++_}
 use lib.ListN.{take}
 use Rattle.definitions.specs.Lists.{ascii}
 use Rattle.definitions.specs.Questions.{Limits}
-use Rattle.definitions.specs.Answers.{Answer, refused, accepted, loops}
+use Rattle.definitions.specs.Model.{Line}
+use Rattle.definitions.specs.Answers.{Answer, refused, accepted, loops, goto-loops}
 use Rattle.definitions.specs.Calls.{Columns, Passed, Lent, Called, Chosen, by-webs, by-splits, pass-call, web-call, split-call, choose-call}
 use Rattle.json_definitions.specs.JsonCalls.{Written, read-call, write-call}
 use Rattle.rows.specs.Rows.{all-rows}
@@ -21,7 +25,7 @@ use Rattle.javrenzu.specs.Room.{room, lent-room, split-room, pass-room}
 use Rattle.javrenzu.specs.declared.calls.Said.{Said}
 use Rattle.javrenzu.specs.declared.calls.Said.the-variants.{Text, ByWebs, BySplits, Refused}
 use Rattle.javrenzu.specs.declared.words.Word.{Word}
-use Rattle.javrenzu.specs.declared.words.Word.the-variants.{Webs, Splits, Choose, RecoverLoops, Check, Help, Unknown}
+use Rattle.javrenzu.specs.declared.words.Word.the-variants.{Webs, Splits, Choose, RecoverLoops, RecoverGotoLoops, Passes, Check, Help, Unknown}
 
 abbrev pub told : Said → List ℕ → Answer (List ℕ)
 told (Text e) out = accepted (take e out)
@@ -58,15 +62,23 @@ written-text w = elim (w .answer) [ refused n ↦ refused n | accepted e ↦ acc
 abbrev pub json-answer : List ℕ → Columns → Answer (List ℕ)
 json-answer out c = written-text (write-call c out)
 
-unfoldable pub passed-text : List ℕ → Passed → Answer (List ℕ)
-passed-text out p = elim (p .answer) [ refused n ↦ refused n | accepted n ↦ json-answer out (cut n (p .out)) ]
+-- Passes
 
--- the pass with these columns lent
-abbrev pub loops-in : Columns → List ℕ → Columns → Answer (List ℕ)
-loops-in lent out c = passed-text out (pass-call loops c lent)
+unfoldable pub after : (Columns → Answer (List ℕ)) → Passed → Answer (List ℕ)
+after f p = elim (p .answer) [ refused n ↦ refused n | accepted n ↦ f (cut n (p .out)) ]
 
-abbrev pub loops-answer : List ℕ → Columns → Answer (List ℕ)
-loops-answer out c = loops-in pass-room out c
+abbrev pub pass-in : (List Line → Answer (List Line)) → Columns → List ℕ → Columns → Answer (List ℕ)
+pass-in P lent out c = after (json-answer out) (pass-call P c lent)
+
+abbrev pub pass-answer : (List Line → Answer (List Line)) → List ℕ → Columns → Answer (List ℕ)
+pass-answer P out c = pass-in P pass-room out c
+
+-- the goto pass with these columns lent
+abbrev pub passes-in : Columns → List ℕ → Columns → Answer (List ℕ)
+passes-in lent out c = after (pass-answer loops out) (pass-call goto-loops c lent)
+
+abbrev pub passes-answer : List ℕ → Columns → Answer (List ℕ)
+passes-answer out c = passes-in pass-room out c
 
 -- The command
 
@@ -74,7 +86,9 @@ abbrev pub word-answer : Word → List ℕ → Columns → Answer (List ℕ)
 word-answer Webs out c = webs-answer (c .lines) (c .tokens) (c .text)
 word-answer Splits out c = splits-answer (c .lines) (c .tokens) (c .text)
 word-answer Choose out c = choose-answer (c .lines) (c .tokens) (c .text)
-word-answer RecoverLoops out c = loops-answer out c
+word-answer RecoverLoops out c = pass-answer loops out c
+word-answer RecoverGotoLoops out c = pass-answer goto-loops out c
+word-answer Passes out c = passes-answer out c
 word-answer Check out c = accepted []
 word-answer Help out c = accepted []
 word-answer Unknown out c = accepted []

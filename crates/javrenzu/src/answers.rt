@@ -35,6 +35,8 @@ fn of_columns(
         Word::Splits => calls::split_rows(out, lines, tokens, text),
         Word::Choose => calls::chosen_rows(out, lines, tokens, text),
         Word::RecoverLoops => calls::loops_json(out, lines, addresses, tokens, text),
+        Word::RecoverGotoLoops => calls::goto_loops_json(out, lines, addresses, tokens, text),
+        Word::Passes => calls::passes_json(out, lines, addresses, tokens, text),
         Word::Check => {
             check::sizes(lines.len(), tokens.len(), text.len());
             check::rows(out, lines, tokens, text);

@@ -13,8 +13,10 @@ use splits::call::Splits;
 ghost use mathlib.Core.Path.{_≡_};
 ghost use Prim.Native.Nat.{_≤_};
 ghost use lib.ListN.{length, take};
+ghost use Rattle.definitions.specs.Answers.{loops, goto-loops};
 ghost use Rattle.write.specs.Holds.{columns};
-ghost use Rattle.javrenzu.specs.Command.{told, webs-answer, splits-answer, choose-answer, json-answer, loops-in, loops-answer};
+ghost use Rattle.pass_call.specs.Answers.{passed-with};
+ghost use Rattle.javrenzu.specs.Command.{told, webs-answer, splits-answer, choose-answer, json-answer, after, pass-in, pass-answer, passes-in, passes-answer};
 
 // What is said: so many bytes at the start of the slice, behind a line `webs` or `splits` where the chooser chose; or the question that is answered no.
 pub enum Said {
@@ -97,6 +99,28 @@ fn cut_json(
     )
 }
 
+// What a pass left, as JSON, or its refusal.
+fn passed_json(
+    out: &mut [u8],
+    answer: Answer,
+    rows: &[u32],
+    places: &[u64],
+    words: &[u32],
+    bytes: &[u8],
+) -> Said
+    ensures { λ r. ⌜ told r (now (out .exit))
+        ≡ after (json-answer (now (out .entry))) (passed-with answer (columns (now (rows .entry)) (now (places .entry)) (now (words .entry)) (now (bytes .entry)))) ⌝ }
+{
+    match answer {
+        Answer::Accepted(k, n, x) => cut_json(out, rows, places, words, bytes, k, n, x),
+        Answer::TooLarge => Said::Refused(1),
+        Answer::Malformed => Said::Refused(2),
+        Answer::NotUtf8 => Said::Refused(3),
+        Answer::NoRoom => Said::Refused(4),
+        Answer::Overflow => Said::Refused(6),
+    }
+}
+
 fn loops_in(
     out: &mut [u8],
     lines: &[u32],
@@ -109,17 +133,20 @@ fn loops_in(
     bytes: &mut [u8],
 ) -> Said
     ensures { λ r. ⌜ told r (now (out .exit))
-        ≡ loops-in (columns (now (rows .entry)) (now (places .entry)) (now (words .entry)) (now (bytes .entry))) (now (out .entry))
+        ≡ pass-in loops (columns (now (rows .entry)) (now (places .entry)) (now (words .entry)) (now (bytes .entry))) (now (out .entry))
         (columns (now (lines .entry)) (now (addresses .entry)) (now (tokens .entry)) (now (text .entry))) ⌝ }
 {
-    match recover_loops::recover_loops(lines, addresses, tokens, text, rows, places, words, bytes) {
-        Answer::Accepted(k, n, x) => cut_json(out, rows, places, words, bytes, k, n, x),
-        Answer::TooLarge => Said::Refused(1),
-        Answer::Malformed => Said::Refused(2),
-        Answer::NotUtf8 => Said::Refused(3),
-        Answer::NoRoom => Said::Refused(4),
-        Answer::Overflow => Said::Refused(6),
-    }
+    let r = recover_loops::recover_loops(
+        lines,
+        addresses,
+        tokens,
+        text,
+        rows,
+        places,
+        words,
+        bytes,
+    );
+    passed_json(out, r, rows, places, words, bytes)
 }
 
 pub fn loops_json(
@@ -130,13 +157,169 @@ pub fn loops_json(
     text: &[u8],
 ) -> Said
     ensures { λ r. ⌜ told r (now (out .exit))
-        ≡ loops-answer (now (out .entry)) (columns (now (lines .entry)) (now (addresses .entry)) (now (tokens .entry)) (now (text .entry))) ⌝ }
+        ≡ pass-answer loops (now (out .entry)) (columns (now (lines .entry)) (now (addresses .entry)) (now (tokens .entry)) (now (text .entry))) ⌝ }
 {
     let mut rows = [0u32; 1024];
     let mut places = [0u64; 1024];
     let mut words = room::words();
     let mut bytes = room::bytes();
     loops_in(
+        out,
+        lines,
+        addresses,
+        tokens,
+        text,
+        &mut rows,
+        &mut places,
+        &mut words,
+        &mut bytes,
+    )
+}
+
+fn goto_loops_in(
+    out: &mut [u8],
+    lines: &[u32],
+    addresses: &[u64],
+    tokens: &[u32],
+    text: &[u8],
+    rows: &mut [u32],
+    places: &mut [u64],
+    words: &mut [u32],
+    bytes: &mut [u8],
+) -> Said
+    ensures { λ r. ⌜ told r (now (out .exit))
+        ≡ pass-in goto-loops (columns (now (rows .entry)) (now (places .entry)) (now (words .entry)) (now (bytes .entry))) (now (out .entry))
+        (columns (now (lines .entry)) (now (addresses .entry)) (now (tokens .entry)) (now (text .entry))) ⌝ }
+{
+    let r = recover_goto_loops::recover_goto_loops(
+        lines,
+        addresses,
+        tokens,
+        text,
+        rows,
+        places,
+        words,
+        bytes,
+    );
+    passed_json(out, r, rows, places, words, bytes)
+}
+
+pub fn goto_loops_json(
+    out: &mut [u8],
+    lines: &[u32],
+    addresses: &[u64],
+    tokens: &[u32],
+    text: &[u8],
+) -> Said
+    ensures { λ r. ⌜ told r (now (out .exit))
+        ≡ pass-answer goto-loops (now (out .entry)) (columns (now (lines .entry)) (now (addresses .entry)) (now (tokens .entry)) (now (text .entry))) ⌝ }
+{
+    let mut rows = [0u32; 1024];
+    let mut places = [0u64; 1024];
+    let mut words = room::words();
+    let mut bytes = room::bytes();
+    goto_loops_in(
+        out,
+        lines,
+        addresses,
+        tokens,
+        text,
+        &mut rows,
+        &mut places,
+        &mut words,
+        &mut bytes,
+    )
+}
+
+// `loops_json` of the first k lines, n tokens and x bytes.
+fn cut_loops(
+    out: &mut [u8],
+    lines: &[u32],
+    addresses: &[u64],
+    tokens: &[u32],
+    text: &[u8],
+    k: usize,
+    n: usize,
+    x: usize,
+) -> Said
+    ensures { λ r. ⌜ told r (now (out .exit))
+        ≡ pass-answer loops (now (out .entry)) (columns (take k (now (lines .entry))) (take k (now (addresses .entry))) (take n (now (tokens .entry))) (take x (now (text .entry)))) ⌝ }
+{
+    loops_json(
+        out,
+        first(lines, k),
+        first_addresses(addresses, k),
+        first(tokens, n),
+        first_bytes(text, x),
+    )
+}
+
+// What the loop pass makes of what a pass left, or the refusal of that pass.
+fn then_loops(
+    out: &mut [u8],
+    answer: Answer,
+    rows: &[u32],
+    places: &[u64],
+    words: &[u32],
+    bytes: &[u8],
+) -> Said
+    ensures { λ r. ⌜ told r (now (out .exit))
+        ≡ after (pass-answer loops (now (out .entry))) (passed-with answer (columns (now (rows .entry)) (now (places .entry)) (now (words .entry)) (now (bytes .entry)))) ⌝ }
+{
+    match answer {
+        Answer::Accepted(k, n, x) => cut_loops(out, rows, places, words, bytes, k, n, x),
+        Answer::TooLarge => Said::Refused(1),
+        Answer::Malformed => Said::Refused(2),
+        Answer::NotUtf8 => Said::Refused(3),
+        Answer::NoRoom => Said::Refused(4),
+        Answer::Overflow => Said::Refused(6),
+    }
+}
+
+// The goto pass, then the loop pass.
+fn passes_in(
+    out: &mut [u8],
+    lines: &[u32],
+    addresses: &[u64],
+    tokens: &[u32],
+    text: &[u8],
+    rows: &mut [u32],
+    places: &mut [u64],
+    words: &mut [u32],
+    bytes: &mut [u8],
+) -> Said
+    ensures { λ r. ⌜ told r (now (out .exit))
+        ≡ passes-in (columns (now (rows .entry)) (now (places .entry)) (now (words .entry)) (now (bytes .entry))) (now (out .entry))
+        (columns (now (lines .entry)) (now (addresses .entry)) (now (tokens .entry)) (now (text .entry))) ⌝ }
+{
+    let r = recover_goto_loops::recover_goto_loops(
+        lines,
+        addresses,
+        tokens,
+        text,
+        rows,
+        places,
+        words,
+        bytes,
+    );
+    then_loops(out, r, rows, places, words, bytes)
+}
+
+pub fn passes_json(
+    out: &mut [u8],
+    lines: &[u32],
+    addresses: &[u64],
+    tokens: &[u32],
+    text: &[u8],
+) -> Said
+    ensures { λ r. ⌜ told r (now (out .exit))
+        ≡ passes-answer (now (out .entry)) (columns (now (lines .entry)) (now (addresses .entry)) (now (tokens .entry)) (now (text .entry))) ⌝ }
+{
+    let mut rows = [0u32; 1024];
+    let mut places = [0u64; 1024];
+    let mut words = room::words();
+    let mut bytes = room::bytes();
+    passes_in(
         out,
         lines,
         addresses,

@@ -42,4 +42,12 @@ pub fn passes(out: &mut [u8], lines: &[u32], addresses: &[u64], tokens: &[u32], 
         b"recover_loops: ",
         calls::loops_json(out, lines, addresses, tokens, text),
     );
+    outcome(
+        b"recover_goto_loops: ",
+        calls::goto_loops_json(out, lines, addresses, tokens, text),
+    );
+    outcome(
+        b"passes: ",
+        calls::passes_json(out, lines, addresses, tokens, text),
+    );
 }

@@ -65,7 +65,7 @@ pub fn said(buffer: &[u8], r: Said) {
 pub fn unknown() {
     text(
         STDERR_FILENO,
-        b"javrenzu: the word is webs, splits, choose, recover_loops or check; javrenzu --help says more\n",
+        b"javrenzu: the word is webs, splits, choose, recover_loops, recover_goto_loops, passes or check; javrenzu --help says more\n",
     );
 }
 
@@ -76,23 +76,31 @@ pub fn help() {
     );
     text(
         STDOUT_FILENO,
-        b"  webs             which uses of a register are one variable: rows `line token family#web D|U`\n",
+        b"  webs                which uses of a register are one variable: rows `line token family#web D|U`\n",
     );
     text(
         STDOUT_FILENO,
-        b"  splits           the same by split points\n",
+        b"  splits              the same by split points\n",
     );
     text(
         STDOUT_FILENO,
-        b"  choose           webs, or splits where webs are refused 7, 8 or 9; the first line says which\n",
+        b"  choose              webs, or splits where webs are refused 7, 8 or 9; the first line says which\n",
     );
     text(
         STDOUT_FILENO,
-        b"  recover_loops    the listing, as JSON, with guarded do-while loops made while and for loops\n",
+        b"  recover_loops       the listing, as JSON, with guarded do-while loops made while and for loops\n",
     );
     text(
         STDOUT_FILENO,
-        b"  check            is this a listing, and what each word above says to it\n",
+        b"  recover_goto_loops  the same with label and goto loops made while and for loops\n",
+    );
+    text(
+        STDOUT_FILENO,
+        b"  passes              recover_goto_loops, then recover_loops on what it gave\n",
+    );
+    text(
+        STDOUT_FILENO,
+        b"  check               is this a listing, and what each word above says to it\n",
     );
     text(
         STDOUT_FILENO,

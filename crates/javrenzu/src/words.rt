@@ -5,6 +5,8 @@ pub enum Word {
     Splits,
     Choose,
     RecoverLoops,
+    RecoverGotoLoops,
+    Passes,
     Check,
     Help,
     Unknown,
@@ -23,6 +25,12 @@ fn named(s: &[u8]) -> Word {
     }
     if text::equal(s, b"recover_loops") {
         return Word::RecoverLoops;
+    }
+    if text::equal(s, b"recover_goto_loops") {
+        return Word::RecoverGotoLoops;
+    }
+    if text::equal(s, b"passes") {
+        return Word::Passes;
     }
     if text::equal(s, b"check") {
         return Word::Check;

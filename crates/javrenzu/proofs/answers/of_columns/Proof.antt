@@ -1,7 +1,7 @@
 -- `javrenzu::answers::of_columns` meets its contract.
 -- Assumes nothing.
 use borrow.Author.Needs.{needs}
-use Rattle.javrenzu.proofs.Rules.{for-webs, for-splits, for-choose, for-loops, for-check, for-help, for-unknown}
+use Rattle.javrenzu.proofs.Rules.{for-webs, for-splits, for-choose, for-loops, for-goto-loops, for-passes, for-check, for-help, for-unknown}
 use Rattle.javrenzu.proofs.answers.of_columns.Statement.{statement}
 use Rattle.javrenzu.proofs.answers.of_columns.Tie as tie
 
@@ -32,6 +32,18 @@ loops-json-requires c κs = search needs
 enum-told-5 : tie.Need-enum-told-5
 enum-told-5 c = search needs
 
+goto-loops-json-requires : tie.Need-goto-loops-json-requires
+goto-loops-json-requires c κs = search needs
+
+enum-told-6 : tie.Need-enum-told-6
+enum-told-6 c = search needs
+
+passes-json-requires : tie.Need-passes-json-requires
+passes-json-requires c κs = search needs
+
+enum-told-7 : tie.Need-enum-told-7
+enum-told-7 c = search needs
+
 sizes-requires : tie.Need-sizes-requires
 sizes-requires c κs = search needs
 
@@ -41,11 +53,11 @@ rows-requires c κs = search needs
 passes-requires : tie.Need-passes-requires
 passes-requires c κs = search needs
 
-enum-told-6 : tie.Need-enum-told-6
-enum-told-6 c = search needs
+enum-told-8 : tie.Need-enum-told-8
+enum-told-8 c = search needs
 
-enum-told-7 : tie.Need-enum-told-7
-enum-told-7 c = search needs
+enum-told-9 : tie.Need-enum-told-9
+enum-told-9 c = search needs
 
 same-length : tie.Need-same-length
 same-length c = search needs
@@ -75,13 +87,25 @@ same-length-5 : tie.Need-same-length-5
 same-length-5 c = search needs
 
 returns-5 : tie.Need-returns-5
-returns-5 c = search (for-check, needs)
+returns-5 c = search (for-goto-loops, needs)
+
+same-length-6 : tie.Need-same-length-6
+same-length-6 c = search needs
 
 returns-6 : tie.Need-returns-6
-returns-6 c = search (for-help, needs)
+returns-6 c = search (for-passes, needs)
+
+same-length-7 : tie.Need-same-length-7
+same-length-7 c = search needs
 
 returns-7 : tie.Need-returns-7
-returns-7 c = search (for-unknown, needs)
+returns-7 c = search (for-check, needs)
+
+returns-8 : tie.Need-returns-8
+returns-8 c = search (for-help, needs)
+
+returns-9 : tie.Need-returns-9
+returns-9 c = search (for-unknown, needs)
 
 pub of-columns-spec : {M : Type 1} → statement M
-of-columns-spec = tie.close (tie.spec enum-told web-rows-requires enum-told-2 split-rows-requires enum-told-3 chosen-rows-requires enum-told-4 loops-json-requires enum-told-5 sizes-requires rows-requires passes-requires enum-told-6 enum-told-7 same-length returns same-length-2 returns-2 same-length-3 returns-3 same-length-4 returns-4 same-length-5 returns-5 returns-6 returns-7)
+of-columns-spec = tie.close (tie.spec enum-told web-rows-requires enum-told-2 split-rows-requires enum-told-3 chosen-rows-requires enum-told-4 loops-json-requires enum-told-5 goto-loops-json-requires enum-told-6 passes-json-requires enum-told-7 sizes-requires rows-requires passes-requires enum-told-8 enum-told-9 same-length returns same-length-2 returns-2 same-length-3 returns-3 same-length-4 returns-4 same-length-5 returns-5 same-length-6 returns-6 same-length-7 returns-7 returns-8 returns-9)

@@ -1,7 +1,7 @@
 -- `javrenzu::calls::loops_json` meets its contract.
 -- Assumes nothing.
 use borrow.Author.Needs.{needs}
-use Rattle.javrenzu.proofs.Rules.{loops-room}
+use Rattle.javrenzu.proofs.Rules.{pass-lent}
 use Rattle.javrenzu.proofs.calls.loops_json.Statement.{statement}
 use Rattle.javrenzu.proofs.calls.loops_json.Tie as tie
 
@@ -30,7 +30,7 @@ same-length : tie.Need-same-length
 same-length c = search needs
 
 returns : tie.Need-returns
-returns c = search (loops-room, needs)
+returns c = search (pass-lent, needs)
 
 pub loops-json-spec : {M : Type 1} → statement M
 loops-json-spec = tie.close (tie.spec words-requires bytes-requires slice-aggregate-loops-in slice-aggregate-loops-in-2 slice-aggregate-loops-in-3 slice-aggregate-loops-in-4 loops-in-requires same-length returns)
