@@ -122,8 +122,8 @@ module _ (c : Columns) (out out′ : List ℕ) (r : Wrote) (q : json-written r o
 
 -- Passes
 
-pub pass-accepted : (f : Columns → Answer (List ℕ)) (r : Pass) (l a t x : List ℕ) (k m n : ℕ) (v : Answer (List ℕ)) → r ≡ pass.Accepted k m n → v ≡ f (columns (take k l) (take k a) (take m t) (take n x))
-    → v ≡ after f (passed-with r (columns l a t x))
+pub pass-accepted : (f : Columns → Answer (List ℕ)) (r : Pass) (l a t x : List ℕ) (k m n : ℕ) (v : Answer (List ℕ)) → r ≡ pass.Accepted k m n
+    → v ≡ f (columns (take k l) (take k a) (take m t) (take n x)) → v ≡ after f (passed-with r (columns l a t x))
 unfolding after
 pass-accepted f r l a t x k m n v h e = rw h e
 
