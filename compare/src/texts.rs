@@ -4,35 +4,14 @@ use javrenzu::{Counts, Destination, Listing};
 use oracle::columns::{encode, Columns};
 use oracle::json;
 use oracle::questions::{refuse_json_reader, Lent, MAX_LINES, MAX_TEXT, MAX_TOKENS};
-use oracle::random::Random;
 
 use crate::lent::{expect, Words};
 
 /// So many damaged copies of each text are read.
 const COPIES: usize = 20;
 
-/// The text, and copies of it with one to three bytes changed, dropped or doubled.
-fn copies(text: &[u8]) -> impl Iterator<Item = Vec<u8>> + '_ {
-    let mut r = Random::new(text.len() as u64, 1);
-    let damaged = move |_| {
-        let mut copy = text.to_vec();
-        for _ in 0..r.between(1, 3) {
-            let at = r.below(copy.len().max(1));
-            match r.below(4) {
-                _ if copy.is_empty() => copy.push(r.bits() as u8),
-                0 => copy[at] = r.bits() as u8,
-                1 => copy[at] = r.pick(b"\"\\{}[]:,0123456789 u\n"),
-                2 => _ = copy.remove(at),
-                _ => copy.insert(at, copy[at]),
-            }
-        }
-        copy
-    };
-    std::iter::once(text.to_vec()).chain((0..COPIES).map(damaged))
-}
-
 pub fn differences(text: &[u8]) -> Vec<String> {
-    copies(text).flat_map(|copy| read(&copy)).collect()
+    json::copies(text, COPIES).flat_map(|copy| read(&copy)).collect()
 }
 
 /// The reader with room for all, and with just enough; then the writer on what was read.

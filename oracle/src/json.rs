@@ -11,6 +11,7 @@ use crate::columns::KINDS;
 use crate::model::{Token, TokenKind};
 use crate::pseudo::PseudoLine;
 use crate::questions::{MAX_LINES, MAX_TEXT, MAX_TOKENS};
+use crate::random::Random;
 
 /// The files `*.json` of a folder, in the order of their names.
 pub fn files(dir: &Path) -> io::Result<Vec<PathBuf>> {
@@ -19,6 +20,26 @@ pub fn files(dir: &Path) -> io::Result<Vec<PathBuf>> {
     files.retain(|f| f.extension().is_some_and(|x| x == "json"));
     files.sort();
     Ok(files)
+}
+
+/// The text, and so many copies of it with one to three bytes changed, dropped or doubled.
+pub fn copies(text: &[u8], count: usize) -> impl Iterator<Item = Vec<u8>> + '_ {
+    let mut r = Random::new(text.len() as u64, 1);
+    let damaged = move |_| {
+        let mut copy = text.to_vec();
+        for _ in 0..r.between(1, 3) {
+            let at = r.below(copy.len().max(1));
+            match r.below(4) {
+                _ if copy.is_empty() => copy.push(r.bits() as u8),
+                0 => copy[at] = r.bits() as u8,
+                1 => copy[at] = r.pick(b"\"\\{}[]:,0123456789 u\n"),
+                2 => _ = copy.remove(at),
+                _ => copy.insert(at, copy[at]),
+            }
+        }
+        copy
+    };
+    std::iter::once(text.to_vec()).chain((0..count).map(damaged))
 }
 
 /// The names of the kinds, in the order of their numbers.

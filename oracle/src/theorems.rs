@@ -1,9 +1,11 @@
-//! The reference answers of a listing as theorems about the definitions, in antt: one for each call, proved by computation.
+//! The reference answers of a listing as theorems about the definitions, in antt: one for each call, proved by computation; and what the strict
+//! reader and the writer of `json` make of a text.
 
 use std::fmt::Write;
 
 use crate::answers::{self, Choice, Webs};
 use crate::columns::KINDS;
+use crate::json;
 use crate::model::Token;
 use crate::pseudo::PseudoLine;
 
@@ -16,6 +18,34 @@ use Rattle.definitions.specs.Lists.{ascii}
 use Rattle.definitions.specs.Model.{Line, tok, pseudo-line}
 use Rattle.definitions.specs.Computed.{answer, loops-call, goto-loops-call, webs-call, splits-call, choose-call, refused, rewritten, by-webs, by-splits}
 ";
+
+/// What a file of theorems about JSON starts with.
+pub const JSON_HEAD: &str = "\
+use mathlib.Core.Path.{_≡_, refl}
+use mathlib.Core.List.{List, [], _∷_}
+use mathlib.Core.Option.{none, some}
+use Rattle.definitions.specs.Lists.{ascii}
+use Rattle.definitions.specs.Model.{tok, pseudo-line}
+use Rattle.json_definitions.specs.Rows.{read-computed, write-computed}
+";
+
+/// So many damaged copies of each text are read.
+const COPIES: usize = 5;
+
+/// For a text and damaged copies of it the theorems `read-NUMBER-COPY`, what the definition reads of each, and where the text is a listing `write-NUMBER`,
+/// what it writes of it.
+pub fn of_text(number: usize, text: &[u8]) -> String {
+    let mut out = String::new();
+    for (k, copy) in json::copies(text, COPIES).enumerate() {
+        let result = json::read(&copy).map_or("none".to_string(), |lines| format!("some ({})", lines_term(&lines)));
+        let _ = write!(out, "\nread-{number}-{k} : read-computed {} ≡ {result}\nunfolding read-computed\nread-{number}-{k} = refl\n", bytes_term(&copy));
+    }
+    if let Ok(lines) = json::read(text) {
+        let written = bytes_term(&json::write(&lines));
+        let _ = write!(out, "\nwrite-{number} : write-computed ({}) ≡ {written}\nunfolding write-computed\nwrite-{number} = refl\n", lines_term(&lines));
+    }
+    out
+}
 
 /// The listing under the name `listing-NUMBER`, and for each call the theorem `CALL-NUMBER` that the definitions answer as the original does.
 pub fn of_listing(number: usize, lines: &[PseudoLine]) -> String {
@@ -66,13 +96,16 @@ fn token_term(t: &Token) -> String {
     format!("tok {} {kind}", text_term(&t.t))
 }
 
-/// A text of plain characters in quotes, any other as the list of its bytes.
 fn text_term(s: &str) -> String {
-    let plain = |b: u8| matches!(b, b' '..=b'~') && b != b'"' && b != b'\\';
-    if s.bytes().all(plain) {
-        format!("(ascii \"{s}\")")
+    bytes_term(s.as_bytes())
+}
+
+/// A text of plain characters in quotes, any other as the list of its bytes.
+fn bytes_term(s: &[u8]) -> String {
+    if s.iter().all(|b| matches!(b, b' '..=b'~')) {
+        format!("(ascii \"{}\")", String::from_utf8_lossy(s).replace('\\', "\\\\").replace('"', "\\\""))
     } else {
-        list(s.as_bytes(), u8::to_string)
+        list(s, u8::to_string)
     }
 }
 

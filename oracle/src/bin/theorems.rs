@@ -1,4 +1,5 @@
-//! `theorems DIR OUT`: for every `*.json` in DIR the reference answers as theorems, in files OUT/0.antt, OUT/1.antt, ..
+//! `theorems DIR OUT`: for every `*.json` in DIR the reference answers as theorems, in files OUT/0.antt, OUT/1.antt, .. `theorems json DIR OUT`: what
+//! the strict reader and the writer of JSON make of each text and of damaged copies.
 //!
 //! OUT/names has the listings' file names, line by line: the theorems of the listing on line N, counted from 0, end in `-N`.
 //! OUT/large has the file names of listings with more lines than the checker computes all answers of; they have no theorem.
@@ -6,7 +7,7 @@
 
 use std::error::Error;
 use std::fs;
-use std::path::PathBuf;
+use std::path::{Path, PathBuf};
 
 use oracle::{json, theorems};
 
@@ -18,7 +19,29 @@ const MOST_LINES: usize = 128;
 
 fn main() -> Result<(), Box<dyn Error>> {
     let args: Vec<PathBuf> = std::env::args_os().skip(1).map(PathBuf::from).collect();
-    let [dir, out] = args.as_slice() else { return Err("usage: theorems DIR OUT".into()) };
+    match args.as_slice() {
+        [dir, out] => of_listings(dir, out),
+        [word, dir, out] if word.as_os_str() == "json" => of_texts(dir, out),
+        _ => Err("usage: theorems [json] DIR OUT".into()),
+    }
+}
+
+fn of_texts(dir: &Path, out: &Path) -> Result<(), Box<dyn Error>> {
+    let files = json::files(dir)?;
+    let name = |f: &PathBuf| f.file_name().expect("a file has a name").to_string_lossy().into_owned() + "\n";
+    fs::write(out.join("names"), files.iter().map(name).collect::<String>())?;
+    fs::write(out.join("large"), "")?;
+    for (n, some) in files.chunks(PER_FILE).enumerate() {
+        let mut text = theorems::JSON_HEAD.to_string();
+        for (k, file) in some.iter().enumerate() {
+            text += &theorems::of_text(n * PER_FILE + k, &fs::read(file)?);
+        }
+        fs::write(out.join(format!("{n}.antt")), text)?;
+    }
+    Ok(())
+}
+
+fn of_listings(dir: &Path, out: &Path) -> Result<(), Box<dyn Error>> {
     let (mut names, mut large) = (String::new(), String::new());
     let mut listings = Vec::new();
     for file in json::files(dir)? {
