@@ -102,19 +102,46 @@ fn microseconds(nanoseconds: f64) -> String {
     format!("{:.1}", nanoseconds / 1e3)
 }
 
+/// Bytes in units of 1,024.
+fn kilobytes(bytes: usize) -> String {
+    format!("{:.1}", bytes as f64 / 1_024.0)
+}
+
+/// Nanoseconds of the library's web call, and the bytes that it is lent.
+fn webs_cost(c: &Columns) -> (f64, usize) {
+    let (mut numbers, mut marks) = outputs(c);
+    let mut space = vec![0; working_space(c.lines.len())];
+    let time = nanoseconds(|| _ = black_box(javrenzu::webs(listing_of(c), &mut numbers, &mut marks, &mut space)));
+    (time, 5 * c.tokens.len() + 8 * space.len())
+}
+
 fn webs() {
-    println!("\n## The web call\n\nThe library's call with its questions and per-token answers, beside the original's `recover` alone, which answers no token yet, and with the key and the mark of every token.\n");
-    println!("| listing | lines | tokens | bytes | sweeps | library, µs | `recover` alone, µs | times faster | with every token, µs | times faster |");
-    println!("|---|---|---|---|---|---|---|---|---|---|");
+    println!("\n## The web call\n\nThe library's call with its questions and per-token answers, beside the original's `recover` with the key and the mark of every token, and beside `recover` alone, which answers no token yet. The library is lent its answers and its working space.\n");
+    println!("| listing | lines | tokens | bytes | sweeps | lent, KB | library, µs | original, µs | times faster | `recover` alone, µs | times faster |");
+    println!("|---|---|---|---|---|---|---|---|---|---|---|");
     for (name, lines) in webs_listings() {
         let c = encode(&lines);
-        let (mut numbers, mut marks) = outputs(&c);
-        let mut space = vec![0; working_space(c.lines.len())];
-        let own = nanoseconds(|| _ = black_box(javrenzu::webs(listing_of(&c), &mut numbers, &mut marks, &mut space)));
-        let alone = nanoseconds(|| _ = black_box(answers::recover(&lines)));
+        let (own, lent) = webs_cost(&c);
         let all = nanoseconds(|| _ = black_box(answers::numbered(&lines)));
+        let alone = nanoseconds(|| _ = black_box(answers::recover(&lines)));
         let times = |rust: f64| format!("{:.1}", rust / own);
-        row(name, &c, &[sweeps(&lines).to_string(), microseconds(own), microseconds(alone), times(alone), microseconds(all), times(all)]);
+        row(name, &c, &[sweeps(&lines).to_string(), kilobytes(lent), microseconds(own), microseconds(all), times(all), microseconds(alone), times(alone)]);
+    }
+}
+
+/// How the cost of the web call grows with the lines of plausible listings.
+fn growth() {
+    println!("\n## How the web call grows\n\nPlausible listings of more and more lines.\n");
+    println!("| lines | tokens | bytes | lent, KB | library, µs | ns a line | original, µs | ns a line |");
+    println!("|---|---|---|---|---|---|---|---|");
+    for about in [10, 25, 50, 100, 200, 400, 850] {
+        let lines = accepted(about);
+        let c = encode(&lines);
+        let (own, lent) = webs_cost(&c);
+        let rust = nanoseconds(|| _ = black_box(answers::numbered(&lines)));
+        let n = c.lines.len();
+        let a_line = |time: f64| format!("{:.0}", time / n as f64);
+        println!("| {n} | {} | {} | {} | {} | {} | {} | {} |", c.tokens.len(), c.text.len(), kilobytes(lent), microseconds(own), a_line(own), microseconds(rust), a_line(rust));
     }
 }
 
@@ -131,9 +158,9 @@ fn splits_listings() -> Vec<(&'static str, Vec<PseudoLine>)> {
 }
 
 fn splits() {
-    println!("\n## The split call\n\nThe library's call with its questions and per-token answers, beside the original's `Seg` alone, which answers no token yet, and with the key and the mark of every token.\n");
-    println!("| listing | lines | tokens | bytes | library, µs | `Seg` alone, µs | times faster | with every token, µs | times faster |");
-    println!("|---|---|---|---|---|---|---|---|---|");
+    println!("\n## The split call\n\nThe library's call with its questions and per-token answers, beside the original's `Seg` with the key and the mark of every token, and beside `Seg` alone, which answers no token yet. The library is lent its answers.\n");
+    println!("| listing | lines | tokens | bytes | lent, KB | library, µs | original, µs | times faster | `Seg` alone, µs | times faster |");
+    println!("|---|---|---|---|---|---|---|---|---|---|");
     for (name, lines) in splits_listings() {
         let c = encode(&lines);
         let (mut numbers, mut marks) = outputs(&c);
@@ -141,7 +168,7 @@ fn splits() {
         let alone = nanoseconds(|| _ = black_box(answers::split_points(&lines)));
         let all = nanoseconds(|| _ = black_box(answers::splits(&lines)));
         let times = |rust: f64| format!("{:.1}", rust / own);
-        row(name, &c, &[microseconds(own), microseconds(alone), times(alone), microseconds(all), times(all)]);
+        row(name, &c, &[kilobytes(5 * c.tokens.len()), microseconds(own), microseconds(all), times(all), microseconds(alone), times(alone)]);
     }
 }
 
@@ -160,23 +187,37 @@ fn passes_listings() -> Vec<(&'static str, Vec<PseudoLine>)> {
     ]
 }
 
+/// Nanoseconds of one of the library's passes, and the bytes that it is lent.
+fn pass_cost(pass: Pass, c: &Columns) -> (f64, usize) {
+    let n = c.lines.len();
+    let (mut rows, mut places) = (vec![0; n], vec![0; n]);
+    let (mut words, mut bytes) = (vec![0; c.tokens.len() + 8 * n], vec![0; c.text.len() + 32 * n]);
+    let lent = 12 * n + 4 * words.len() + bytes.len();
+    let time = nanoseconds(|| {
+        let out = Destination { lines: &mut rows, addresses: &mut places, tokens: &mut words, text: &mut bytes };
+        match pass {
+            Pass::Loops => _ = black_box(javrenzu::recover_loops(listing_of(c), &c.addresses, out)),
+            Pass::GotoLoops => _ = black_box(javrenzu::recover_goto_loops(listing_of(c), &c.addresses, out)),
+        }
+    });
+    (time, lent)
+}
+
 fn passes() {
-    println!("\n## The loop passes\n\nThe library's calls with their questions, each leaving its input and writing the whole listing anew, beside the original on a copy of its lines, which it edits in place, and beside it without the time of the copy.\n");
-    println!("| listing | lines | tokens | bytes | `recover_loops`, library, µs | original, µs | times faster | without the copy, µs | times faster |");
-    println!("|---|---|---|---|---|---|---|---|---|");
-    for (name, lines) in passes_listings() {
-        let c = encode(&lines);
-        let n = c.lines.len();
-        let (mut rows, mut places) = (vec![0; n], vec![0; n]);
-        let (mut words, mut bytes) = (vec![0; c.tokens.len() + 8 * n], vec![0; c.text.len() + 32 * n]);
-        let own = nanoseconds(|| {
-            let out = Destination { lines: &mut rows, addresses: &mut places, tokens: &mut words, text: &mut bytes };
-            _ = black_box(javrenzu::recover_loops(listing_of(&c), &c.addresses, out));
-        });
-        let copy = nanoseconds(|| _ = black_box(lines.to_vec()));
-        let all = nanoseconds(|| _ = black_box(run(Pass::Loops, &lines)));
-        let times = |rust: f64| format!("{:.1}", rust / own);
-        row(name, &c, &[microseconds(own), microseconds(all), times(all), microseconds(all - copy), times(all - copy)]);
+    println!("\n## The loop passes\n\nThe library's calls with their questions, each leaving its input and writing the whole listing anew into what it is lent, beside the original on a copy of its lines, which it edits in place, and beside it without the time of the copy.\n");
+    for (name, pass) in [("recover_loops", Pass::Loops), ("recover_goto_loops", Pass::GotoLoops)] {
+        println!("`{name}`:\n");
+        println!("| listing | lines | tokens | bytes | lent, KB | library, µs | original, µs | times faster | without the copy, µs | times faster |");
+        println!("|---|---|---|---|---|---|---|---|---|---|");
+        for (name, lines) in passes_listings() {
+            let c = encode(&lines);
+            let (own, lent) = pass_cost(pass, &c);
+            let copy = nanoseconds(|| _ = black_box(lines.to_vec()));
+            let all = nanoseconds(|| _ = black_box(run(pass, &lines)));
+            let times = |rust: f64| format!("{:.1}", rust / own);
+            row(name, &c, &[kilobytes(lent), microseconds(own), microseconds(all), times(all), microseconds(all - copy), times(all - copy)]);
+        }
+        println!();
     }
 }
 
@@ -184,6 +225,7 @@ fn main() {
     println!("# Performance\n\nMade by `tools/performance`: the proved library beside the original Rust, one run, both optimised.\n");
     questions();
     webs();
+    growth();
     splits();
     passes();
 }

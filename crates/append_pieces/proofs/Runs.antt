@@ -14,9 +14,9 @@ use Rattle.definitions.specs.Lists.{filter, or-else, ascii}
 use Rattle.definitions.specs.Model.{Token, Line, tok, token}
 use Rattle.definitions.specs.Condition.{condition}
 use Rattle.definitions.specs.Calls.{Columns}
-use Rattle.pseudo_opt.specs.Conditions.{conditional}
-use Rattle.pseudo_opt.specs.declared.condition.Conditional.{Conditional}
-use Rattle.pseudo_opt.specs.declared.condition.Conditional.the-variants.{Cut, Nothing}
+use Rattle.condition.specs.Conditions.{conditional}
+use Rattle.condition.specs.declared.Conditional.{Conditional}
+use Rattle.condition.specs.declared.Conditional.the-variants.{Cut, Nothing}
 use Rattle.pseudo_types.specs.Cuts.{cut-token, cut-run, Bounds, Within}
 use Rattle.pseudo_types.proofs.CutRuns.{cut-is-run, run-first, run-end}
 use Rattle.write.specs.declared.Cursor.{Cursor}

@@ -7,8 +7,8 @@ ghost use Rattle.definitions.specs.Condition.{condition};
 ghost use Rattle.pseudo_types.specs.Cuts.{cut-token, cut-run};
 ghost use Rattle.append.specs.Adds.{Adding, whole};
 use crate::tokens::kind_at;
+use condition::Conditional;
 use model::columns::token_count;
-use pseudo_opt::condition::Conditional;
 use write::Cursor;
 
 // Token j of the condition behind place k of line i.

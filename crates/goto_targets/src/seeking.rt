@@ -15,7 +15,7 @@ ghost use Rattle.append.specs.Adds.{whole};
 ghost use Rattle.goto_targets.specs.Seek.{step, seek, told};
 use model::columns::kind;
 use model::columns::text_at;
-use pieces::back::less;
+use text::less;
 
 // No goto yet; a goto, and no symbol behind it yet; the symbol: some bytes of a token of a line.
 pub enum State {

@@ -1,12 +1,12 @@
 // The reading layer for a test to call from Rust: each function writes the answer of one proved function, as numbers, into `out`.
 //
 // An enum does not cross to Rust, so its case is a number: 0 where there is nothing, 1 and up in the order of its other cases.
+use assignment::Assigned;
+use assignment::definition::Defined;
+use condition::Conditional;
 use family::Register;
 use model::questions::Limits;
 use pseudo_opt::Found;
-use pseudo_opt::assignment::Assigned;
-use pseudo_opt::condition::Conditional;
-use pseudo_opt::definition::Defined;
 
 fn put(out: &mut [u64], k: usize, v: usize) {
     if k < out.len() {
@@ -119,8 +119,7 @@ pub extern "C" fn leaves_assignment(
     i: usize,
     out: &mut [u64],
 ) {
-    let Assigned::Side { from, to } = pseudo_opt::assignment::assignment(lines, tokens, text, i)
-    else {
+    let Assigned::Side { from, to } = assignment::assignment(lines, tokens, text, i) else {
         put_three(out, 0, 0, 0);
         return;
     };
@@ -136,7 +135,7 @@ pub extern "C" fn leaves_expr_length(
     i: usize,
     k: usize,
 ) -> usize {
-    pseudo_opt::assignment::expr_text(lines, tokens, text, i, k).len()
+    assignment::expr_text(lines, tokens, text, i, k).len()
 }
 
 #[no_mangle]
@@ -147,7 +146,7 @@ pub extern "C" fn leaves_defines(
     i: usize,
     out: &mut [u64],
 ) {
-    match pseudo_opt::definition::defines(lines, tokens, text, i) {
+    match assignment::definition::defines(lines, tokens, text, i) {
         Defined::Family(r) => put_register(out, r),
         Defined::Nothing => put_three(out, 0, 0, 0),
     }
@@ -175,13 +174,7 @@ pub extern "C" fn leaves_condition(
     kw: &[u8],
     out: &mut [u64],
 ) {
-    let Conditional::Cut { keyword, end } = pseudo_opt::condition::condition(
-        lines,
-        tokens,
-        text,
-        i,
-        kw,
-    ) else {
+    let Conditional::Cut { keyword, end } = condition::condition(lines, tokens, text, i, kw) else {
         put_three(out, 0, 0, 0);
         return;
     };

@@ -24,11 +24,11 @@ use Rattle.definitions.specs.Passes.{lone-brace}
 use Rattle.text.proofs.Parts.{part-step, part-none}
 use Rattle.text.proofs.Loops.{position-found, position-next, position-end}
 use Rattle.pseudo_opt.specs.Places.{found}
-use Rattle.pseudo_opt.specs.Assignments.{side, assigned}
+use Rattle.assignment.specs.Assignments.{side, assigned}
 use Rattle.pseudo_opt.specs.declared.Found.{Found}
 use Rattle.pseudo_opt.specs.declared.Found.the-variants.{At, Nothing}
-use Rattle.pseudo_opt.specs.declared.assignment.Assigned.{Assigned}
-use Rattle.pseudo_opt.specs.declared.assignment.Assigned.the-variants.{Side, Nothing as No}
+use Rattle.assignment.specs.declared.Assigned.{Assigned}
+use Rattle.assignment.specs.declared.Assigned.the-variants.{Side, Nothing as No}
 use Rattle.family.specs.Register.{family-of, names-family}
 use Rattle.family.specs.declared.Register.{Register}
 use Rattle.pseudo_types.specs.Cuts.{text-from}

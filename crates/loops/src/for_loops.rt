@@ -15,14 +15,14 @@ ghost use Rattle.plan.specs.Plan.{header-at};
 ghost use Rattle.plan.specs.ForLoop.{inits, passes};
 ghost use Rattle.loops.specs.Turns.{ToFor};
 ghost use Rattle.loops.specs.Words.{source-line, Ready, at-indent, ends-word, continue-word, closed-words, steps-words, counts-words, init-words, counted-words, place-words};
+use assignment::Assigned;
+use assignment::assignment;
 use family::Register;
 use plan::header;
 use plan::indent;
 use plan::make_for;
 use plan::source;
 use pseudo_opt::Found;
-use pseudo_opt::assignment::Assigned;
-use pseudo_opt::assignment::assignment;
 
 // The line of w ends a block at indent `ind`: it is no deeper, and no label.
 fn ends(lines: &[u32], tokens: &[u32], text: &[u8], ind: usize, w: usize) -> bool
@@ -97,7 +97,7 @@ fn inits(lines: &[u32], tokens: &[u32], text: &[u8], i: usize, s: &[u8], r: Regi
         return false;
     };
     if pseudo_opt::registers::token_names(lines, tokens, text, i, 0, s, r) {
-        if pseudo_opt::definition::side_names(lines, tokens, text, i, from, to, s, r) {
+        if assignment::definition::side_names(lines, tokens, text, i, from, to, s, r) {
             false
         } else {
             true

@@ -6,13 +6,7 @@ ghost use Prim.Native.Nat.{_-_, _<_};
 ghost use Rattle.definitions.specs.Model.{line};
 ghost use Rattle.definitions.specs.Columns.{listing};
 ghost use Rattle.negate.specs.Tests.{front, back, test-count, test-token};
-
-// n - m, 0 where m is larger.
-fn less(n: usize, m: usize) -> usize
-    ensures { λ r. ⌜ r ≡ n - m ⌝ }
-{
-    if m < n { n - m } else { 0 }
-}
+use text::less;
 
 // How many tokens stand behind the first of line i and before place g.
 pub fn test_count(lines: &[u32], tokens: &[u32], text: &[u8], i: usize, g: usize) -> usize

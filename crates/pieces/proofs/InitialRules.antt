@@ -22,11 +22,11 @@ use Rattle.text.proofs.Loops.{any-found, any-next, any-end}
 use Rattle.loop_theory.proofs.Cases.{true-false}
 use Rattle.family.specs.Register.{names-family}
 use Rattle.pseudo_opt.specs.Places.{found}
-use Rattle.pseudo_opt.specs.Assignments.{side, assigned}
+use Rattle.assignment.specs.Assignments.{side, assigned}
 use Rattle.pseudo_opt.specs.declared.Found.{Found}
 use Rattle.pseudo_opt.specs.declared.Found.the-variants.{At, Nothing}
-use Rattle.pseudo_opt.specs.declared.assignment.Assigned.{Assigned}
-use Rattle.pseudo_opt.specs.declared.assignment.Assigned.the-variants.{Side, Nothing as No}
+use Rattle.assignment.specs.declared.Assigned.{Assigned}
+use Rattle.assignment.specs.declared.Assigned.the-variants.{Side, Nothing as No}
 use Rattle.plan.specs.ForLoop.{inits, passes}
 use Rattle.pieces.specs.Pieces.{piece, origin, cut-place, jumped, comes-before}
 use Rattle.pieces.specs.Initial.{cut-from, cut-assigns, calls-next, cut-calls, cut-inits, cut-passes}

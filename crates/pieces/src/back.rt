@@ -10,13 +10,7 @@ ghost use Rattle.definitions.specs.Questions.{question-2};
 ghost use Rattle.pieces.specs.Pieces.{piece-text, text-before, JumpWord};
 use crate::reading::cut_place;
 use pseudo_types::texts::text_from;
-
-// n - m, 0 where m is larger.
-pub fn less(n: usize, m: usize) -> usize
-    ensures { λ r. ⌜ r ≡ n - m ⌝ }
-{
-    if m < n { n - m } else { 0 }
-}
+use text::less;
 
 // The texts of the first g tokens of line i, one after the other.
 pub fn text_before<'a>(

@@ -12,11 +12,11 @@ ghost use Rattle.definitions.specs.ToFor.{is-step};
 ghost use Rattle.family.specs.Register.{family-of};
 ghost use Rattle.pieces.specs.Pieces.{piece, origin};
 ghost use Rattle.pieces.specs.Counting.{text-between, adds-to, jumped-steps, piece-rest, jumped-family};
-use crate::back::less;
 use crate::reading::cut_place;
 use family::Register;
 use pseudo_opt::registers::register_at;
 use pseudo_types::texts::text_from;
+use text::less;
 
 // The texts of the tokens of line i from place 1 up to place n, which is not 0.
 fn text_between<'a>(lines: &[u32], tokens: &[u32], text: &'a [u8], i: usize, n: usize) -> &'a [u8]

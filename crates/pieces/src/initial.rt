@@ -11,14 +11,14 @@ ghost use Rattle.pieces.specs.Pieces.{piece};
 ghost use Rattle.pieces.specs.Initial.{cut-from, cut-assigns, cut-calls, cut-inits, cut-passes};
 use crate::reading::comes_before;
 use crate::reading::cut_place;
+use assignment::Assigned;
+use assignment::assignment;
+use assignment::definition::side_names;
 use family::Register;
 use model::columns::kind;
 use model::columns::text_at;
 use pseudo_opt::Found;
-use pseudo_opt::assignment::Assigned;
-use pseudo_opt::assignment::assignment;
 use pseudo_opt::calls::call_at;
-use pseudo_opt::definition::side_names;
 use pseudo_opt::registers::line_names;
 use pseudo_opt::registers::token_names;
 

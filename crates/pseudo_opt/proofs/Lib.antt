@@ -1,8 +1,6 @@
 pub mod Rules
+pub mod Passes
+pub mod Named
 pub mod Symbols
 pub mod Callees
 pub mod Counts
-pub mod Sides
-pub mod Assigned
-pub mod Conditions
-pub mod Defining

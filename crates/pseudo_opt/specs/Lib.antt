@@ -1,5 +1,2 @@
 pub mod Places
 pub mod Braces
-pub mod Assignments
-pub mod Conditions
-pub mod Definitions

@@ -27,9 +27,9 @@ use Rattle.definitions.specs.Statements.{is-empty}
 use Rattle.definitions.specs.Condition.{cut-front, cut-end, cut, condition}
 use Rattle.text.proofs.Texts.{==-eq}
 use Rattle.family.specs.Register.{names-family}
-use Rattle.pseudo_opt.specs.Conditions.{conditional}
-use Rattle.pseudo_opt.specs.declared.condition.Conditional.{Conditional}
-use Rattle.pseudo_opt.specs.declared.condition.Conditional.the-variants.{Cut, Nothing}
+use Rattle.condition.specs.Conditions.{conditional}
+use Rattle.condition.specs.declared.Conditional.{Conditional}
+use Rattle.condition.specs.declared.Conditional.the-variants.{Cut, Nothing}
 use Rattle.pseudo_types.specs.Cuts.{front, back, cut-token, cut-run, Bounds, Within}
 
 module _ (l : Line) (k n : ℕ) where

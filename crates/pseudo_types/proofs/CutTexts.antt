@@ -19,9 +19,9 @@ use Rattle.definitions.specs.Condition.{cut-front, cut-end, cut, condition}
 use Rattle.definitions.specs.ToFor.{is-step}
 use Rattle.text.proofs.Parts.{part-none}
 use Rattle.text.proofs.Texts.{==-eq}
-use Rattle.pseudo_opt.specs.Conditions.{conditional}
-use Rattle.pseudo_opt.specs.declared.condition.Conditional.{Conditional}
-use Rattle.pseudo_opt.specs.declared.condition.Conditional.the-variants.{Cut, Nothing}
+use Rattle.condition.specs.Conditions.{conditional}
+use Rattle.condition.specs.declared.Conditional.{Conditional}
+use Rattle.condition.specs.declared.Conditional.the-variants.{Cut, Nothing}
 use Rattle.pseudo_types.specs.Cuts.{text-from, Bounds, Within, same-condition}
 
 -- Dropping empty tokens drops no byte.

@@ -15,8 +15,8 @@ use lib.ListN.{length, drop}
 use Rattle.definitions.specs.Lists.{if_then_else_, part, range, _==_, ascii}
 use Rattle.definitions.specs.Model.{Token, Line, tok, token, text}
 use Rattle.definitions.specs.Condition.{condition}
-use Rattle.pseudo_opt.specs.declared.condition.Conditional.{Conditional}
-use Rattle.pseudo_opt.specs.declared.condition.Conditional.the-variants.{Cut, Nothing}
+use Rattle.condition.specs.declared.Conditional.{Conditional}
+use Rattle.condition.specs.declared.Conditional.the-variants.{Cut, Nothing}
 
 abbrev pub text-from : Line → ℕ → List ℕ
 text-from l j = text (drop j (l .tokens))

@@ -13,15 +13,15 @@ ghost use Rattle.definitions.specs.Columns.{listing};
 ghost use Rattle.definitions.specs.Questions.{question-2};
 ghost use Rattle.definitions.specs.Condition.{closing, condition};
 ghost use Rattle.family.specs.Register.{family-of, names-family};
-ghost use Rattle.pseudo_opt.specs.Conditions.{cut-by, conditional};
+ghost use Rattle.condition.specs.Conditions.{cut-by, conditional};
 ghost use Rattle.pseudo_types.specs.Cuts.{text-from, front, back, cut-token, cut-run, Within, same-condition};
 use crate::texts::text_from;
+use condition::Conditional;
 use family::Register;
 use model::columns::kind;
 use model::columns::text_at;
 use model::columns::token_count;
 use pseudo_opt::Found;
-use pseudo_opt::condition::Conditional;
 
 // n - 1, 0 where there is none.
 fn before(n: usize) -> usize

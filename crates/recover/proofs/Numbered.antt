@@ -33,9 +33,9 @@ use Rattle.definitions.specs.Columns.{listing}
 use Rattle.model.proofs.Decode.{length-listing}
 use Rattle.family.specs.declared.Register.{Register}
 use Rattle.family.specs.Register.{family-of}
-use Rattle.pseudo_opt.specs.declared.definition.Defined.{Defined}
-use Rattle.pseudo_opt.specs.declared.definition.Defined.the-variants.{Family as Of, Nothing}
-use Rattle.pseudo_opt.specs.Definitions.{defined}
+use Rattle.assignment.specs.declared.definition.Defined.{Defined}
+use Rattle.assignment.specs.declared.definition.Defined.the-variants.{Family as Of, Nothing}
+use Rattle.assignment.specs.Definitions.{defined}
 use Rattle.recover.specs.Families.{hash, hash-of, latest, place, place-of, Table, families-before, added, of-register, Ready, Added, Placed, place-defined, defined-at, Numbered}
 use Rattle.recover.proofs.Lists.{any-snoc, range-snoc}
 use Rattle.recover.proofs.Finding.{unique-families, place-here}

@@ -21,8 +21,8 @@ use crate::words::greater;
 use crate::words::narrow;
 use crate::words::number;
 use crate::words::zero;
+use assignment::definition::Defined;
 use family::Register;
-use pseudo_opt::definition::Defined;
 
 const ROW_HASHES: [usize; 8] = [202, 212, 222, 232, 111, 217, 204, 118];
 
@@ -207,7 +207,7 @@ fn place_line(
     requires { ⌜ Ready (listing (now lines) (now tokens) (now text)) i count (now table) ⌝ }
     ensures { λ c. ⌜ Placed (listing (now (lines .entry)) (now (tokens .entry)) (now (text .entry))) i count c (now (table .exit)) ⌝ }
 {
-    let Defined::Family(r) = pseudo_opt::definition::defines(lines, tokens, text, i) else {
+    let Defined::Family(r) = assignment::definition::defines(lines, tokens, text, i) else {
         return 0;
     };
     place_register(lines, tokens, text, table, i, count, r)

@@ -5,7 +5,7 @@
 // of this crate's specs/.
 ghost use mathlib.Core.Path.{_≡_};
 ghost use mathlib.Core.List.{[], _∷_};
-ghost use Prim.Native.Nat.{_≤_, _<_};
+ghost use Prim.Native.Nat.{_-_, _≤_, _<_};
 ghost use lib.ListN.{length, getD, drop};
 ghost use Rattle.definitions.specs.Lists.{_==_, starts-with, ends-with, contains, part};
 ghost use Rattle.definitions.specs.Utf8.{is-utf8, to, tail};
@@ -16,6 +16,13 @@ fn wide(x: u32) -> usize
     ensures { λ r. ⌜ r ≡ x ⌝ }
 {
     x as usize
+}
+
+// n - m, 0 where m is larger.
+pub fn less(n: usize, m: usize) -> usize
+    ensures { λ r. ⌜ r ≡ n - m ⌝ }
+{
+    if m < n { n - m } else { 0 }
 }
 
 // The word at k, 0 past the end.

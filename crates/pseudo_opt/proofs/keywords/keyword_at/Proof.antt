@@ -1,4 +1,5 @@
--- `pseudo_opt::keywords::keyword_at` meets its contract. The answer is what is left to look for from token j on. Assumes nothing.
+-- `pseudo_opt::keywords::keyword_at` meets its contract. The answer is what is left to look for from place k on.
+-- Assumes nothing.
 use mathlib.Core.Path.{_≡_}
 use Prim.Native.Nat.{_-_, _≤_}
 use borrow.Author.Needs.{needs}
@@ -6,39 +7,45 @@ use Rattle.definitions.specs.Lists.{position}
 use Rattle.definitions.specs.Model.{line}
 use Rattle.definitions.specs.Columns.{listing}
 use Rattle.definitions.specs.Statements.{is-kw}
-use Rattle.pseudo_opt.proofs.Rules.{place-from, places}
+use Rattle.pseudo_opt.proofs.Passes.{placed, seeks}
 use Rattle.pseudo_opt.proofs.keywords.keyword_at.Statement.{statement}
 use Rattle.pseudo_opt.proofs.keywords.keyword_at.Tie as tie
 
 abbrev Inv-loop : tie.InvT-loop
-Inv-loop lines tokens text i kw n j₀ j = (j ≤ n) × (position (is-kw kw) (line (listing lines tokens text) i .tokens) ≡ place-from (is-kw kw) (line (listing lines tokens text) i .tokens) j)
+Inv-loop lines tokens text i kw s e k₀ k = (s ≤ k) × (position (is-kw kw) (line (listing lines tokens text) i .tokens) ≡ placed (is-kw kw) lines tokens text i s k)
 
 abbrev μ-loop : tie.MeasureT-loop
-μ-loop lines tokens text i kw n j₀ j = n - j
+μ-loop lines tokens text i kw s e k₀ k = e - k
 
-token-count-requires : tie.Need-token-count-requires Inv-loop μ-loop
-token-count-requires c κs = search (places, needs)
+line-start-requires : tie.Need-line-start-requires Inv-loop μ-loop
+line-start-requires c κs = search (seeks, needs)
+
+line-end-requires : tie.Need-line-end-requires Inv-loop μ-loop
+line-end-requires c κs = search (seeks, needs)
 
 loop-holds : tie.Need-loop-holds Inv-loop μ-loop
-loop-holds c = search (places, needs)
+loop-holds c = search (seeks, needs)
 
-is-kw-requires : tie.Need-is-kw-requires Inv-loop μ-loop
-is-kw-requires c κs = search (places, needs)
+kw-at-requires : tie.Need-kw-at-requires Inv-loop μ-loop
+kw-at-requires c κs = search (seeks, needs)
+
+sub-t11 : tie.Need-sub-t11 Inv-loop μ-loop
+sub-t11 c = search needs
 
 returns : tie.Need-returns Inv-loop μ-loop
-returns c = search (places, needs)
+returns c = search (seeks, needs)
 
-add-j : tie.Need-add-j Inv-loop μ-loop
-add-j c = search (places, needs)
+add-k : tie.Need-add-k Inv-loop μ-loop
+add-k c = search (seeks, needs)
 
 loop-less : tie.Need-loop-less Inv-loop μ-loop
-loop-less c = search (places, needs)
+loop-less c = search (seeks, needs)
 
 loop-again : tie.Need-loop-again Inv-loop μ-loop
-loop-again c = search (places, needs)
+loop-again c = search (seeks, needs)
 
 returns-2 : tie.Need-returns-2 Inv-loop μ-loop
-returns-2 c = search (places, needs)
+returns-2 c = search (seeks, needs)
 
 pub keyword-at-spec : {M : Type 1} → statement M
 keyword-at-spec =
@@ -46,11 +53,13 @@ keyword-at-spec =
     (tie.spec
     Inv-loop
     μ-loop
-    token-count-requires
+    line-start-requires
+    line-end-requires
     loop-holds
-    is-kw-requires
+    kw-at-requires
+    sub-t11
     returns
-    add-j
+    add-k
     loop-less
     loop-again
     returns-2)

@@ -1,6 +1,6 @@
 -- `pseudo_opt::registers::register_at` meets its contract. Assumes nothing.
 use borrow.Author.Needs.{needs}
-use Rattle.pseudo_opt.proofs.Defining.{families}
+use Rattle.pseudo_opt.proofs.Named.{families}
 use Rattle.pseudo_opt.proofs.registers.register_at.Statement.{statement}
 use Rattle.pseudo_opt.proofs.registers.register_at.Tie as tie
 

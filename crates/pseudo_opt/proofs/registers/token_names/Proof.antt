@@ -1,6 +1,6 @@
 -- `pseudo_opt::registers::token_names` meets its contract. Assumes nothing.
 use borrow.Author.Needs.{needs}
-use Rattle.pseudo_opt.proofs.Defining.{families}
+use Rattle.pseudo_opt.proofs.Named.{families}
 use Rattle.pseudo_opt.proofs.registers.token_names.Statement.{statement}
 use Rattle.pseudo_opt.proofs.registers.token_names.Tie as tie
 

@@ -1,6 +1,6 @@
 -- `pseudo_types::conditions::closes` meets its contract. One comparison.
 -- Assumes nothing.
-use Rattle.pseudo_opt.proofs.Conditions.{conditions}
+use Rattle.condition.proofs.Conditions.{conditions}
 use Rattle.pseudo_types.proofs.Opened.{opened}
 use borrow.Author.Needs.{needs}
 use Rattle.pseudo_types.proofs.conditions.closes.Statement.{statement}

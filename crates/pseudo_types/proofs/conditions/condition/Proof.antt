@@ -1,6 +1,6 @@
 -- `pseudo_types::conditions::condition` meets its contract. Its tests, one after the other.
 -- Assumes nothing.
-use Rattle.pseudo_opt.proofs.Conditions.{conditions}
+use Rattle.condition.proofs.Conditions.{conditions}
 use Rattle.pseudo_types.proofs.Opened.{opened}
 use borrow.Author.Needs.{needs}
 use Rattle.pseudo_types.proofs.conditions.condition.Statement.{statement}

@@ -1,0 +1,3 @@
+pub mod Sides
+pub mod Assigning
+pub mod Defining

@@ -1,0 +1,2 @@
+pub mod Assignments
+pub mod Definitions
