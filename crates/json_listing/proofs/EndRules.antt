@@ -1,6 +1,6 @@
 -- Rules for the needs of the whole listing: each premise is a field of what a need is handed.
 --   array-no, array-empty, array-more       what stands before the lines
---   closed-no, closed-yes, closed-more      what stands behind them
+--   closed-read, ended-yes, ended-no        what stands behind them
 --   read-is                                 `read` is the value of a closed array of lines
 -- Assumes nothing.
 use mathlib.Core.Path.{_≡_, refl, sym, ap, _∙_}
@@ -23,7 +23,7 @@ use Rattle.json_scan.specs.declared.Next.{Next}
 use Rattle.json_scan.specs.declared.Next.the-variants.{At, Missing}
 use Rattle.json_listing.specs.declared.Lst.{Lst}
 use Rattle.json_listing.specs.declared.Lst.the-variants.{Lines, NoLines}
-use Rattle.json_listing.specs.InColumns.{ReadListing, NoListing, listing-read, closed}
+use Rattle.json_listing.specs.InColumns.{ReadListing, NoListing, listing-read, closed, place-of, ended-at}
 
 abbrev pub value-of : Option (Got (List Line)) → Option (List Line)
 value-of none = none
@@ -77,40 +77,48 @@ closed-some (some h) g e = go (is-empty (skip-white-space (h .rest))) e
     go true e = e
     go false e = never g e
 
-module _ (o : Option (Got (List Line))) (s : List ℕ) (a b c d : ℕ) (ln ad tk tx : List ℕ) (r : Lst) (t : listing-read o s a b c d ln ad tk tx r) where
-  pub closed-no : r ≡ NoLines → NoListing (closed o) a b c d
-  closed-no q = let z : NoListing o a b c d = unfold listing-read in rw q at t in record { never = λ g e. z .never g (closed-some o g e) }
+module _ (o : Option (Got (List Line))) (s : List ℕ) (a b c d : ℕ) (ln ad tk tx : List ℕ) where
+  not-closed : NoListing o a b c d → NoListing (closed o) a b c d
+  not-closed z = record { never = λ g e. z .never g (closed-some o g e) }
 
-  module _ (l k n x : ℕ) (q : r ≡ Lines l k n x) (e : ℕ) (f : drop e s ≡ skip-white-space (drop l s)) where
-    whole : ReadListing o s a b c d ln ad tk tx l k n x
-    unfolding listing-read
-    whole = rw q at t
+  -- what stands behind the lines decides
+  pub closed-read : (r : Lst) → listing-read o s a b c d ln ad tk tx r → listing-read (closed o) s a b c d ln ad tk tx (ended-at s (place-of r) r)
+  unfolding listing-read ended-at place-of
+  closed-read NoLines z = go (is-empty (skip-white-space (drop 0 s)))
+    where
+      go : (e : Bool) → listing-read (closed o) s a b c d ln ad tk tx (cond e NoLines NoLines)
+      go true = not-closed z
+      go false = not-closed z
+  closed-read (Lines l k n x) w = go (is-empty (skip-white-space (drop l s))) (unfold closed in rw (w .is))
+    where
+      go : (e : Bool) → closed o ≡ cond e (got (w .L) (drop l s)) none → listing-read (closed o) s a b c d ln ad tk tx (cond e (Lines l k n x) NoLines)
+      go true q =
+          record {
+            L = w .L;
+            is = q;
+            count = w .count;
+            tokens = w .tokens;
+            bytes = w .bytes;
+            lines = w .lines;
+            addresses = w .addresses;
+            words = w .words;
+            texts = w .texts;
+            room = w .room;
+          }
+      go false q = record { never = λ g v h₁ h₂ h₃ h₄. never g (sym q ∙ v) }
 
-    pub closed-yes : length s ≤ e → ReadListing (closed o) s a b c d ln ad tk tx l k n x
-    closed-yes h =
-        let w = whole in
-        record {
-          L = w .L;
-          is = shut (w .is);
-          count = w .count;
-          tokens = w .tokens;
-          bytes = w .bytes;
-          lines = w .lines;
-          addresses = w .addresses;
-          words = w .words;
-          texts = w .texts;
-          room = w .room;
-        }
-      where
-        shut : {ls : List Line} → o ≡ got ls (drop l s) → closed o ≡ got ls (drop l s)
-        shut i = unfold closed is-empty in rw (i, ← f, drop-of-length-le s h)
+module _ (s : List ℕ) (at e : ℕ) (r : Lst) (f : drop e s ≡ skip-white-space (drop at s)) where
+  pub ended-yes : length s ≤ e → r ≡ ended-at s at r
+  unfolding ended-at is-empty
+  ended-yes h = rw (← f, drop-of-length-le s h)
 
-    pub closed-more : e < length s → NoListing (closed o) a b c d
-    closed-more h = record { never = λ g w h₁ h₂ h₃ h₄. never g (sym (shut (whole .is) (drop e s) refl) ∙ w) }
-      where
-        shut : {ls : List Line} → o ≡ got ls (drop l s) → (y : List ℕ) → drop e s ≡ y → closed o ≡ none
-        shut i [] p = let z : length (drop e s) ≡ 0 = ap length p in absurd (omega (arith, length-drop e s))
-        shut i (u ∷ y) p = unfold closed is-empty in rw (i, ← f, p)
+  pub ended-no : e < length s → NoLines ≡ ended-at s at r
+  unfolding ended-at is-empty
+  ended-no h = go (drop e s) refl
+    where
+      go : (y : List ℕ) → drop e s ≡ y → NoLines ≡ ended-at s at r
+      go [] p = let z : length (drop e s) ≡ 0 = ap length p in absurd (omega (arith, length-drop e s))
+      go (u ∷ y) p = rw (← f, p)
 
 -- `read` of the definition
 pub read-is : (s : List ℕ) → read s ≡ value-of (closed (array line s))
@@ -125,4 +133,4 @@ read-is s = go (array line s)
         both true = refl
         both false = refl
 
-pub ruleset ends = (array-no, array-empty, array-more, closed-no, closed-yes, closed-more)
+pub ruleset ends = (array-no, array-empty, array-more, ended-yes, ended-no)

@@ -1,6 +1,8 @@
 -- A listing that is read into lent columns.
 --   ReadListing, NoListing, listing-read    it is in the columns; there is none, or it does not fit
 --   closed o                                what o gave, if nothing but white space is left behind it
+--   place-of r                              the place behind what was read, 0 where nothing was
+--   ended-at s at r                         r, if nothing but white space is left of s from place `at` on
 -- o is what the definition gives; the columns have room for a lines, b addresses, c tokens and d bytes; at exit k lines, n tokens and x bytes stand in
 -- the columns ln, ad, tk and tx; l is the place of the text s behind what was read.
 -- Assumes nothing.
@@ -40,3 +42,10 @@ listing-read o s a b c d ln ad tk tx NoLines = NoListing o a b c d
 unfoldable pub closed : Option (Got (List Line)) → Option (Got (List Line))
 closed none = none
 closed (some g) = if is-empty (skip-white-space (g .rest)) then some g else none
+
+unfoldable pub place-of : Lst → ℕ
+place-of (Lines l k n x) = l
+place-of NoLines = 0
+
+unfoldable pub ended-at : List ℕ → ℕ → Lst → Lst
+ended-at s at r = if is-empty (skip-white-space (drop at s)) then r else NoLines

@@ -1,4 +1,4 @@
-// The listing that a JSON text writes, into lent columns as far as they go. One pass over the text.
+// The array of lines in a JSON text, on a slice and a position, into lent columns as far as they go. One pass over the text.
 //
 // What is in the columns is told by specs/InColumns.antt, of the parsers of Rattle.json_definitions.specs.Reader.
 use json_lines::lines::Row;
@@ -10,7 +10,7 @@ ghost use lib.ListN.{length, drop};
 ghost use Rattle.json_definitions.specs.Parser.{array};
 ghost use Rattle.json_definitions.specs.Reader.{line};
 ghost use Rattle.json_theory.specs.Steps.{items};
-ghost use Rattle.json_listing.specs.InColumns.{listing-read, closed};
+ghost use Rattle.json_listing.specs.InColumns.{listing-read, place-of, ended-at};
 
 // The place behind the listing, and how many lines, tokens and bytes stand in the columns.
 pub enum Lst {
@@ -70,20 +70,21 @@ fn lines_from(
     Lst::NoLines
 }
 
-// The array of lines at the start of the text.
-fn line_array(
+// The array of lines at `at`.
+pub fn lines_at(
     s: &[u8],
+    at: usize,
     lines: &mut [u32],
     addresses: &mut [u64],
     tokens: &mut [u32],
     text: &mut [u8],
 ) -> Lst
     requires { ⌜ (length (now tokens) ≤ 16384) × (length (now text) ≤ 262144) ⌝ }
-    ensures { λ r. ⌜ listing-read (array line (drop 0 (now (s .entry)))) (now (s .entry))
+    ensures { λ r. ⌜ listing-read (array line (drop at (now (s .entry)))) (now (s .entry))
         (length (now (lines .entry))) (length (now (addresses .entry))) (length (now (tokens .entry))) (length (now (text .entry)))
         (now (lines .exit)) (now (addresses .exit)) (now (tokens .exit)) (now (text .exit)) r ⌝ }
 {
-    let Next::At(i) = json_scan::lexeme(s, 0, b"[") else {
+    let Next::At(i) = json_scan::lexeme(s, at, b"[") else {
         return Lst::NoLines;
     };
     if let Next::At(j) = json_scan::lexeme(s, i, b"]") {
@@ -92,25 +93,23 @@ fn line_array(
     lines_from(s, i, lines, addresses, tokens, text)
 }
 
-// The listing that is the whole of the text.
-pub fn listing(
-    s: &[u8],
-    lines: &mut [u32],
-    addresses: &mut [u64],
-    tokens: &mut [u32],
-    text: &mut [u8],
-) -> Lst
-    requires { ⌜ (length (now tokens) ≤ 16384) × (length (now text) ≤ 262144) ⌝ }
-    ensures { λ r. ⌜ listing-read (closed (array line (drop 0 (now (s .entry))))) (now (s .entry))
-        (length (now (lines .entry))) (length (now (addresses .entry))) (length (now (tokens .entry))) (length (now (text .entry)))
-        (now (lines .exit)) (now (addresses .exit)) (now (tokens .exit)) (now (text .exit)) r ⌝ }
+// The place behind what was read, 0 where nothing was.
+pub fn place(found: Lst) -> usize
+    ensures { λ r. ⌜ r ≡ place-of found ⌝ }
 {
-    let Lst::Lines(l, k, n, x) = line_array(s, lines, addresses, tokens, text) else {
-        return Lst::NoLines;
-    };
-    let e = json_scan::skip_white_space(s, l);
+    match found {
+        Lst::Lines(l, _, _, _) => l,
+        Lst::NoLines => 0,
+    }
+}
+
+// What was found, if only white space is left from `at` on.
+pub fn ended(s: &[u8], at: usize, found: Lst) -> Lst
+    ensures { λ r. ⌜ r ≡ ended-at (now (s .entry)) at found ⌝ }
+{
+    let e = json_scan::skip_white_space(s, at);
     if e < s.len() {
         return Lst::NoLines;
     }
-    Lst::Lines(l, k, n, x)
+    found
 }

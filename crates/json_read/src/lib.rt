@@ -49,7 +49,7 @@ fn read_within(
     let b = lesser(addresses.len(), MOST_LINES);
     let c = lesser(tokens.len(), MOST_TOKENS);
     let d = lesser(text.len(), MOST_BYTES);
-    json_listing::listing(
+    json_reader::listing(
         s,
         &mut lines[..a],
         &mut addresses[..b],

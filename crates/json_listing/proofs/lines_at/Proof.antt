@@ -1,10 +1,10 @@
--- `json_listing::line_array` meets its contract.
+-- `json_listing::lines_at` meets its contract.
 -- Assumes nothing.
 use Rattle.json_listing.proofs.EndRules.{ends}
 use borrow.Author.Needs.{needs}
 use Rattle.json_listing.specs.InColumns.{listing-read}
-use Rattle.json_listing.proofs.line_array.Statement.{statement}
-use Rattle.json_listing.proofs.line_array.Tie as tie
+use Rattle.json_listing.proofs.lines_at.Statement.{statement}
+use Rattle.json_listing.proofs.lines_at.Tie as tie
 
 slice-aggregate-lexeme : tie.Need-slice-aggregate-lexeme
 slice-aggregate-lexeme c = search needs
@@ -57,8 +57,8 @@ returns-3 : tie.Need-returns-3
 unfolding listing-read
 returns-3 c = search (ends, needs)
 
-pub line-array-spec : {M : Type 1} → statement M
-line-array-spec =
+pub lines-at-spec : {M : Type 1} → statement M
+lines-at-spec =
     tie.close
     (tie.spec
     slice-aggregate-lexeme
