@@ -1,5 +1,6 @@
 -- Rules for the needs of kinds and numbers.
---   decimal-one, decimal-more    a number of one digit, of more
+--   one-digit, more-digits       the digits of a number; decimal-one, decimal-more, its text
+--   no-kind                      what is no kind has no text
 --   kind-is, kind-other          a kind, and what is none
 --   address-known, address-null  an address, and none
 -- Assumes nothing.
@@ -31,12 +32,12 @@ digits-fuel f n h = both f n n h (omega arith)
         go true e ih = unfold digits-of in rw e
         go false e ih = let l = ltb-false n 10 e in unfold digits-of in rw (e, ih (omega arith) (omega arith))
 
-one-digit : (n : ℕ) → n < 10 → (48 + n) ∷ [] ≡ decimal n
+pub one-digit : (n : ℕ) → n < 10 → (48 + n) ∷ [] ≡ decimal n
 unfolding decimal digits-of
 one-digit zero h = refl
 one-digit (suc n) h = rw (lt-ltb (suc n) 10 h)
 
-more-digits : (n : ℕ) → 10 ≤ n → decimal (n / 10) ++ ((48 + n % 10) ∷ []) ≡ decimal n
+pub more-digits : (n : ℕ) → 10 ≤ n → decimal (n / 10) ++ ((48 + n % 10) ∷ []) ≡ decimal n
 unfolding decimal
 more-digits zero h = absurd (omega arith)
 more-digits (suc n) h = unfold digits-of in rw (le-ltb (suc n) 10 h, digits-fuel n (suc n / 10) (omega arith))
@@ -50,7 +51,7 @@ decimal-more n d out at out₁ m out₂ e h q f g = append-2 out at (decimal (n 
 
 -- Kinds
 
-no-kind : (k : ℕ) → (k ≡ 0 → ⊥) → (k ≡ 1 → ⊥) → (k ≡ 2 → ⊥) → (k ≡ 3 → ⊥) → (k ≡ 4 → ⊥) → (k ≡ 5 → ⊥) → (k ≡ 6 → ⊥) → (k ≡ 7 → ⊥) → [] ≡ kind-text k
+pub no-kind : (k : ℕ) → (k ≡ 0 → ⊥) → (k ≡ 1 → ⊥) → (k ≡ 2 → ⊥) → (k ≡ 3 → ⊥) → (k ≡ 4 → ⊥) → (k ≡ 5 → ⊥) → (k ≡ 6 → ⊥) → (k ≡ 7 → ⊥) → [] ≡ kind-text k
 unfolding kind-text
 no-kind zero n₀ n₁ n₂ n₃ n₄ n₅ n₆ n₇ = absurd (n₀ refl)
 no-kind (suc zero) n₀ n₁ n₂ n₃ n₄ n₅ n₆ n₇ = absurd (n₁ refl)

@@ -1,55 +1,58 @@
 -- Rules for the needs of the call: each premise is a field of what a need is handed.
---   four-no, four-yes                   question 4, by the counted length; and the text
+--   four-no, four-yes                   question 4, by the length of the text; and the text
+--   formed                              what questions 1 and 2 say of the columns
 --   refused-1, refused-2, refused-2-addresses, refused-3, asked-4    the questions in order
 -- Assumes nothing.
-use Prim.Native.Nat.{ℕ, _+_, _-_, _≤_, _<_}
+use Prim.Native.Nat.{ℕ, _≤_, _<_}
 use mathlib.Core.Path.{_≡_, refl, sym, ap, _∙_}
 use mathlib.Core.Bool.{Bool, true, false, cond, _&&_}
-use mathlib.Core.List.{List, [], _∷_, _++_}
+use mathlib.Core.List.{List, [], _∷_}
 use mathlib.Core.Option.{Option, none, some}
 use native.Mathlib.Omega.{arith}
-use borrow.Author.Tests.{eq-eqb, ne-eqb, le-leb, lt-leb}
+use borrow.Author.Tests.{eq-eqb, ne-eqb, le-leb, lt-leb, leb-true}
 use lib.Dec.{eqb, leb}
-use lib.ListN.{length, take, drop}
+use lib.ListN.{length, take}
 use Rattle.definitions.specs.Questions.{limits, question-1, question-2, question-3, refusal}
 use Rattle.definitions.specs.Answers.{accepted, refused}
 use Rattle.definitions.specs.Calls.{filled}
+use Rattle.loop_theory.proofs.Cases.{and-split}
 use Rattle.text.specs.Zeroed.{zeroed}
 use Rattle.json_definitions.specs.Writer.{write}
 use Rattle.json_definitions.specs.JsonCalls.{Written, write-call}
 use Rattle.json_append.specs.Appended.{most, Appended}
 use Rattle.json_write.specs.declared.Answer.the-variants.{Accepted, Refused}
 use Rattle.json_write.specs.Answers.{columns, lines-of, fourth, written}
+use Rattle.json_write.specs.Sizes.{Formed}
 
--- Question 4: p is what the empty part of the slice became
+-- Question 4, by the length of the text
 
-empty-is : (p : List ℕ) → length p ≡ 0 → p ≡ []
-empty-is [] e = refl
-empty-is (a ∷ p) e = absurd (omega arith)
+module _ (W out : List ℕ) (n : ℕ) (f : n ≡ length W) where
+  pub four-no : length out < n → written (Refused 4) out ≡ fourth W out
+  four-no h = rw (lt-leb (length W) (length out) (omega arith))
 
-module _ (W out p : List ℕ) (n : ℕ) (f : Appended (take 0 out) 0 W p n) where
-  same : p ++ drop 0 out ≡ out
-  same = rw (empty-is p (f .long))
-
-  pub four-no : length (p ++ drop 0 out) < n → written (Refused 4) (p ++ drop 0 out) ≡ fourth W out
-  four-no h =
-      let g : length out < n = rw same at h in
-      let e = f .end in
-      rw (same, lt-leb (length W) (length out) (omega arith))
-
-  pub four-yes : (out₂ : List ℕ) (e : ℕ) (out₃ : List ℕ) → n ≤ length (p ++ drop 0 out) → length out < most → Appended (p ++ drop 0 out) 0 W out₂ e → out₃ ≡ zeroed e out₂
-      → written (Accepted e) out₃ ≡ fourth W out
+  pub four-yes : (out₂ : List ℕ) (e : ℕ) (out₃ : List ℕ) → n ≤ length out → n ≤ most → Appended out 0 W out₂ e → out₃ ≡ zeroed e out₂ → written (Accepted e) out₃ ≡ fourth W out
   four-yes out₂ e out₃ h b w z =
-      let g : n ≤ length out = rw same at h in
-      let w′ : Appended out 0 W out₂ e = rw same at w in
-      let q = f .end in let r = w′ .end in
-      let k : length W ≤ length out = omega arith in
+      let r = w .end in
       let m : e ≡ length W = omega arith in
-      let t : take e out₂ ≡ W = w′ .bytes (omega arith) in
-      rw (le-leb (length W) (length out) k) (done m (z ∙ rw (t, w′ .long, m)))
+      let t : take e out₂ ≡ W = w .bytes (omega arith) in
+      rw (le-leb (length W) (length out) (omega arith)) (done m (z ∙ rw (t, w .long, m)))
     where
       done : e ≡ length W → out₃ ≡ filled W out → written (Accepted e) out₃ ≡ record { answer = accepted (length W); out = filled W out }
       done p q = rw (p, q)
+
+-- What the first two questions say
+
+pub formed : (l a t x : List ℕ) (b₁ b₂ : Bool) → b₁ ≡ question-1 limits l t x → b₁ ≡ true → length a ≡ length l → b₂ ≡ question-2 l t x → b₂ ≡ true → Formed l a t x
+formed l a t x b₁ b₂ e₁ f₁ h e₂ f₂ =
+    let p = and-split (leb (length l) 1024 && leb (length t) 16384) (leb (length x) 262144) (sym e₁ ∙ f₁) in
+    let q = and-split (leb (length l) 1024) (leb (length t) 16384) (p .0) in
+    record {
+      addresses = h;
+      lines = leb-true (length l) 1024 (q .0);
+      tokens = leb-true (length t) 16384 (q .1);
+      text = leb-true (length x) 262144 (p .1);
+      covered = sym e₂ ∙ f₂;
+    }
 
 -- The questions in order
 

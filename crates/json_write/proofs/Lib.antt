@@ -1,3 +1,5 @@
 pub mod ElementRules
 pub mod LineRules
 pub mod CallRules
+pub mod SizeRules
+pub mod SizeLaws

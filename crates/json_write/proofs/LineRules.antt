@@ -1,5 +1,5 @@
 -- Laws of the lines of the columns with their addresses, and rules for the needs of the lines.
---   lines-indent, lines-tokens    the indent and the tokens of a line
+--   lines-indent, lines-count, lines-tokens    the indent of a line, how many tokens it has, and its tokens
 --   length-lines                  how many lines there are
 --   head-is, line-is              the text of a line, piece by piece
 --   lines-part                    the lines from a place on, as a part
@@ -52,6 +52,9 @@ module _ (l a t x : List ℕ) (n : length a ≡ length l) where
   module _ (i : ℕ) (h : i < length l) where
     pub lines-indent : (d : ℕ) → d ≡ line (listing l t x) i .indent → d ≡ line (lines-of l a t x) i .indent
     lines-indent d e = e ∙ sym (kept-indent l a (listing l t x) i h (omega arith) (rw length-listing h))
+
+    pub lines-count : (m : ℕ) → m ≡ length (line (listing l t x) i .tokens) → m ≡ length (line (lines-of l a t x) i .tokens)
+    lines-count m e = e ∙ ap length (sym (kept-tokens l a (listing l t x) i h (omega arith) (rw length-listing h)))
 
     pub lines-tokens : (s e : ℕ) → s ≡ line-start l i → e ≡ line-end l t i → part s e (token-list t x) ≡ line (lines-of l a t x) i .tokens
     lines-tokens s e p q =

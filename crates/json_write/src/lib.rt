@@ -1,19 +1,21 @@
-// The JSON writer: questions 1 to 4, and the text of a listing in a lent slice. The text is first counted and then written, in time linear in its length.
+// The JSON writer: questions 1 to 4, and the text of a listing in a lent slice. Its length is counted first, without writing; time is linear in the text.
 //
 // The contract of `write_json` is one equation with `write-call` of Rattle.json_definitions.specs.JsonCalls: the answer and every lent byte.
 mod lines;
+mod sizes;
 mod tokens;
 
 use crate::lines::put_listing;
+use crate::sizes::listing_size;
 use model::questions::Limits;
 use model::questions::question_1;
 use model::questions::question_2;
 use model::questions::question_3;
 ghost use mathlib.Core.Path.{_≡_};
-ghost use lib.ListN.{length};
 ghost use Rattle.json_definitions.specs.Writer.{write};
 ghost use Rattle.json_definitions.specs.JsonCalls.{write-call};
 ghost use Rattle.json_write.specs.Answers.{columns, lines-of, fourth, written};
+ghost use Rattle.json_write.specs.Sizes.{Formed};
 
 pub enum Answer {
     // How long the text is.
@@ -30,12 +32,11 @@ fn write_formed(
     text: &[u8],
     out: &mut [u8],
 ) -> Answer
-    requires { ⌜ length (now addresses) ≡ length (now lines) ⌝ }
+    requires { ⌜ Formed (now lines) (now addresses) (now tokens) (now text) ⌝ }
     ensures { λ r. ⌜ written r (now (out .exit))
         ≡ fourth (write (lines-of (now (lines .entry)) (now (addresses .entry)) (now (tokens .entry)) (now (text .entry)))) (now (out .entry)) ⌝ }
 {
-    let n = put_listing(&mut out[..0], lines, addresses, tokens, text);
-    if out.len() < n {
+    if out.len() < listing_size(lines, addresses, tokens, text) {
         return Answer::Refused(4);
     }
     let e = put_listing(out, lines, addresses, tokens, text);

@@ -1,4 +1,5 @@
 // Lines and listings.
+use crate::sizes::wide;
 use crate::tokens::put_token_array;
 use json_append::bytes::put;
 use json_append::bytes::put_byte;
@@ -17,12 +18,6 @@ ghost use Rattle.definitions.specs.Model.{line};
 ghost use Rattle.json_definitions.specs.Writer.{line-text, elements-text, write};
 ghost use Rattle.json_append.specs.Appended.{Appended};
 ghost use Rattle.json_write.specs.Answers.{lines-of, head-text};
-
-fn wide(x: usize) -> u64
-    ensures { λ r. ⌜ r ≡ x ⌝ }
-{
-    x as u64
-}
 
 // Line i up to its tokens.
 fn put_head(

@@ -1,7 +1,7 @@
 -- `json_write::write_json` meets its contract.
 -- Assumes nothing.
 use borrow.Author.Needs.{needs}
-use Rattle.json_write.proofs.CallRules.{refused-1, refused-2, refused-2-addresses, refused-3, asked-4}
+use Rattle.json_write.proofs.CallRules.{formed, refused-1, refused-2, refused-2-addresses, refused-3, asked-4}
 use Rattle.json_write.proofs.write_json.Statement.{statement}
 use Rattle.json_write.proofs.write_json.Tie as tie
 
@@ -15,7 +15,7 @@ question-3-requires : tie.Need-question-3-requires
 question-3-requires c κs = search needs
 
 write-formed-requires : tie.Need-write-formed-requires
-write-formed-requires c κs = search needs
+write-formed-requires c κs = search (formed, needs)
 
 same-length : tie.Need-same-length
 same-length c = search needs
