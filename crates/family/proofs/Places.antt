@@ -60,8 +60,8 @@ module _ (s : List ℕ) (p : ℕ) (e : found 36 p ≡ position (s ==_) all-names
       let q : position (s ==_) all-names ≡ some p = sym e ∙ rw (lt-ltb p 36 h) in
       ==-eq s (name-at p) (position-at (s ==_) [] all-names p q .1)
 
-  pub family-row : p < 32 → family-of s (Legacy (p / 4) (getD widths (p % 4) 0)) ≡ family s
-  family-row h = row-family p h ∙ ap family (sym (is-name (omega arith)))
+  pub family-row : (w : ℕ) → w ≡ getD widths (p % 4) 0 → p < 32 → family-of s (Legacy (p / 4) w) ≡ family s
+  family-row w e h = rw e (row-family p h ∙ ap family (sym (is-name (omega arith))))
 
   pub family-high : 32 ≤ p → p < 36 → family-of s (Legacy (p - 32) 8) ≡ family s
   family-high h g =

@@ -1,6 +1,7 @@
 -- The table of names and the place that a hash gives: what is computed once, over the whole table, and the rules for the functions that look
 -- into it.
---   letters-two, letters-three, letters-count    the name in a cell
+--   two-bytes, three-bytes, byte-not, length-not    a text that is compared byte by byte
+--   letters-two, letters-three            the name in a cell
 --   below                what a test finds of every number below n
 --   cell-is              the cell at place p holds the name at place p
 --   byte-past            no byte past the end
@@ -17,23 +18,64 @@ use native.Mathlib.Nat.{add-zero, add-suc, suc-add, zero-add, le-of-suc-le-suc, 
 use lib.Dec.{eqb, leb, ltb}
 use native.Mathlib.Omega.{arith}
 use borrow.Author.Tests.{eq-eqb, ne-eqb, eqb-true, lt-ltb, leb-true, ltb-true}
-use lib.ListN.{length, getD, take, length-take, List·getD-eq-default}
+use lib.ListN.{length, getD, take, List·getD-eq-default}
 use Rattle.definitions.specs.Lists.{_==_, all, range, up-to, position, concat}
 use Rattle.definitions.specs.Family.{legacy}
-use Rattle.text.proofs.Texts.{==-eq}
+use Rattle.text.proofs.Texts.{==-eq, ==-length}
 use Rattle.family.specs.Register.{letters, all-names, name-at, hash, found, row-name}
+
+-- A text, byte by byte
+
+two-is : (s : List ℕ) (a b : ℕ) → length s ≡ 2 → (s == a ∷ b ∷ []) ≡ (eqb (getD s 0 0) a && eqb (getD s 1 0) b)
+unfolding _==_
+two-is [] a b h = absurd (omega arith)
+two-is (x ∷ []) a b h = absurd (omega arith)
+two-is (x ∷ y ∷ []) a b h = go (eqb x a) (eqb y b)
+  where
+    go : (p q : Bool) → (p && (q && true)) ≡ (p && q)
+    go true true = refl
+    go true false = refl
+    go false q = refl
+two-is (x ∷ y ∷ z ∷ s) a b h = absurd (omega arith)
+
+three-is : (s : List ℕ) (a b c : ℕ) → length s ≡ 3 → (s == a ∷ b ∷ c ∷ []) ≡ (eqb (getD s 0 0) a && (eqb (getD s 1 0) b && eqb (getD s 2 0) c))
+unfolding _==_
+three-is [] a b c h = absurd (omega arith)
+three-is (x ∷ s) a b c h = ap (eqb x a &&_) (two-is s b c (omega arith))
+
+module _ (s : List ℕ) (r : Bool) (a b : ℕ) where
+  pub two-bytes : length s ≡ 2 → r ≡ (eqb (getD s 0 0) a && eqb (getD s 1 0) b) → r ≡ (s == a ∷ b ∷ [])
+  two-bytes h e = e ∙ sym (two-is s a b h)
+
+  pub three-bytes : (c : ℕ) → length s ≡ 3 → r ≡ (eqb (getD s 0 0) a && (eqb (getD s 1 0) b && eqb (getD s 2 0) c)) → r ≡ (s == a ∷ b ∷ c ∷ [])
+  three-bytes c h e = e ∙ sym (three-is s a b c h)
+
+pub byte-not : (a b : ℕ) (y : Bool) → (a ≡ b → ⊥) → false ≡ (eqb a b && y)
+byte-not a b y h = rw (ne-eqb a b h)
+
+pub length-not : (s t : List ℕ) → (length s ≡ length t → ⊥) → false ≡ (s == t)
+length-not s t h = sym (==-length s t h)
 
 -- The name in a cell
 
-module _ (s cell : List ℕ) (r : Bool) where
-  pub letters-two : getD cell 2 0 ≡ 0 → r ≡ (s == take 2 cell) → r ≡ (s == letters cell)
-  letters-two h e = rw (eq-eqb (getD cell 2 0) 0 h) e
+module _ (s cell : List ℕ) (r : Bool) (h : length cell ≡ 3) where
+  pub letters-two : getD cell 2 0 ≡ 0 → r ≡ (s == getD cell 0 0 ∷ getD cell 1 0 ∷ []) → r ≡ (s == letters cell)
+  letters-two g e = rw (eq-eqb (getD cell 2 0) 0 g) (e ∙ ap (s ==_) (two cell h))
+    where
+      two : (c : List ℕ) → length c ≡ 3 → getD c 0 0 ∷ getD c 1 0 ∷ [] ≡ take 2 c
+      two [] h = absurd (omega arith)
+      two (x ∷ []) h = absurd (omega arith)
+      two (x ∷ y ∷ c) h = refl
 
-  pub letters-three : (getD cell 2 0 ≡ 0 → ⊥) → r ≡ (s == cell) → r ≡ (s == letters cell)
-  letters-three h e = rw (ne-eqb (getD cell 2 0) 0 h) e
-
-pub letters-count : (cell : List ℕ) → length cell ≡ 3 → length (take 2 cell) ≡ 2
-letters-count cell h = rw length-take (omega arith)
+  pub letters-three : (getD cell 2 0 ≡ 0 → ⊥) → r ≡ (s == getD cell 0 0 ∷ getD cell 1 0 ∷ getD cell 2 0 ∷ []) → r ≡ (s == letters cell)
+  letters-three g e = rw (ne-eqb (getD cell 2 0) 0 g) (e ∙ ap (s ==_) (three cell h))
+    where
+      three : (c : List ℕ) → length c ≡ 3 → getD c 0 0 ∷ getD c 1 0 ∷ getD c 2 0 ∷ [] ≡ c
+      three [] h = absurd (omega arith)
+      three (x ∷ []) h = absurd (omega arith)
+      three (x ∷ y ∷ []) h = absurd (omega arith)
+      three (x ∷ y ∷ z ∷ []) h = refl
+      three (x ∷ y ∷ z ∷ w ∷ c) h = absurd (omega arith)
 
 -- A test of every number below n
 
@@ -65,10 +107,10 @@ pub cell-is : (t : List (List (List ℕ))) (d : List (List ℕ)) (e : List ℕ) 
 cell-is t d e p s r right h q =
     q ∙ ap (s ==_) (==-eq (letters (getD (getD t (p / 4) d) (p % 4) e)) (name-at p) (below (cell-right t d e) 36 p right h))
 
-pub first-row : (i : ℕ) (s : List ℕ) (r : Bool) → i < 8 → r ≡ (s == name-at (4 * i)) → r ≡ (s == row-name i)
-unfolding all range _==_ concat legacy all-names
-first-row i s r h q =
-    q ∙ ap (s ==_) (==-eq (name-at (4 * i)) (row-name i) (below (λ i. name-at (4 * i) == row-name i) 8 i refl h))
+pub first-row : (t : List (List (List ℕ))) (d : List (List ℕ)) (e : List ℕ) (i : ℕ) (s : List ℕ) (r : Bool)
+    → all (λ i. letters (getD (getD t i d) 0 e) == row-name i) (up-to 8) ≡ true → i < 8 → r ≡ (s == letters (getD (getD t i d) 0 e)) → r ≡ (s == row-name i)
+first-row t d e i s r right h q =
+    q ∙ ap (s ==_) (==-eq (letters (getD (getD t i d) 0 e)) (row-name i) (below (λ i. letters (getD (getD t i d) 0 e) == row-name i) 8 i right h))
 
 -- The hashes
 
@@ -76,11 +118,11 @@ pub byte-past : (s : List ℕ) (k : ℕ) → length s ≤ k → 0 ≡ getD s k 0
 byte-past s k h = sym (List·getD-eq-default s 0 h)
 
 module _ (t : List ℕ) (h c : ℕ) (e : c ≡ getD t h 0) where
-  pub place-start : all (λ h. leb 48 (getD t h 0)) (up-to 128) ≡ true → h < 128 → 48 ≤ c
-  place-start right g = rw e (leb-true 48 (getD t h 0) (below (λ h. leb 48 (getD t h 0)) 128 h right g))
+  pub place-start : all (λ h. leb 48 (getD t h 0)) (up-to 64) ≡ true → h < 64 → 48 ≤ c
+  place-start right g = rw e (leb-true 48 (getD t h 0) (below (λ h. leb 48 (getD t h 0)) 64 h right g))
 
-  pub place-least : all (λ h. ltb (getD t h 0 - 48) 36) (up-to 128) ≡ true → h < 128 → c - 48 < 36
-  place-least right g = rw e (ltb-true (getD t h 0 - 48) 36 (below (λ h. ltb (getD t h 0 - 48) 36) 128 h right g))
+  pub place-least : all (λ h. ltb (getD t h 0 - 48) 36) (up-to 64) ≡ true → h < 64 → c - 48 < 36
+  place-least right g = rw e (ltb-true (getD t h 0 - 48) 36 (below (λ h. ltb (getD t h 0 - 48) 36) 64 h right g))
 
   pub place-only : all (λ q. eqb (getD t (hash (name-at q)) 0 - 48) q) (up-to 36) ≡ true → (q : ℕ) → q < 36 → hash (name-at q) ≡ h → c - 48 ≡ q
   place-only right q g f =
@@ -140,4 +182,4 @@ module _ (s : List ℕ) (p : ℕ) (b : Bool) (e : b ≡ (s == name-at p)) where
           let x : _≡_ {A = ℕ} 0 1 = cc in
           absurd (omega arith)
 
-pub ruleset table-rules = (letters-two, letters-three, letters-count, place-found, place-none, first-row)
+pub ruleset table-rules = (two-bytes, three-bytes, byte-not, length-not, letters-two, letters-three, place-found, place-none)

@@ -17,7 +17,7 @@
 --   named p o            o is a family, and p holds of its name
 --   is-rsp o, is-var-family o, is-wide o    o is the family rsp; a `var_`; a family, of width 32 or more
 -- Assumes nothing.
-use Prim.Native.Nat.{ℕ, _+_, _*_, _%_}
+use Prim.Native.Nat.{ℕ, _+_, _*_, _/_, _%_}
 use mathlib.Core.Bool.{Bool, false}
 use mathlib.Core.List.{List, [], _∷_, _++_}
 use mathlib.Core.Option.{Option, none, some}
@@ -40,7 +40,7 @@ abbrev pub name-at : ℕ → List ℕ
 name-at p = getD all-names p []
 
 unfoldable pub hash : List ℕ → ℕ
-hash s = (5 * getD s 0 0 + 4 * getD s 1 0 + 2 * getD s 2 0) % 128
+hash s = (20 * getD s 0 0 + 7 * getD s 1 0 + 12 * getD s 2 0) / 4 % 64
 
 abbrev pub found : ℕ → ℕ → Option ℕ
 found n k = if ltb k n then some k else none

@@ -5,6 +5,7 @@
 // at most one name. Contracts cite `family`, `fam-of` and `names` of Rattle.definitions.specs.Family; `family-of` of this crate's specs/ says which family
 // an answer gives a text.
 ghost use mathlib.Core.Path.{_≡_};
+ghost use mathlib.Core.List.{[], _∷_};
 ghost use Prim.Native.Nat.{ℕ, _+_, _<_};
 ghost use lib.ListN.{getD, drop};
 ghost use Rattle.definitions.specs.Lists.{_==_, position};
@@ -36,20 +37,49 @@ const NAMES: [[[u8; 3]; 4]; 9] = [
     [*b"ah\0", *b"bh\0", *b"ch\0", *b"dh\0"],
 ];
 
-const WIDTHS: [usize; 4] = [64, 32, 16, 8];
+const WIDTHS: [u8; 4] = [64, 32, 16, 8];
 
-// The place of a name in the table, row by row, at the name's hash, counted from the byte `0` on; no two names have one hash.
-const PLACES: [u8; 128] =
-    *b"00K00P0000Q0000R0000S30AF070D00;00H0?M0000J000000040008000<C0000000002000060000:0000>00O@00E00000I0B00L000000100G50009000=00000N";
+// The place of a name in the table, row by row, at the name's hash, counted from the byte `0` on; no two names have one hash. Where no name
+// has the hash stands any place, but not that of a neighbour: the compiler then copies the bytes in four moves.
+const PLACES: [u8; 64] = *b"0:0N01>O02105498=<ML0101010P0101Q03EDR0701SF;0JG0?K0IHB201C06A@0";
+
+// The text is these two bytes.
+fn is_two(s: &[u8], a: u8, b: u8) -> bool
+    ensures { λ r. ⌜ r ≡ (now (s .entry) == a ∷ b ∷ []) ⌝ }
+{
+    if s.len() != 2 {
+        return false;
+    }
+    if s[0] != a {
+        return false;
+    }
+    s[1] == b
+}
+
+// The text is these three bytes.
+fn is_three(s: &[u8], a: u8, b: u8, c: u8) -> bool
+    ensures { λ r. ⌜ r ≡ (now (s .entry) == a ∷ b ∷ c ∷ []) ⌝ }
+{
+    if s.len() != 3 {
+        return false;
+    }
+    if s[0] != a {
+        return false;
+    }
+    if s[1] != b {
+        return false;
+    }
+    s[2] == c
+}
 
 // The text is the name in a cell of the table.
 fn is_name(cell: [u8; 3], s: &[u8]) -> bool
     ensures { λ r. ⌜ r ≡ (now (s .entry) == letters cell) ⌝ }
 {
     if cell[2] == 0 {
-        text::equal(s, &cell[..2])
+        is_two(s, cell[0], cell[1])
     } else {
-        text::equal(s, &cell)
+        is_three(s, cell[0], cell[1], cell[2])
     }
 }
 
@@ -78,14 +108,14 @@ fn byte(s: &[u8], k: usize) -> usize
 }
 
 fn hash(s: &[u8]) -> usize
-    ensures { λ r. ⌜ (r ≡ hash (now (s .entry))) × (r < 128) ⌝ }
+    ensures { λ r. ⌜ (r ≡ hash (now (s .entry))) × (r < 64) ⌝ }
 {
-    (5 * byte(s, 0) + 4 * byte(s, 1) + 2 * byte(s, 2)) % 128
+    (20 * byte(s, 0) + 7 * byte(s, 1) + 12 * byte(s, 2)) / 4 % 64
 }
 
 // The place of the only name that may have the hash h.
 fn place_of(h: usize) -> usize
-    requires { ⌜ h < 128 ⌝ }
+    requires { ⌜ h < 64 ⌝ }
     ensures { λ p. ⌜ (p < 36) × ((q : ℕ) → q < 36 → hash (name-at q) ≡ h → p ≡ q) ⌝ }
 {
     wide(PLACES[h]) - 48
@@ -196,7 +226,7 @@ pub fn family(s: &[u8]) -> Register
 {
     let p = place(s);
     if p < 32 {
-        let w = WIDTHS[p % 4];
+        let w = wide(WIDTHS[p % 4]);
         return Register::Legacy(p / 4, w);
     }
     if p < 36 {
@@ -239,7 +269,9 @@ fn is_row(i: usize, name: &[u8]) -> bool
     requires { ⌜ i < 8 ⌝ }
     ensures { λ r. ⌜ r ≡ (now (name .entry) == row-name i) ⌝ }
 {
-    is_at(4 * i, name)
+    let table = NAMES;
+    let row = table[i];
+    is_name(row[0], name)
 }
 
 // The answers ra of the text a and rb of the text b are of one family.

@@ -8,11 +8,11 @@ use Rattle.family.proofs.family.Tie as tie
 place-requires : tie.Need-place-requires
 place-requires c κs = search needs
 
-mul-w : tie.Need-mul-w
-mul-w c = search needs
+array-read-wide : tie.Need-array-read-wide
+array-read-wide c = search needs
 
-array-read-w : tie.Need-array-read-w
-array-read-w c = search needs
+wide-requires : tie.Need-wide-requires
+wide-requires c κs = search needs
 
 returns : tie.Need-returns
 returns c = search (place-rules, needs)
@@ -29,4 +29,11 @@ returns-3 c = search (place-rules, needs)
 pub family-spec : {M : Type 1} → statement M
 family-spec =
     tie.close
-    (tie.spec place-requires mul-w array-read-w returns returns-2 other-requires returns-3)
+    (tie.spec
+    place-requires
+    array-read-wide
+    wide-requires
+    returns
+    returns-2
+    other-requires
+    returns-3)
