@@ -2,7 +2,9 @@
 --   unique-families                no family is numbered twice
 --   latest-le, latest-hash, latest-above    the chain of one hash: it falls, has that hash, and leaves out no family of that hash
 --   Searching fs count o c         the family o is at no place from c on, and the family at place c - 1 has its hash
---   searching-start, searching-next, searching-found, searching-end       rules for the loop of `search`
+--   searching-start, searching-next, searching-found, searching-end       rules for the loop of `search_chain`
+--   row-of, row-behind, row-numbered, row-var, row-nothing                rules for `row_word`
+--   found-row                                                             what stands for a row of the legacy names is its family's place
 -- Assumes nothing.
 use Prim.Native.Nat.{ℕ, zero, suc, _+_, _-_, _<_, _≤_}
 use mathlib.Core.Path.{_≡_, refl, sym, ap, _∙_}
@@ -11,8 +13,8 @@ use mathlib.Core.Bool.{Bool, true, false, cond, not, false≢true}
 use mathlib.Core.List.{List, [], _∷_}
 use mathlib.Core.Option.{Option, none, some}
 use native.Mathlib.Omega.{arith}
-use lib.Dec.{eqb}
-use borrow.Author.Tests.{eqb-true, eqb-false}
+use lib.Dec.{eqb, ltb}
+use borrow.Author.Tests.{eqb-true, eqb-false, lt-ltb, le-ltb, ltb-true}
 use lib.ListN.{length, getD, take, length-take}
 use lib.Seq.{getD-take, length-take-le}
 use Rattle.definitions.specs.Lists.{filter, position, _==_}
@@ -23,8 +25,10 @@ use Rattle.definitions.specs.Recover.{distinct, defined-families}
 use Rattle.theory.proofs.Bools.{not-so, lt-or-ge}
 use Rattle.theory.proofs.ListLaws.{==-true, ==-self}
 use Rattle.theory.proofs.Lines.{defines-first}
-use Rattle.family.specs.Register.{names-family}
-use Rattle.recover.specs.Families.{hash, hash-of, latest, place, place-of, Table}
+use Rattle.family.specs.declared.Register.{Register}
+use Rattle.family.specs.declared.Register.the-variants.{Legacy, Numbered, Var, Nothing}
+use Rattle.family.specs.Register.{family-of, row-name, names-family}
+use Rattle.recover.specs.Families.{hash, hash-of, latest, place, place-of, row-word, Table}
 
 -- Each family once
 
@@ -178,8 +182,25 @@ from-latest fs count m o b a = record {
   chain = λ k e. latest-hash fs (hash-of o) m k e;
 }
 
+-- the place of a family among the first
+module _ (L : List Line) (count : ℕ) (t : List ℕ) (T : Table L count t) where
+  place-taken : (f : List ℕ) (k : ℕ) → k < count → getD (defined-families L) k [] ≡ f → place (take count (defined-families L)) f ≡ suc k
+  place-taken f k h e = place-here (take count (defined-families L)) f k unique (omega (arith, size)) (here k h ∙ e)
+    where
+      size : length (take count (defined-families L)) ≡ count
+      size = length-take-le count (defined-families L) (T .size)
+
+      here : (k : ℕ) → k < count → getD (take count (defined-families L)) k [] ≡ getD (defined-families L) k []
+      here k l = getD-take count (defined-families L) k [] l
+
+      unique : Unique (take count (defined-families L))
+      unique j k hj hk e =
+          let a : j < count = omega (arith, size) in
+          let b : k < count = omega (arith, size) in
+          unique-families L j k (omega (arith, T .size)) (omega (arith, T .size)) (sym (here j a) ∙ e ∙ here k b)
+
 module _ (L : List Line) (count : ℕ) (t : List ℕ) (T : Table L count t) (o : Option Family) where
-  pub searching-start : (c h : ℕ) → h ≡ hash-of o → h < 256 → c ≡ getD t h 0 → Searching (defined-families L) count o c
+  pub searching-start : (c h : ℕ) → h ≡ hash-of o → h < 248 → c ≡ getD t h 0 → Searching (defined-families L) count o c
   searching-start c h e l q =
       rw (q, T .heads h l, e) (from-latest (defined-families L) count count o (omega arith) (λ k g s. absurd (omega arith)))
 
@@ -191,26 +212,9 @@ module _ (L : List Line) (count : ℕ) (t : List ℕ) (T : Table L count t) (o :
         → c ≡ place-of (take count (defined-families L)) o
     searching-found y q f = go o (sym (at y q) ∙ f)
       where
-        h : c - 1 < count
-        h = omega (arith, s .bound)
-
-        size : length (take count (defined-families L)) ≡ count
-        size = length-take-le count (defined-families L) (T .size)
-
-        here : (k : ℕ) → k < count → getD (take count (defined-families L)) k [] ≡ getD (defined-families L) k []
-        here k l = getD-take count (defined-families L) k [] l
-
-        unique : Unique (take count (defined-families L))
-        unique j k hj hk e =
-            let a : j < count = omega (arith, size) in
-            let b : k < count = omega (arith, size) in
-            unique-families L j k (omega (arith, T .size)) (omega (arith, T .size)) (sym (here j a) ∙ e ∙ here k b)
-
         go : (o : Option Family) → matches o (getD (defined-families L) (c - 1) []) ≡ true → c ≡ place-of (take count (defined-families L)) o
         go none m = absurd (false≢true m)
-        go (some x) m =
-            let r = place-here (take count (defined-families L)) (x .name) (c - 1) unique (omega (arith, size)) (here (c - 1) h ∙ ==-true _ (x .name) m) in
-            omega (arith, r)
+        go (some x) m = omega (arith, place-taken L count t T (x .name) (c - 1) (omega (arith, s .bound)) (==-true _ (x .name) m))
 
     pub searching-next : (y : Bool) (next : ℕ) → y ≡ names-family o (token (line L (getD t (1280 + (c - 1)) 0)) 0) → y ≡ false
         → next ≡ getD t (256 + (c - 1)) 0 → Searching (defined-families L) count o next
@@ -232,5 +236,48 @@ module _ (L : List Line) (count : ℕ) (t : List ℕ) (T : Table L count t) (o :
       go (some x) s = sym (place-none (take count (defined-families L)) (x .name) (λ j l.
           let b : j < count = omega (arith, length-take count (defined-families L)) in
           rw (getD-take count (defined-families L) j [] b) (s .above j (omega arith) b)))
+
+-- The row of a legacy name
+
+module _ (t : List ℕ) (r : Register) where
+  pub row-of : (i w c : ℕ) → r ≡ Legacy i w → i < 8 → c ≡ getD t (248 + i) 0 → c ≡ row-word t r
+  unfolding row-word
+  row-of i w c e h q = rw (e, lt-ltb i 8 h, lt-ltb i 8 h) q
+
+  pub row-behind : (i w : ℕ) → r ≡ Legacy i w → 8 ≤ i → 0 ≡ row-word t r
+  unfolding row-word
+  row-behind i w e h = rw (e, le-ltb i 8 h)
+
+  pub row-numbered : (n w : ℕ) → r ≡ Numbered n w → 0 ≡ row-word t r
+  unfolding row-word
+  row-numbered n w e = rw e
+
+  pub row-var : r ≡ Var → 0 ≡ row-word t r
+  unfolding row-word
+  row-var e = rw e
+
+  pub row-nothing : r ≡ Nothing → 0 ≡ row-word t r
+  unfolding row-word
+  row-nothing e = rw e
+
+-- what is there for a row is the place of its family
+pub found-row : (L : List Line) (count : ℕ) (t s : List ℕ) (r : Register) (c : ℕ) → Table L count t → c ≡ row-word t r → (c ≡ 0 → ⊥)
+    → c ≡ place-of (take count (defined-families L)) (family-of s r)
+unfolding row-word
+found-row L count t s (Legacy i w) c T q z = go (ltb i 8) refl q
+  where
+    go : (b : Bool) → ltb i 8 ≡ b → c ≡ cond (ltb (cond b i 9) 8) (getD t (248 + cond b i 9) 0) 0
+        → c ≡ place-of (take count (defined-families L)) (cond b (some (record { name = row-name i; width = w })) none)
+    go false e f = absurd (z f)
+    go true e f =
+        let g : c ≡ getD t (248 + i) 0 = f ∙ rw e in
+        let k : getD t (248 + i) 0 ≡ suc (c - 1) = sym g ∙ omega arith in
+        let h = T .rows i (c - 1) (ltb-true i 8 e) k in
+        omega (arith, place-taken L count t T (row-name i) (c - 1) (h .0) (h .1))
+found-row L count t s (Numbered n w) c T q z = absurd (z q)
+found-row L count t s Var c T q z = absurd (z q)
+found-row L count t s Nothing c T q z = absurd (z q)
+
+pub ruleset row-rules = (row-of, row-behind, row-numbered, row-var, row-nothing, found-row)
 
 pub ruleset search-rules = (searching-start, searching-found, searching-next, searching-less, searching-end)

@@ -25,7 +25,7 @@ use Rattle.family.specs.Register.{family-of, row-name, names-family}
 use Rattle.recover.specs.Families.{hash, hash-of}
 
 unfoldable pub hashed : ℕ → List ℕ → ℕ
-hashed h s = fold (λ h b. (h * 10 + b) % 256) h s
+hashed h s = fold (λ h b. (h * 10 + b) % 256) h s % 248
 
 pub hash-start : (s : List ℕ) → hashed 0 (drop 0 s) ≡ hash s
 unfolding hashed hash
@@ -36,21 +36,24 @@ module _ (s : List ℕ) (i h : ℕ) (inv : hashed h (drop i s) ≡ hash s) where
   unfolding hashed fold
   hash-next v l e = rw e (rw (drop-step 0 s i l) at inv)
 
-  pub hash-end : length s ≤ i → h ≡ hash s
+  pub hash-end : length s ≤ i → h % 248 ≡ hash s
   unfolding hashed fold
   hash-end l = rw (drop-end s i l) at inv
 
-pub row-hash : (i : ℕ) → i < 8 → (getD (202 ∷ 212 ∷ 222 ∷ 232 ∷ 111 ∷ 217 ∷ 204 ∷ 118 ∷ []) i 0 ≡ hash (row-name i)) × (getD (202 ∷ 212 ∷ 222 ∷ 232 ∷ 111 ∷ 217 ∷ 204 ∷ 118 ∷ []) i 0 < 256)
+row-hashes : (i : ℕ) → i < 8 → (getD (202 ∷ 212 ∷ 222 ∷ 232 ∷ 111 ∷ 217 ∷ 204 ∷ 118 ∷ []) i 0 ≡ hash (row-name i)) × (getD (202 ∷ 212 ∷ 222 ∷ 232 ∷ 111 ∷ 217 ∷ 204 ∷ 118 ∷ []) i 0 < 248)
 unfolding hash fold legacy
-row-hash zero h = (refl, omega arith)
-row-hash (suc zero) h = (refl, omega arith)
-row-hash (suc (suc zero)) h = (refl, omega arith)
-row-hash (suc (suc (suc zero))) h = (refl, omega arith)
-row-hash (suc (suc (suc (suc zero)))) h = (refl, omega arith)
-row-hash (suc (suc (suc (suc (suc zero))))) h = (refl, omega arith)
-row-hash (suc (suc (suc (suc (suc (suc zero)))))) h = (refl, omega arith)
-row-hash (suc (suc (suc (suc (suc (suc (suc zero))))))) h = (refl, omega arith)
-row-hash (suc (suc (suc (suc (suc (suc (suc (suc i)))))))) h = absurd (omega arith)
+row-hashes zero h = (refl, omega arith)
+row-hashes (suc zero) h = (refl, omega arith)
+row-hashes (suc (suc zero)) h = (refl, omega arith)
+row-hashes (suc (suc (suc zero))) h = (refl, omega arith)
+row-hashes (suc (suc (suc (suc zero)))) h = (refl, omega arith)
+row-hashes (suc (suc (suc (suc (suc zero))))) h = (refl, omega arith)
+row-hashes (suc (suc (suc (suc (suc (suc zero)))))) h = (refl, omega arith)
+row-hashes (suc (suc (suc (suc (suc (suc (suc zero))))))) h = (refl, omega arith)
+row-hashes (suc (suc (suc (suc (suc (suc (suc (suc i)))))))) h = absurd (omega arith)
+
+pub row-hash : (i v : ℕ) → v ≡ getD (202 ∷ 212 ∷ 222 ∷ 232 ∷ 111 ∷ 217 ∷ 204 ∷ 118 ∷ []) i 0 → i < 8 → (v ≡ hash (row-name i)) × (v < 248)
+row-hash i v e h = rw e (row-hashes i h)
 
 module _ (s : List ℕ) (r : Register) where
   pub hash-row : (i w v : ℕ) → r ≡ Legacy i w → i < 8 → v ≡ hash (row-name i) → v ≡ hash-of (family-of s r)
@@ -85,4 +88,4 @@ pub first-token : (L : List Line) (o : Option Family) (y : Bool) (t : List ℕ) 
     → y ≡ names-family o (token (line L (getD t (1280 + k) 0)) 0)
 first-token L o y t k i e q = rw (← e) q
 
-pub ruleset hash-rules = (hash-start, hash-next, hash-end, row-hash, hash-row, hash-behind, hash-part, hash-whole, some-row, some-numbered, some-var, some-nothing, first-token)
+pub ruleset hash-rules = (hash-start, hash-next, hash-end, hash-row, hash-behind, hash-part, hash-whole, some-row, some-numbered, some-var, some-nothing, first-token)

@@ -4,6 +4,8 @@
 --   families-few        they are at most as many as the lines before
 --   defined-known       the family that a line defines is among all
 --   table-added         one family more in the table
+--   table-kept          and its place at the row of a legacy name
+--   kept-row, kept-behind, kept-numbered, kept-var, kept-neither    rules for `keep_row`
 --   added-by, added-line, search-by    rules for `add`, `add_line` and `search_line`
 --   placed-none, placed-by, placed-other, placed-known, placed-new    rules for `place_register` and `place_line`
 --   ready, defs-inside, place-fits, numbered-next, numbered-start, numbered-end     rules for `number_line` and `families`
@@ -17,8 +19,8 @@ use mathlib.Core.Option.{Option, none, some, Option·map}
 use native.Mathlib.Omega.{arith}
 use native.Mathlib.Nat.{add-zero}
 use native.Mathlib.Numerals.{add-one}
-use lib.Dec.{eqb}
-use borrow.Author.Tests.{eqb-true, eq-eqb}
+use lib.Dec.{eqb, ltb}
+use borrow.Author.Tests.{eqb-true, eq-eqb, lt-ltb, le-ltb, ltb-true}
 use lib.ListN.{length, getD, set, take, length-append, length-set, length-replicate, List·getD-append}
 use lib.Seq.{take-append-seam, getD-append-seam, getD-set-same, getD-set-other}
 use Rattle.definitions.specs.Lists.{any, filter, concat, range, position, to-list, is-some, _==_}
@@ -32,11 +34,12 @@ use Rattle.text.specs.Zeroed.{zeroed}
 use Rattle.definitions.specs.Columns.{listing}
 use Rattle.model.proofs.Decode.{length-listing}
 use Rattle.family.specs.declared.Register.{Register}
-use Rattle.family.specs.Register.{family-of}
+use Rattle.family.specs.declared.Register.the-variants.{Legacy, Numbered as Digits, Var, Nothing as Neither}
+use Rattle.family.specs.Register.{family-of, row, row-name}
 use Rattle.assignment.specs.declared.definition.Defined.{Defined}
 use Rattle.assignment.specs.declared.definition.Defined.the-variants.{Family as Of, Nothing}
 use Rattle.assignment.specs.Definitions.{defined}
-use Rattle.recover.specs.Families.{hash, hash-of, latest, place, place-of, Table, families-before, added, of-register, Ready, Added, Placed, place-defined, defined-at, Numbered}
+use Rattle.recover.specs.Families.{hash, hash-of, latest, place, place-of, Table, families-before, kept, added, of-register, Ready, Added, Placed, place-defined, defined-at, Numbered}
 use Rattle.recover.proofs.Lists.{any-snoc, range-snoc}
 use Rattle.recover.proofs.Finding.{unique-families, place-here}
 
@@ -212,8 +215,12 @@ defined-known L i p h f e z =
 
 -- One family more
 
+length-added : (t : List ℕ) (count i h : ℕ) → length (added t count i h) ≡ length t
+unfolding added
+length-added t count i h = simp length-set
+
 module _ (L : List Line) (count : ℕ) (t : List ℕ) (T : Table L count t) (f : List ℕ) (i h : ℕ)
-    (room : 2304 ≤ length t) (small : count < 1024) (low : h < 256)
+    (room : 2304 ≤ length t) (small : count < 1024) (low : h < 248)
     (at-count : getD (defined-families L) count [] ≡ f) (inside : count < length (defined-families L))
     (is-hash : h ≡ hash f) (defines-f : defines (line L i) ≡ some f) where
   abbrev one : List ℕ
@@ -248,7 +255,7 @@ module _ (L : List Line) (count : ℕ) (t : List ℕ) (T : Table L count t) (f :
   unfolding added
   line-at = getD-set-other two h (1280 + count) (count + 1) 0 (λ q. omega arith) ∙ getD-set-same one (1280 + count) i 0 (rw length-set (omega arith))
 
-  head : (g : ℕ) → g < 256 → (b : Bool) → eqb h g ≡ b → getD (added t count i h) g 0 ≡ latest (defined-families L) g (suc count)
+  head : (g : ℕ) → g < 248 → (b : Bool) → eqb h g ≡ b → getD (added t count i h) g 0 ≡ latest (defined-families L) g (suc count)
   head g l true e =
       ap (λ (k : ℕ). getD (added t count i h) k 0) (sym (eqb-true h g e)) ∙ head-at ∙ sym (latest-new g true (rw hash-count e))
   head g l false e =
@@ -264,12 +271,56 @@ module _ (L : List Line) (count : ℕ) (t : List ℕ) (T : Table L count t) (f :
   table-added = record {
     size = inside;
     heads = λ g l. head g l (eqb h g) refl;
+    rows = λ j k l e.
+        let u = T .rows j k l (sym (other (248 + j) (λ q. omega arith) (λ q. omega arith) (λ q. omega arith)) ∙ e) in
+        (omega (arith, u .0), u .1);
     next = λ k l. elim (eq-or-lt l) [ inl e ↦ own k e | inr m ↦ other (256 + k) (λ e. omega arith) (λ e. omega arith) (λ e. omega arith) ∙ T .next k m ];
     first = λ k l. elim (eq-or-lt l) [
       | inl e ↦ first-at k e
       | inr m ↦ rw (other (1280 + k) (λ e. omega arith) (λ e. omega arith) (λ e. omega arith)) (T .first k m)
     ];
   }
+
+-- The row of a legacy name
+
+-- the word of one row is written
+module _ (L : List Line) (count c : ℕ) (t : List ℕ) (T : Table L count t) (i : ℕ) (low : i < 8) (room : 2304 ≤ length t) (few : count ≤ 1024)
+    (k : ℕ) (is-place : c ≡ suc k) (inside : k < count) (named : getD (defined-families L) k [] ≡ row-name i) where
+  aside : (j : ℕ) → (j ≡ 248 + i → ⊥) → getD (set t (248 + i) c) j 0 ≡ getD t j 0
+  aside j n = getD-set-other t (248 + i) j c 0 n
+
+  rows-set : (j m : ℕ) → j < 8 → (b : Bool) → eqb j i ≡ b → getD (set t (248 + i) c) (248 + j) 0 ≡ suc m → (m < count) × (getD (defined-families L) m [] ≡ row-name j)
+  rows-set j m l true e q =
+      let z : j ≡ i = eqb-true j i e in
+      let y : c ≡ suc m = sym (getD-set-same t (248 + i) c 0 (omega arith)) ∙ rw z at q in
+      let w : k ≡ m = omega arith in
+      (omega arith, rw (← w, z) named)
+  rows-set j m l false e q = T .rows j m l (sym (aside (248 + j) (λ n. clash (eq-eqb j i (omega arith)) e)) ∙ q)
+
+  row-set : Table L count (set t (248 + i) c)
+  row-set = record {
+    size = T .size;
+    heads = λ h l. aside h (λ n. omega arith) ∙ T .heads h l;
+    rows = λ j m l q. rows-set j m l (eqb j i) refl q;
+    next = λ m l. aside (256 + m) (λ n. omega arith) ∙ T .next m l;
+    first = λ m l. rw (aside (1280 + m) (λ n. omega arith)) (T .first m l);
+  }
+
+-- of the family x of the answer r, which is the last
+table-kept : (L : List Line) (count : ℕ) (t s : List ℕ) (r : Register) (x : Family) → Table L (suc count) t → family-of s r ≡ some x
+    → getD (defined-families L) count [] ≡ x .name → 2304 ≤ length t → count < 1024 → Table L (suc count) (kept t r (count + 1))
+unfolding kept
+table-kept L count t s (Legacy i w) x T e q room few = go (ltb i 8) refl e
+  where
+    go : (b : Bool) → ltb i 8 ≡ b → cond b (some (record { name = row-name i; width = w })) none ≡ some x
+        → Table L (suc count) (cond (ltb (cond b i 9) 8) (set t (248 + cond b i 9) (count + 1)) t)
+    go true f g =
+        let n : row-name i ≡ x .name = cc in
+        rw f (row-set L (suc count) (count + 1) t T i (ltb-true i 8 f) room (omega arith) count (add-one count) (omega arith) (q ∙ sym n))
+    go false f g = T
+table-kept L count t s (Digits n w) x T e q room few = T
+table-kept L count t s Var x T e q room few = T
+table-kept L count t s Neither x T e q room few = T
 
 -- `place_register` and `place_line`
 
@@ -347,7 +398,9 @@ module _ (L : List Line) (i count : ℕ) (t : List ℕ) (R : Ready L i count t) 
                 record {
                   place = rw n (add-one count ∙ sym (place-here (defined-families L) (x .name) count (unique-families L) inside at-count));
                   families = v ∙ sym size;
-                  table = rw (v, A .table) (table-added L count t (R .table) (x .name) i (A .hash) (R .room) (omega (arith, R .small, R .inside, R .few)) (A .hash-low) at-count inside vh n);
+                  table = rw (v, A .table) (table-kept L count (added t count i (A .hash)) (token (line L i) 0 .text) r x
+                      (table-added L count t (R .table) (x .name) i (A .hash) (R .room) (omega (arith, R .small, R .inside, R .few)) (A .hash-low) at-count inside vh n) k at-count
+                      (rw (length-added t count i (A .hash)) (R .room)) (omega (arith, R .small, R .inside, R .few)));
                   small = omega (arith, R .small);
                 })
           ]
@@ -411,6 +464,9 @@ numbered-start l t x table₀ table ds a b c d z = record {
   table = record {
     size = omega arith;
     heads = λ h l. rw z (replicate-default (length table₀ - 0) h 0);
+    rows = λ i k l e.
+        let none : getD table (248 + i) 0 ≡ 0 = rw z (replicate-default (length table₀ - 0) (248 + i) 0) in
+        absurd (omega arith);
     next = λ k l. absurd (omega arith);
     first = λ k l. absurd (omega arith);
   };
@@ -424,10 +480,33 @@ module _ (t : List ℕ) (count i h : ℕ) where
   unfolding added
   added-by a b c p q r = rw (p, q, r)
 
-pub added-line : (l : Line) (count i h : ℕ) (r : Register) (s t₀ t : List ℕ) → s ≡ token l 0 .text → h ≡ hash-of (family-of s r) → h < 256 → t ≡ added t₀ count i h → Added l count i r t₀ t
-added-line l count i h r s t₀ t w a b c = record { hash = h; hash-is = a ∙ ap (λ (s : List ℕ). hash-of (family-of s r)) w; hash-low = b; table = c }
+module _ (t : List ℕ) (r : Register) (c : ℕ) where
+  pub kept-row : (i w v : ℕ) → r ≡ Legacy i w → i < 8 → v ≡ c → set t (248 + i) v ≡ kept t r c
+  unfolding kept
+  kept-row i w v e h q = rw (e, lt-ltb i 8 h, lt-ltb i 8 h, q)
+
+  pub kept-behind : (i w : ℕ) → r ≡ Legacy i w → 8 ≤ i → t ≡ kept t r c
+  unfolding kept
+  kept-behind i w e h = rw (e, le-ltb i 8 h)
+
+  pub kept-numbered : (n w : ℕ) → r ≡ Digits n w → t ≡ kept t r c
+  unfolding kept
+  kept-numbered n w e = rw e
+
+  pub kept-var : r ≡ Var → t ≡ kept t r c
+  unfolding kept
+  kept-var e = rw e
+
+  pub kept-neither : r ≡ Neither → t ≡ kept t r c
+  unfolding kept
+  kept-neither e = rw e
+
+pub added-line : (l : Line) (count i h : ℕ) (r : Register) (s t₀ t₁ t : List ℕ) → s ≡ token l 0 .text → h ≡ hash-of (family-of s r) → h < 248
+    → t₁ ≡ added t₀ count i h → t ≡ kept t₁ r (count + 1) → Added l count i r t₀ t
+added-line l count i h r s t₀ t₁ t w a b c d =
+    record { hash = h; hash-is = a ∙ ap (λ (s : List ℕ). hash-of (family-of s r)) w; hash-low = b; table = rw c at d }
 
 pub search-by : (fs : List (List ℕ)) (r : Register) (s x : List ℕ) (c : ℕ) → s ≡ x → c ≡ place-of fs (family-of s r) → c ≡ place-of fs (family-of x r)
 search-by fs r s x c w e = rw w at e
 
-pub ruleset place-rules = (placed-none, placed-by, placed-other, placed-known, placed-new, added-by, added-line, search-by, ready, defs-inside, place-fits, numbered-next, numbered-end, numbered-start)
+pub ruleset place-rules = (placed-none, placed-by, placed-other, placed-known, placed-new, added-by, added-line, kept-row, kept-behind, kept-numbered, kept-var, kept-neither, search-by, ready, defs-inside, place-fits, numbered-next, numbered-end, numbered-start)

@@ -1,12 +1,15 @@
 -- The families that have a definition, numbered in the order of their first definition, and the table by which one is found.
---   hash s              a number below 256, by the bytes of a name
+--   hash s              a number below 248, by the bytes of a name
 --   hash-of o           the same of a family
 --   latest fs h m       1 + the last place below m of a family whose hash is h, 0 where there is none
 --   place fs f          1 + the place of f among the families fs, 0 where it is not there
 --   place-of fs o       the same of a family
 --   place-defined fs o  the same of a family's name
---   Table L count t     the table t finds the first `count` families of the listing L: its words 0 .. 255 have `latest` for each hash; the words
---                       from 256 on, for each family, `latest` before it of its own hash; the words from 1280 on the line of its first definition
+--   Table L count t     the table t finds the first `count` families of the listing L: its words 0 .. 247 have `latest` for each hash; the words
+--                       248 .. 255, for each row of the legacy names, 0 or 1 + the place of its family; the words from 256 on, for each family,
+--                       `latest` before it of its own hash; the words from 1280 on the line of its first definition
+--   row-word t r        what the table t has for the row of the answer r, 0 where that is no row
+--   kept t r c          the table t with c for that row
 --   defined-at L i      the family that line i defines, none on line 0
 --   families-before L i the families that lines before line i define
 --   Defs L ds           ds has the place of the family that each line defines, 0 where it defines none
@@ -22,18 +25,18 @@ use Prim.Native.Nat.{ℕ, zero, suc, _+_, _*_, _-_, _%_, _<_, _≤_, max}
 use mathlib.Core.Path.{_≡_}
 use mathlib.Core.List.{List, [], map}
 use mathlib.Core.Option.{Option, none, some, Option·map}
-use lib.Dec.{eqb}
+use lib.Dec.{eqb, ltb}
 use lib.ListN.{length, getD, set}
 use Rattle.definitions.specs.Lists.{if_then_else_, fold, position, concat, range, to-list, _==_}
 use Rattle.definitions.specs.Model.{Line, token, line}
 use Rattle.definitions.specs.Family.{Family}
 use Rattle.definitions.specs.Statements.{defines}
 use Rattle.family.specs.declared.Register.{Register}
-use Rattle.family.specs.Register.{family-of}
+use Rattle.family.specs.Register.{family-of, row, row-name}
 use Rattle.definitions.specs.Recover.{distinct, defined-families}
 
 unfoldable pub hash : List ℕ → ℕ
-hash s = fold (λ h b. (h * 10 + b) % 256) 0 s
+hash s = fold (λ h b. (h * 10 + b) % 256) 0 s % 248
 
 abbrev pub hash-of : Option Family → ℕ
 hash-of none = 0
@@ -52,7 +55,8 @@ place-of fs (some f) = place fs (f .name)
 
 pub record Table (L : List Line) (count : ℕ) (t : List ℕ) : Type 0 where
   pub size : count ≤ length (defined-families L)
-  pub heads : (h : ℕ) → h < 256 → getD t h 0 ≡ latest (defined-families L) h count
+  pub heads : (h : ℕ) → h < 248 → getD t h 0 ≡ latest (defined-families L) h count
+  pub rows : (i k : ℕ) → i < 8 → getD t (248 + i) 0 ≡ suc k → (k < count) × (getD (defined-families L) k [] ≡ row-name i)
   pub next : (k : ℕ) → k < count → getD t (256 + k) 0 ≡ latest (defined-families L) (hash (getD (defined-families L) k [])) k
   pub first : (k : ℕ) → k < count → defines (line L (getD t (1280 + k) 0)) ≡ some (getD (defined-families L) k [])
 
@@ -67,6 +71,12 @@ place-defined fs (some f) = place fs f
 unfoldable pub families-before : List Line → ℕ → List (List ℕ)
 families-before L i = distinct (concat (map (λ j. to-list (defines (line L j))) (range 1 (i - 1))))
 
+unfoldable pub row-word : List ℕ → Register → ℕ
+row-word t r = if ltb (row r) 8 then getD t (248 + row r) 0 else 0
+
+unfoldable pub kept : List ℕ → Register → ℕ → List ℕ
+kept t r c = if ltb (row r) 8 then set t (248 + row r) c else t
+
 -- the table t with family `count`, first defined on line i, of hash h
 unfoldable pub added : List ℕ → ℕ → ℕ → ℕ → List ℕ
 added t count i h = set (set (set t (256 + count) (getD t h 0)) (1280 + count) i) h (count + 1)
@@ -75,8 +85,8 @@ added t count i h = set (set (set t (256 + count) (getD t h 0)) (1280 + count) i
 pub record Added (l : Line) (count i : ℕ) (r : Register) (t₀ t : List ℕ) : Type 0 where
   pub hash : ℕ
   pub hash-is : hash ≡ hash-of (family-of (token l 0 .text) r)
-  pub hash-low : hash < 256
-  pub table : t ≡ added t₀ count i hash
+  pub hash-low : hash < 248
+  pub table : t ≡ kept (added t₀ count i hash) r (count + 1)
 
 -- the name of the family that line l defines if its token 0 is the register r
 abbrev pub of-register : Line → Register → Option (List ℕ)

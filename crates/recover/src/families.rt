@@ -1,8 +1,10 @@
-// The families that have a definition, numbered in the order of their first definition. A family is found through the chain of those with
-// its hash, 256 chains for all; one look-up compares the families of one chain. All lines together take one look-up a line.
+// The families that have a definition, numbered in the order of their first definition. The family of a legacy name is one word of the table
+// once it is there; any other is found through the chain of those with its hash, 248 chains for all: one look-up compares the families of one
+// chain. All lines together take one look-up a line.
 //
 // The table, one lent slice:
-//   words [0, 256)         1 + the last family of each hash, 0 for none
+//   words [0, 248)         1 + the last family of each hash, 0 for none
+//   words [248, 256)       for each row of the legacy names 1 + its family, 0 for none
 //   words [256, 1280)      for each family 1 + the one before it of the same hash, 0 for none
 //   words [1280, 2304)     for each family the line of its first definition
 // Contracts cite `defined-families` of Rattle.definitions.specs.Recover and `defines` of Rattle.definitions.specs.Statements.
@@ -16,7 +18,7 @@ ghost use Rattle.definitions.specs.Statements.{defines};
 ghost use Rattle.definitions.specs.Columns.{listing};
 ghost use Rattle.definitions.specs.Recover.{defined-families};
 ghost use Rattle.family.specs.Register.{family-of, names-family, row-name};
-ghost use Rattle.recover.specs.Families.{hash, hash-of, place-of, added, of-register, Table, Ready, Added, Placed, Numbered};
+ghost use Rattle.recover.specs.Families.{hash, hash-of, place-of, row-word, kept, added, of-register, Table, Ready, Added, Placed, Numbered};
 use crate::words::greater;
 use crate::words::narrow;
 use crate::words::number;
@@ -24,7 +26,7 @@ use crate::words::zero;
 use assignment::definition::Defined;
 use family::Register;
 
-const ROW_HASHES: [usize; 8] = [202, 212, 222, 232, 111, 217, 204, 118];
+const ROW_HASHES: [u8; 8] = [202, 212, 222, 232, 111, 217, 204, 118];
 
 fn mixed(h: usize, b: u8) -> usize
     requires { ⌜ h < 256 ⌝ }
@@ -34,7 +36,7 @@ fn mixed(h: usize, b: u8) -> usize
 }
 
 fn hash(s: &[u8]) -> usize
-    ensures { λ r. ⌜ (r ≡ hash (now (s .entry))) × (r < 256) ⌝ }
+    ensures { λ r. ⌜ (r ≡ hash (now (s .entry))) × (r < 248) ⌝ }
 {
     let mut h = 0;
     let mut i = 0;
@@ -42,20 +44,26 @@ fn hash(s: &[u8]) -> usize
         h = mixed(h, s[i]);
         i += 1;
     }
-    h
+    h % 248
+}
+
+fn widen(x: u8) -> usize
+    ensures { λ r. ⌜ r ≡ x ⌝ }
+{
+    x as usize
 }
 
 // The hash of the family in row i of the table of names.
 fn row_hash(i: usize) -> usize
     requires { ⌜ i < 8 ⌝ }
-    ensures { λ r. ⌜ (r ≡ hash (row-name i)) × (r < 256) ⌝ }
+    ensures { λ r. ⌜ (r ≡ hash (row-name i)) × (r < 248) ⌝ }
 {
-    ROW_HASHES[i]
+    widen(ROW_HASHES[i])
 }
 
 // The hash of the family that the answer r of the text s is.
 fn hash_of(s: &[u8], r: Register) -> usize
-    ensures { λ h. ⌜ (h ≡ hash-of (family-of (now (s .entry)) r)) × (h < 256) ⌝ }
+    ensures { λ h. ⌜ (h ≡ hash-of (family-of (now (s .entry)) r)) × (h < 248) ⌝ }
 {
     match r {
         Register::Legacy(i, _) => if i < 8 { row_hash(i) } else { 0 },
@@ -93,8 +101,20 @@ fn is_family(
     pseudo_opt::registers::token_names(lines, tokens, text, number(table, 1280 + k), 0, s, r)
 }
 
-// 1 + the place among the first `count` families of the one that the answer r of the text s is, 0 where it is none of them.
-pub fn search(
+// What the table has for the row of the answer r, 0 where that is no row.
+fn row_word(table: &[u16], r: Register) -> usize
+    ensures { λ c. ⌜ c ≡ row-word (now (table .entry)) r ⌝ }
+{
+    match r {
+        Register::Legacy(i, _) => if i < 8 { number(table, 248 + i) } else { 0 },
+        Register::Numbered(_, _) => 0,
+        Register::Var => 0,
+        Register::Nothing => 0,
+    }
+}
+
+// The same as `search`, by the chain of the hash.
+fn search_chain(
     lines: &[u32],
     tokens: &[u32],
     text: &[u8],
@@ -116,9 +136,29 @@ pub fn search(
     0
 }
 
+// 1 + the place among the first `count` families of the one that the answer r of the text s is, 0 where it is none of them.
+pub fn search(
+    lines: &[u32],
+    tokens: &[u32],
+    text: &[u8],
+    table: &[u16],
+    count: usize,
+    s: &[u8],
+    r: Register,
+) -> usize
+    requires { ⌜ Table (listing (now lines) (now tokens) (now text)) count (now table) × (count ≤ 1024) ⌝ }
+    ensures { λ c. ⌜ c ≡ place-of (take count (defined-families (listing (now (lines .entry)) (now (tokens .entry)) (now (text .entry))))) (family-of (now (s .entry)) r) ⌝ }
+{
+    let c = row_word(table, r);
+    if c == 0 {
+        return search_chain(lines, tokens, text, table, count, s, r);
+    }
+    c
+}
+
 // One family more in the table: its number is `count`, its first definition on line i, its hash h.
 fn add(table: &mut [u16], count: usize, i: usize, h: usize)
-    requires { ⌜ (count < 1024) × (i < 1024) × (h < 256) × (2304 ≤ length (now table)) ⌝ }
+    requires { ⌜ (count < 1024) × (i < 1024) × (h < 248) × (2304 ≤ length (now table)) ⌝ }
     ensures { λ _. ⌜ now (table .exit) ≡ added (now (table .entry)) count i h ⌝ }
 {
     let head = table[h];
@@ -127,6 +167,24 @@ fn add(table: &mut [u16], count: usize, i: usize, h: usize)
     table[1280 + count] = first;
     let last = narrow(count + 1);
     table[h] = last;
+}
+
+// The table gets c for the row of the answer r, if that is a row.
+fn keep_row(table: &mut [u16], r: Register, c: usize)
+    requires { ⌜ (c < 65536) × (2304 ≤ length (now table)) ⌝ }
+    ensures { λ _. ⌜ now (table .exit) ≡ kept (now (table .entry)) r c ⌝ }
+{
+    match r {
+        Register::Legacy(i, _) => {
+            if i < 8 {
+                let v = narrow(c);
+                table[248 + i] = v;
+            }
+        }
+        Register::Numbered(_, _) => {}
+        Register::Var => {}
+        Register::Nothing => {}
+    }
 }
 
 // The same of token 0 of line i, whose answer is r.
@@ -168,6 +226,7 @@ fn add_line(
 {
     let h = hash_of(model::columns::text_at(lines, tokens, text, i, 0), r);
     add(table, count, i, h);
+    keep_row(table, r, count + 1);
 }
 
 // 1 + the number of the family that line i defines by the register r; a family that is not in the table yet is added.

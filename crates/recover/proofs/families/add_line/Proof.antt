@@ -1,4 +1,4 @@
--- `recover::families::add_line` meets its contract. By its calls.
+-- `recover::families::add_line` meets its contract.
 -- Assumes nothing.
 use Rattle.recover.proofs.Numbered.{place-rules}
 use borrow.Author.Needs.{needs}
@@ -14,6 +14,12 @@ hash-of-requires c κs = search (place-rules, needs)
 add-requires : tie.Need-add-requires
 add-requires c κs = search (place-rules, needs)
 
+add-keep-row : tie.Need-add-keep-row
+add-keep-row c = search (place-rules, needs)
+
+keep-row-requires : tie.Need-keep-row-requires
+keep-row-requires c κs = search (place-rules, needs)
+
 same-length : tie.Need-same-length
 same-length c = search (place-rules, needs)
 
@@ -22,4 +28,12 @@ returns c = search (place-rules, needs)
 
 pub add-line-spec : {M : Type 1} → statement M
 add-line-spec =
-    tie.close (tie.spec text-at-requires hash-of-requires add-requires same-length returns)
+    tie.close
+    (tie.spec
+    text-at-requires
+    hash-of-requires
+    add-requires
+    add-keep-row
+    keep-row-requires
+    same-length
+    returns)

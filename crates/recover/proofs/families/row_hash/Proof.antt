@@ -1,18 +1,18 @@
--- `recover::families::row_hash` meets its contract. Each row is computed.
+-- `recover::families::row_hash` meets its contract.
 -- Assumes nothing.
-use Rattle.recover.proofs.Hashes.{hash-rules}
+use Rattle.recover.proofs.Hashes.{row-hash}
 use borrow.Author.Needs.{needs}
 use Rattle.recover.proofs.families.row_hash.Statement.{statement}
 use Rattle.recover.proofs.families.row_hash.Tie as tie
 
-mul-result : tie.Need-mul-result
-mul-result c = search (hash-rules, needs)
+array-read-widen : tie.Need-array-read-widen
+array-read-widen c = search needs
 
-array-read-result : tie.Need-array-read-result
-array-read-result c = search (hash-rules, needs)
+widen-requires : tie.Need-widen-requires
+widen-requires c κs = search needs
 
 returns : tie.Need-returns
-returns c = search (hash-rules, needs)
+returns c = row-hash (c .before .args .i) (c .widen .result) (c .widen .ensures) (search needs)
 
 pub row-hash-spec : {M : Type 1} → statement M
-row-hash-spec = tie.close (tie.spec mul-result array-read-result returns)
+row-hash-spec = tie.close (tie.spec array-read-widen widen-requires returns)
