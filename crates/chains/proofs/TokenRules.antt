@@ -2,7 +2,8 @@
 --   register-by                           `register_of`
 --   family-some, family-none              `token_family`
 --   other-some, other-none                `other_word`
---   link-by, token-other, token-linked, family-room    `link` and `chain_token`
+--   link-by, token-other, token-linked, family-room    `link` and `chain_register`
+--   kind-is, kind-other, token-plain      `is_register` and `chain_token`
 --   line-from, line-on, line-to           the loop of `chain_line`
 --   heads-start, heads-next, heads-end    the loop of `no_heads`
 --   chained-start, chained-next           the loop of `chain_tokens`
@@ -29,6 +30,7 @@ use Rattle.model.specs.Places.{start-from, line-start, line-end}
 use Rattle.model.proofs.Decode.{length-tokens, line-length}
 use Rattle.model.proofs.Formed.{line-within}
 use Rattle.family.specs.declared.Register.{Register}
+use Rattle.family.specs.declared.Register.the-variants.{Nothing}
 use Rattle.family.specs.Register.{family-of}
 use Rattle.recover.specs.Families.{place, place-of}
 use Rattle.recover.specs.Tokens.{family-name, Finds}
@@ -71,7 +73,7 @@ module _ (r : Register) (y : Bool) (a : (s : List ℕ) → y ≡ is-some (family
       go none n = refl
       go (some x) n = clash refl n
 
--- `link` and `chain_token`
+-- `link` and `chain_register`
 
 pub link-by : (i p c v w : ℕ) (ns first : List ℕ) → v ≡ chain-word i (getD first (c - 1) 0) → w ≡ p → Linked i p c ns (set ns p v) first (set first (c - 1) w)
 link-by i p c v w ns first e q = record { words = ap (set ns p) e; heads = ap (set first (c - 1)) q }
@@ -165,6 +167,23 @@ module _ (l t x table : List ℕ) (count p : ℕ) (ns first : List ℕ) (F : Fin
             nonzero zero m z = absurd (m refl)
             nonzero (suc c) m z = omega arith
 
+-- `chain_token`
+
+pub kind-is : (kind k : ℕ) (y : Bool) → kind ≡ k → y ≡ eqb k 1 → y ≡ eqb kind 1
+kind-is kind k y e q = rw e q
+
+pub kind-other : (kind : ℕ) → (kind ≡ 1 → ⊥) → false ≡ eqb kind 1
+kind-other kind h = sym (ne-eqb kind 1 h)
+
+pub token-plain : (l t x table : List ℕ) (count p : ℕ) (ns first : List ℕ) → Finds (listing l t x) count table → p < length t → Chained l t x count (p + 1) ns first
+    → (k : ℕ) (y : Bool) → k ≡ getD (token-list t x) p no-token .kind → y ≡ eqb k 1 → y ≡ false → Chained l t x count p (set ns p 4294967295) first
+unfolding fam-of other-word
+token-plain l t x table count p ns first F h C k y q a b =
+    token-other l t x table count p ns first F h C 0 (ap (place-of (defined-families (listing l t x))) (sym none-is)) refl Nothing (sym none-is) 4294967295 (λ s. refl)
+  where
+    none-is : fam-of (getD (token-list t x) p no-token) ≡ none
+    none-is = rw (← q, ← a, b)
+
 -- `chain_line`
 
 module _ (l t x : List ℕ) (count i : ℕ) (B : Bounds l t) (h : i < length l) (ns first : List ℕ) where
@@ -224,4 +243,4 @@ module _ (l t x : List ℕ) (count : ℕ) (B : Bounds l t) (ns first : List ℕ)
   unfolding start-from
   chained-end i h C = let z : i ≡ 0 = omega arith in rw z at C
 
-pub ruleset token-rules = (link-by, line-from, line-on, line-to, line-rises, chained-below, heads-start, heads-next, heads-end, chained-start, chained-next, chained-end, register-by, family-some, family-none, other-some, other-none, family-room, token-other, token-linked)
+pub ruleset token-rules = (link-by, line-from, line-on, line-to, line-rises, chained-below, heads-start, heads-next, heads-end, chained-start, chained-next, chained-end, register-by, family-some, family-none, other-some, other-none, family-room, token-other, token-linked, kind-is, kind-other, token-plain)

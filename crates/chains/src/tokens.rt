@@ -1,5 +1,6 @@
-// One word for each token: its line and the place of the next token of its family, while the family's webs are not known yet. Each token is
-// looked up once, from the last to the first, so that the next place is known when a token is met.
+// One word for each token: its line and the place of the next token of its family, while the family's webs are not known yet. Tokens are met
+// from the last to the first, so that the next place is known when a token is met. Each register is looked up once; of any other token only
+// the kind is read.
 //
 // Contracts cite `token-word` and `next-place` of specs/Chains.
 ghost use mathlib.Core.Path.{_≡_};
@@ -7,6 +8,7 @@ ghost use mathlib.Core.Bool.{true};
 ghost use mathlib.Core.List.{List};
 ghost use mathlib.Core.Option.{none, some};
 ghost use Prim.Native.Nat.{ℕ, suc, _+_, _-_, _<_, _≤_};
+ghost use lib.Dec.{eqb};
 ghost use lib.ListN.{length, getD, set};
 ghost use Rattle.definitions.specs.Model.{no-token};
 ghost use Rattle.definitions.specs.Family.{fam-of};
@@ -83,8 +85,8 @@ fn link(numbers: &mut [u32], first: &mut [u16], i: usize, p: usize, c: usize)
     first[c - 1] = w;
 }
 
-// The token at place p of line i; those behind it are done.
-fn chain_token(
+// The register at place p of line i; the tokens behind it are done.
+fn chain_register(
     lines: &[u32],
     tokens: &[u32],
     text: &[u8],
@@ -106,6 +108,45 @@ fn chain_token(
         return;
     }
     link(numbers, first, i, p, c);
+}
+
+// Only a register has a family.
+fn is_register(kind: usize) -> bool
+    ensures { λ y. ⌜ y ≡ eqb kind 1 ⌝ }
+{
+    match kind {
+        0 => false,
+        1 => true,
+        2 => false,
+        3 => false,
+        4 => false,
+        5 => false,
+        6 => false,
+        7 => false,
+        _ => false,
+    }
+}
+
+// The token at place p of line i; those behind it are done.
+fn chain_token(
+    lines: &[u32],
+    tokens: &[u32],
+    text: &[u8],
+    table: &[u16],
+    count: usize,
+    numbers: &mut [u32],
+    first: &mut [u16],
+    i: usize,
+    p: usize,
+)
+    requires { ⌜ Finds (listing (now lines) (now tokens) (now text)) count (now table) × Bounds (now lines) (now tokens) × (i < length (now lines)) × (p < length (now tokens)) × (place-line (now lines) p ≡ i) × Chained (now lines) (now tokens) (now text) count (p + 1) (now numbers) (now first) ⌝ }
+    ensures { λ _. ⌜ Chained (now (lines .entry)) (now (tokens .entry)) (now (text .entry)) count p (now (numbers .exit)) (now (first .exit)) ⌝ }
+{
+    if is_register(model::columns::token_kind(tokens, text, p)) {
+        chain_register(lines, tokens, text, table, count, numbers, first, i, p);
+        return;
+    }
+    numbers[p] = 4294967295;
 }
 
 // The tokens of line i; those of the lines behind it are done.

@@ -1,9 +1,9 @@
--- `chains::tokens::chain_token` meets its contract. A token that is in no chain, and one that becomes the first of its chain.
+-- `chains::tokens::chain_register` meets its contract. A token that is in no chain, and one that becomes the first of its chain.
 -- Assumes nothing.
 use Rattle.chains.proofs.TokenRules.{token-rules}
 use borrow.Author.Needs.{needs}
-use Rattle.chains.proofs.tokens.chain_token.Statement.{statement}
-use Rattle.chains.proofs.tokens.chain_token.Tie as tie
+use Rattle.chains.proofs.tokens.chain_register.Statement.{statement}
+use Rattle.chains.proofs.tokens.chain_register.Tie as tie
 
 register-of-requires : tie.Need-register-of-requires
 register-of-requires c κs = search (token-rules, needs)
@@ -38,8 +38,8 @@ same-length-3 c = search (token-rules, needs)
 returns-2 : tie.Need-returns-2
 returns-2 c = search (token-rules, needs)
 
-pub chain-token-spec : {M : Type 1} → statement M
-chain-token-spec =
+pub chain-register-spec : {M : Type 1} → statement M
+chain-register-spec =
     tie.close
     (tie.spec
     register-of-requires
