@@ -16,7 +16,7 @@ use lib.ListN.{length, getD, drop}
 use Rattle.definitions.specs.Lists.{part}
 use Rattle.text.proofs.Parts.{drop-step, drop-end, part-step, part-none, part-join}
 use Rattle.loop_theory.proofs.Cases.{and-split}
-use Rattle.json_definitions.specs.Writer.{hex-letter, escaped, characters-text, string-text}
+use Rattle.json_definitions.specs.Writer.{hex-letter, escaped, characters-text}
 use Rattle.json_append.specs.Appended.{most, Appended, Plain}
 use Rattle.json_append.proofs.Appends.{append-nothing, append-then, append-as}
 
@@ -110,10 +110,4 @@ module _ (out₀ : List ℕ) (at : ℕ) (s out : List ℕ) (to i : ℕ) (g : Goi
         within = omega arith;
       }
 
--- A string
-
-pub quoted : (s : List ℕ) → (34 ∷ []) ++ (characters-text s ++ (34 ∷ [])) ≡ string-text s
-unfolding string-text
-quoted s = refl
-
-pub ruleset strings = (and-not-no, and-not-go, letters, marked, alone, quoted, plain-start, plain-next, quote-marked, slash-marked, going-start, going-end, going-last, going-next)
+pub ruleset strings = (and-not-no, and-not-go, letters, marked, alone, plain-start, plain-next, quote-marked, slash-marked, going-start, going-end, going-last, going-next)

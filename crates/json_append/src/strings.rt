@@ -1,12 +1,13 @@
 // Strings.
 use crate::bytes::put;
 use crate::bytes::put_byte;
+use crate::sizes::block_size;
 ghost use mathlib.Core.Path.{_≡_};
 ghost use mathlib.Core.Bool.{_&&_, _||_, not, true};
 ghost use Prim.Native.Nat.{_≤_, _<_};
 ghost use lib.Dec.{eqb, leb};
 ghost use lib.ListN.{length};
-ghost use Rattle.json_definitions.specs.Writer.{hex-letter, escaped, characters-text, string-text};
+ghost use Rattle.json_definitions.specs.Writer.{hex-letter, escaped, characters-text};
 ghost use Rattle.json_append.specs.Appended.{Appended, Plain};
 
 // A byte that is written as it stands.
@@ -22,12 +23,28 @@ fn is_plain(c: u8) -> bool
     0x20 <= c
 }
 
+// The place behind the blocks of eight bytes from i on that are written as they stand.
+fn plain_blocks(s: &[u8], i: usize) -> usize
+    requires { ⌜ i ≤ length (now s) ⌝ }
+    ensures { λ r. ⌜ Plain (now (s .entry)) i r ⌝ }
+{
+    let mut j = i;
+    while 8 <= s.len() - j {
+        if block_size(s, j) == 8 {
+            j += 8;
+        } else {
+            return j;
+        }
+    }
+    j
+}
+
 // The place behind the bytes from i on that are written as they stand.
 fn plain_end(s: &[u8], i: usize) -> usize
     requires { ⌜ i ≤ length (now s) ⌝ }
     ensures { λ r. ⌜ Plain (now (s .entry)) i r ⌝ }
 {
-    let mut j = i;
+    let mut j = plain_blocks(s, i);
     while j < s.len() {
         if is_plain(s[j]) {
             j += 1;
@@ -81,7 +98,7 @@ fn put_character(out: &mut [u8], at: usize, c: u8) -> usize
 }
 
 // The bytes of a string, by runs of bytes that are written as they stand.
-fn put_characters(out: &mut [u8], at: usize, s: &[u8]) -> usize
+pub fn put_characters(out: &mut [u8], at: usize, s: &[u8]) -> usize
     ensures { λ r. ⌜ Appended (now (out .entry)) at (characters-text (now (s .entry))) (now (out .exit)) r ⌝ }
 {
     let mut to = at;
@@ -96,12 +113,4 @@ fn put_characters(out: &mut [u8], at: usize, s: &[u8]) -> usize
         i = j + 1;
     }
     to
-}
-
-pub fn put_string(out: &mut [u8], at: usize, s: &[u8]) -> usize
-    ensures { λ r. ⌜ Appended (now (out .entry)) at (string-text (now (s .entry))) (now (out .exit)) r ⌝ }
-{
-    let i = put_byte(out, at, b'"');
-    let j = put_characters(out, i, s);
-    put_byte(out, j, b'"')
 }

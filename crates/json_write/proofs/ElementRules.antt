@@ -11,14 +11,14 @@ use lib.ListN.{length, getD}
 use Rattle.definitions.specs.Lists.{ascii, part}
 use Rattle.definitions.specs.Model.{Token}
 use Rattle.text.proofs.Parts.{part-step, part-none}
-use Rattle.json_definitions.specs.Writer.{string-text, kind-text, token-text, elements-text, array-text}
+use Rattle.json_definitions.specs.Writer.{characters-text, string-text, kind-text, token-text, elements-text, array-text}
 use Rattle.json_append.specs.Appended.{most, Appended}
 use Rattle.json_append.proofs.Appends.{append-nothing, append-then, append-as, append-3}
 
 pub token-is : (T : Token) (u : List ℕ) (v : ℕ) → u ≡ T .text → v ≡ T .kind
-    → ascii "{\"t\":" ++ (string-text u ++ (ascii ",\"k\":" ++ (kind-text v ++ ascii "}"))) ≡ token-text T
-unfolding token-text
-token-is T u v p q = rw (p, q)
+    → ascii "{\"t\":\"" ++ (characters-text u ++ (ascii "\",\"k\":" ++ (kind-text v ++ ascii "}"))) ≡ token-text T
+unfolding token-text string-text
+token-is T u v p q = rw (p, q, append-assoc (characters-text (T .text)) (ascii "\"") (ascii ",\"k\":" ++ (kind-text (T .kind) ++ ascii "}")))
 
 -- The elements of xs from place k up to e
 

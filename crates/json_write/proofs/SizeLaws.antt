@@ -1,5 +1,4 @@
 -- The length of the text of a listing, from the sizes of its lines, its tokens and the bytes of its text.
---   total-bytes       the length of the bytes of a string, as a sum
 --   length-write      the length of the text, by columns that questions 1 and 2 accept
 --   listing-sized     the same, as a rule for the need
 -- Assumes nothing.
@@ -22,7 +21,9 @@ use Rattle.model.proofs.Decode.{start-next, start-zero, length-listing, length-
 use Rattle.model.proofs.Formed.{formed-lines, formed-tokens, all-tokens-listing, run-text}
 use Rattle.json_definitions.specs.Writer.{characters-text, string-text, token-text, elements-text, array-text, line-text, write}
 use Rattle.json_write.specs.Answers.{lines-of}
-use Rattle.json_write.specs.Sizes.{total, byte-size, ends, token-size, head-size, Sized, Formed}
+use Rattle.json_append.specs.Sizes.{total, Sized}
+use Rattle.json_append.proofs.Sums.{length-characters}
+use Rattle.json_write.specs.Sizes.{ends, token-size, head-size, Formed}
 use Rattle.json_write.proofs.LineRules.{line-is, length-lines}
 
 -- Sums
@@ -31,11 +32,6 @@ total-append : {A : Type 0} (f : A → ℕ) (xs ys : List A) → total f (xs ++ 
 unfolding total
 total-append f [] ys = omega arith
 total-append f (x ∷ xs) ys = let e = total-append f xs ys in omega arith
-
-pub total-bytes : (s : List ℕ) → total byte-size s ≡ length (characters-text s)
-unfolding total characters-text
-total-bytes [] = refl
-total-bytes (c ∷ s) = let e = total-bytes s in simp length-append (omega arith)
 
 -- An array
 
@@ -54,11 +50,6 @@ length-array f (x ∷ xs) = let e = length-elements f xs in simp length-append (
 
 -- Tokens
 
-characters-append : (a b : List ℕ) → length (characters-text (a ++ b)) ≡ length (characters-text a) + length (characters-text b)
-unfolding characters-text
-characters-append [] b = omega arith
-characters-append (c ∷ a) b = let e = characters-append a b in simp length-append (omega arith)
-
 length-token : (t : Token) → with-comma token-text t ≡ token-size t + length (characters-text (t .text))
 unfolding token-text string-text
 length-token t = simp length-append (omega arith)
@@ -67,7 +58,7 @@ length-tokens-text : (ts : List Token) → total (with-comma token-text) ts ≡ 
 unfolding total text
 length-tokens-text [] = unfold characters-text in refl
 length-tokens-text (t ∷ ts) =
-    let e = length-tokens-text ts in let w = length-token t in let c = characters-append (t .text) (text ts) in
+    let e = length-tokens-text ts in let w = length-token t in let c = length-characters (t .text) (text ts) in
     omega arith
 
 -- Lines

@@ -1,7 +1,5 @@
 -- Rules for the needs of the sizes: each premise is a field of what a need is handed.
---   size-control, size-quote, size-slash, size-alone    a byte
---   Counted                                             the loop of a sum: n is the sum of the first k elements, each at most m
---   counted-start, counted-next, counted-end            of tokens, tokens-next; of lines, heads-next, heads-end
+--   tokens-next, heads-next, heads-end                  the loops of the sums over tokens and lines
 --   decimal-most, digits-next, digits-end               the digits of a number
 --   address-known, address-null                         an address, and none
 --   kind-sized, other-sized                             a token of a kind, and of none
@@ -12,68 +10,24 @@ use Prim.Native.Nat.{ℕ, zero, suc, _+_, _*_, _/_, _≤_, _<_}
 use mathlib.Core.Path.{_≡_, refl, ap, _∙_}
 use mathlib.Core.List.{List}
 use mathlib.Core.Option.{Option}
-use native.Mathlib.Nat.{suc-mul}
-use native.Mathlib.Numerals.{add-one}
 use native.Mathlib.Decide.{decLe}
 use native.Mathlib.Omega.{arith}
-use borrow.Author.Tests.{eq-eqb, ne-eqb, lt-ltb, le-ltb}
-use lib.ListN.{length, getD, drop, length-append}
+use lib.ListN.{length, getD, length-append}
 use Rattle.definitions.specs.Model.{Line, line, no-token, no-line}
 use Rattle.definitions.specs.Columns.{token-list}
 use Rattle.model.specs.Addresses.{address}
 use Rattle.model.specs.declared.columns.Address.{Address}
 use Rattle.model.specs.declared.columns.Address.the-variants.{At, Missing}
-use Rattle.text.proofs.Parts.{drop-step, drop-end}
 use Rattle.model.proofs.Decode.{length-tokens}
-use Rattle.json_definitions.specs.Writer.{escaped, decimal, kind-text, address-text}
+use Rattle.json_definitions.specs.Writer.{decimal, kind-text, address-text}
 use Rattle.json_append.proofs.ValueRules.{one-digit, more-digits, no-kind}
 use Rattle.json_write.specs.Answers.{lines-of, head-text}
-use Rattle.json_write.specs.Sizes.{total, byte-size, ends, token-size, head-size, Sized}
+use Rattle.json_append.specs.Sizes.{total, Sized}
+use Rattle.json_append.proofs.Sums.{Counted, counted-next, counted-end}
+use Rattle.json_write.specs.Sizes.{ends, token-size, head-size}
 use Rattle.json_write.proofs.LineRules.{length-lines}
 
--- A byte of a string
-
-module _ (c : ℕ) where
-  pub size-control : c < 32 → Sized (byte-size c) 6 6
-  unfolding escaped
-  size-control h = record { is = rw (ne-eqb c 34 (λ e. omega arith), ne-eqb c 92 (λ e. omega arith), lt-ltb c 32 h); most = omega arith }
-
-  pub size-quote : c ≡ 34 → Sized (byte-size c) 6 2
-  unfolding escaped
-  size-quote e = record { is = rw (eq-eqb c 34 e); most = omega arith }
-
-  pub size-slash : (c ≡ 34 → ⊥) → c ≡ 92 → Sized (byte-size c) 6 2
-  unfolding escaped
-  size-slash n e = record { is = rw (ne-eqb c 34 n, eq-eqb c 92 e); most = omega arith }
-
-  pub size-alone : 32 ≤ c → (c ≡ 34 → ⊥) → (c ≡ 92 → ⊥) → Sized (byte-size c) 6 1
-  unfolding escaped
-  size-alone h n m = record { is = rw (ne-eqb c 34 n, ne-eqb c 92 m, le-ltb c 32 h); most = omega arith }
-
--- The loop of a sum
-
-pub record Counted {A : Type 0} (f : A → ℕ) (m : ℕ) (xs : List A) (n k : ℕ) : Type 0 where
-  pub within : k ≤ length xs
-  pub rest : n + total f (drop k xs) ≡ total f xs
-  pub small : n ≤ k * m
-
-module _ {A : Type 0} (f : A → ℕ) (m : ℕ) (xs : List A) where
-  pub counted-start : Counted f m xs 0 0
-  counted-start = record { within = omega arith; rest = omega arith; small = omega arith }
-
-  module _ (n k : ℕ) (g : Counted f m xs n k) where
-    pub counted-next : (d : A) (r : ℕ) → k < length xs → Sized (f (getD xs k d)) m r → Counted f m xs (n + r) (k + 1)
-    counted-next d r h s =
-        let l : total f (drop k xs) ≡ f (getD xs k d) + total f (drop (k + 1) xs) = unfold total in rw (drop-step d xs k h) in
-        let e = s .is in let p = s .most in let q = g .small in let w = g .rest in
-        let z : (k + 1) * m ≡ k * m + m = rw (add-one, suc-mul) in
-        record { within = omega arith; rest = omega arith; small = omega arith }
-
-    pub counted-end : length xs ≤ k → n ≡ total f xs
-    counted-end h =
-        let l : total f (drop k xs) ≡ 0 = unfold total in rw (drop-end xs k h) in
-        let w = g .rest in
-        omega arith
+-- The loops of sums
 
 -- a token's size is that of its kind
 pub tokens-next : (t x : List ℕ) (n k v r : ℕ) → Counted token-size 24 (token-list t x) n k → k < length t → v ≡ getD (token-list t x) k no-token .kind → Sized (14 + length (kind-text v)) 24 r

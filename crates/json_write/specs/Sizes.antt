@@ -1,28 +1,18 @@
 -- How long the text of a listing is, without the text.
---   total f xs        the sum of what f gives of the elements
---   byte-size c       the length of a byte in a string
 --   ends n            the brackets and commas of an array of n elements are as many as its elements and this
 --   token-size t      a token's text with a "," but without the bytes of its string
 --   head-size l       a line's text with a "," but without its tokens' texts
---   Sized s m r       r is s, and at most m
 --   Formed l a t x    what questions 1 and 2 say of the columns
 -- Assumes nothing.
 use Prim.Native.Nat.{ℕ, zero, suc, _+_, _≤_}
 use mathlib.Core.Path.{_≡_}
 use mathlib.Core.Bool.{true}
-use mathlib.Core.List.{List, [], _∷_}
+use mathlib.Core.List.{List}
 use lib.ListN.{length}
 use Rattle.definitions.specs.Model.{Token, Line}
 use Rattle.definitions.specs.Questions.{question-2}
-use Rattle.json_definitions.specs.Writer.{escaped, kind-text}
+use Rattle.json_definitions.specs.Writer.{kind-text}
 use Rattle.json_write.specs.Answers.{head-text}
-
-unfoldable pub total : {A : Type 0} → (A → ℕ) → List A → ℕ
-total f [] = 0
-total f (x ∷ xs) = f x + total f xs
-
-abbrev pub byte-size : ℕ → ℕ
-byte-size c = length (escaped c)
 
 unfoldable pub ends : ℕ → ℕ
 ends zero = 2
@@ -33,10 +23,6 @@ token-size t = 14 + length (kind-text (t .kind))
 
 unfoldable pub head-size : Line → ℕ
 head-size l = 2 + (length (head-text l) + ends (length (l .tokens)))
-
-pub record Sized (s m r : ℕ) : Type 0 where
-  pub is : r ≡ s
-  pub most : r ≤ m
 
 pub record Formed (l a t x : List ℕ) : Type 0 where
   pub addresses : length a ≡ length l

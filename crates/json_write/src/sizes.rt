@@ -1,6 +1,7 @@
 // How long the text of a listing is: one pass over the lines, one over the tokens, one over the bytes of the text.
 //
 // Since the tokens cover the text, the bytes are counted without looking where a token ends. Contracts: sizes of specs/Sizes.antt.
+use json_append::sizes::text_size;
 use model::columns::Address;
 use model::columns::address_of;
 use model::columns::indent;
@@ -12,38 +13,10 @@ ghost use lib.ListN.{length};
 ghost use Rattle.definitions.specs.Model.{line};
 ghost use Rattle.definitions.specs.Columns.{token-list};
 ghost use Rattle.model.specs.Addresses.{address};
-ghost use Rattle.json_definitions.specs.Writer.{decimal, kind-text, address-text, characters-text, write};
+ghost use Rattle.json_definitions.specs.Writer.{decimal, kind-text, address-text, write};
 ghost use Rattle.json_write.specs.Answers.{lines-of};
-ghost use Rattle.json_write.specs.Sizes.{total, byte-size, ends, token-size, head-size, Sized, Formed};
-
-fn byte_size(c: u8) -> u32
-    ensures { λ r. ⌜ Sized (byte-size c) 6 r ⌝ }
-{
-    if c < 0x20 {
-        return 6;
-    }
-    if c == b'"' {
-        return 2;
-    }
-    if c == b'\\' {
-        return 2;
-    }
-    1
-}
-
-// The bytes of the strings.
-fn text_size(text: &[u8]) -> u32
-    requires { ⌜ length (now text) ≤ 262144 ⌝ }
-    ensures { λ r. ⌜ Sized (length (characters-text (now (text .entry)))) 1572864 r ⌝ }
-{
-    let mut n: u32 = 0;
-    let mut k = 0;
-    while k < text.len() {
-        n += byte_size(text[k]);
-        k += 1;
-    }
-    n
-}
+ghost use Rattle.json_append.specs.Sizes.{total, Sized};
+ghost use Rattle.json_write.specs.Sizes.{ends, token-size, head-size, Formed};
 
 // A token, without the bytes of its string.
 fn token_size(kind: usize) -> usize

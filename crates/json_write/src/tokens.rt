@@ -1,7 +1,7 @@
 // Tokens.
 use json_append::bytes::put;
 use json_append::bytes::put_byte;
-use json_append::strings::put_string;
+use json_append::strings::put_characters;
 use json_append::values::put_kind;
 use model::columns::token_kind;
 use model::columns::token_text;
@@ -18,11 +18,11 @@ ghost use Rattle.json_append.specs.Appended.{Appended};
 fn put_token(out: &mut [u8], at: usize, tokens: &[u32], text: &[u8], k: usize) -> usize
     ensures { λ r. ⌜ Appended (now (out .entry)) at (token-text (getD (token-list (now (tokens .entry)) (now (text .entry))) k no-token)) (now (out .exit)) r ⌝ }
 {
-    let i = put(out, at, b"{\"t\":");
-    let j = put_string(out, i, token_text(tokens, text, k));
-    let m = put(out, j, b",\"k\":");
+    let i = put(out, at, b"{\"t\":\"");
+    let j = put_characters(out, i, token_text(tokens, text, k));
+    let m = put(out, j, b"\",\"k\":");
     let n = put_kind(out, m, token_kind(tokens, text, k));
-    put(out, n, b"}")
+    put_byte(out, n, b'}')
 }
 
 // "," and token k of all.

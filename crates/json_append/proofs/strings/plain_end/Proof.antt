@@ -14,6 +14,9 @@ Inv-loop s i j₀ j = Plain s i j
 abbrev μ-loop : tie.MeasureT-loop
 μ-loop s i j₀ j = length s - j
 
+plain-blocks-requires : tie.Need-plain-blocks-requires Inv-loop μ-loop
+plain-blocks-requires c κs = search needs
+
 loop-holds : tie.Need-loop-holds Inv-loop μ-loop
 loop-holds c = search (strings, needs)
 
@@ -44,6 +47,7 @@ plain-end-spec =
     (tie.spec
     Inv-loop
     μ-loop
+    plain-blocks-requires
     loop-holds
     shared-slice-read-is-plain
     is-plain-requires

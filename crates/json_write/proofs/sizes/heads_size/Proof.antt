@@ -8,7 +8,8 @@ use lib.ListN.{length}
 use Rattle.json_write.specs.Answers.{lines-of}
 use Rattle.json_write.specs.Sizes.{head-size}
 use Rattle.json_write.proofs.LineRules.{length-lines}
-use Rattle.json_write.proofs.SizeRules.{Counted, counted-start, heads-next, heads-end}
+use Rattle.json_append.proofs.Sums.{Counted, counted-start}
+use Rattle.json_write.proofs.SizeRules.{heads-next, heads-end}
 use Rattle.json_write.proofs.sizes.heads_size.Statement.{statement}
 use Rattle.json_write.proofs.sizes.heads_size.Tie as tie
 

@@ -8,7 +8,8 @@ use denote.Ref.{now}
 use Rattle.model.proofs.Decode.{length-tokens}
 use Rattle.definitions.specs.Columns.{token-list}
 use Rattle.json_write.specs.Sizes.{token-size}
-use Rattle.json_write.proofs.SizeRules.{Counted, counted-start, tokens-next, counted-end}
+use Rattle.json_append.proofs.Sums.{Counted, counted-start, counted-end}
+use Rattle.json_write.proofs.SizeRules.{tokens-next}
 use Rattle.json_write.proofs.sizes.tokens_size.Statement.{statement}
 use Rattle.json_write.proofs.sizes.tokens_size.Tie as tie
 

@@ -15,8 +15,8 @@ put-requires c κs = search needs
 token-text-requires : tie.Need-token-text-requires
 token-text-requires c κs = search needs
 
-put-string-requires : tie.Need-put-string-requires
-put-string-requires c κs = search needs
+put-characters-requires : tie.Need-put-characters-requires
+put-characters-requires c κs = search needs
 
 slice-aggregate-put-2 : tie.Need-slice-aggregate-put-2
 slice-aggregate-put-2 c = search needs
@@ -30,17 +30,14 @@ token-kind-requires c κs = search needs
 put-kind-requires : tie.Need-put-kind-requires
 put-kind-requires c κs = search needs
 
-slice-aggregate-put-3 : tie.Need-slice-aggregate-put-3
-slice-aggregate-put-3 c = search needs
-
-put-requires-3 : tie.Need-put-requires-3
-put-requires-3 c κs = search needs
+put-byte-requires : tie.Need-put-byte-requires
+put-byte-requires c κs = search needs
 
 same-length : tie.Need-same-length
 same-length c = search needs
 
 returns : tie.Need-returns
-returns c = append-5 _ _ _ _ _ (c .before .before .before .before .before .before .before .before .before .before .before .before .before .before .before .before .before .before .before .before .before .before .put .ensures) _ _ _ (c .before .before .before .before .before .before .before .before .before .before .before .before .before .before .before .before .before .put-string .ensures) _ _ _ (c .before .before .before .before .before .before .before .before .before .before .before .before .put2 .ensures) _ _ _ (c .before .before .before .before .before .before .before .put-kind .ensures) _ _ _ (c .before .before .put3 .ensures) _ (token-is _ _ _ (c .before .before .before .before .before .before .before .before .before .before .before .before .before .before .before .before .before .before .token-text .ensures) (c .before .before .before .before .before .before .before .before .token-kind .ensures))
+returns c = append-5 _ _ _ _ _ (c .before .before .before .before .before .before .before .before .before .before .before .before .before .before .before .before .before .before .before .before .before .put .ensures) _ _ _ (c .before .before .before .before .before .before .before .before .before .before .before .before .before .before .before .before .put-characters .ensures) _ _ _ (c .before .before .before .before .before .before .before .before .before .before .before .put2 .ensures) _ _ _ (c .before .before .before .before .before .before .put-kind .ensures) _ _ _ (c .before .before .put-byte .ensures) _ (token-is _ _ _ (c .before .before .before .before .before .before .before .before .before .before .before .before .before .before .before .before .before .token-text .ensures) (c .before .before .before .before .before .before .before .token-kind .ensures))
 
 pub put-token-spec : {M : Type 1} → statement M
 put-token-spec =
@@ -49,12 +46,11 @@ put-token-spec =
     slice-aggregate-put
     put-requires
     token-text-requires
-    put-string-requires
+    put-characters-requires
     slice-aggregate-put-2
     put-requires-2
     token-kind-requires
     put-kind-requires
-    slice-aggregate-put-3
-    put-requires-3
+    put-byte-requires
     same-length
     returns)

@@ -1,15 +1,14 @@
--- `json_write::sizes::text_size` meets its contract. Its loop: n is the sum over the first k bytes.
+-- `json_append::sizes::text_size` meets its contract. Its loop: n is the sum over the first k bytes.
 -- Assumes nothing.
 use Prim.Native.Nat.{_-_}
 use mathlib.Core.Path.{_∙_}
 use borrow.Author.Needs.{needs}
 use native.Mathlib.Omega.{arith}
 use lib.ListN.{length}
-use Rattle.json_write.specs.Sizes.{byte-size}
-use Rattle.json_write.proofs.SizeRules.{Counted, counted-start, counted-next, counted-end}
-use Rattle.json_write.proofs.SizeLaws.{total-bytes}
-use Rattle.json_write.proofs.sizes.text_size.Statement.{statement}
-use Rattle.json_write.proofs.sizes.text_size.Tie as tie
+use Rattle.json_append.specs.Sizes.{byte-size}
+use Rattle.json_append.proofs.Sums.{Counted, counted-start, counted-wide, counted-end, total-bytes}
+use Rattle.json_append.proofs.sizes.text_size.Statement.{statement}
+use Rattle.json_append.proofs.sizes.text_size.Tie as tie
 
 abbrev Inv-loop : tie.InvT-loop
 Inv-loop text n₀ k₀ n k = Counted byte-size 6 text n k
@@ -26,6 +25,9 @@ shared-slice-read-byte-size c = omega arith
 byte-size-requires : tie.Need-byte-size-requires Inv-loop μ-loop
 byte-size-requires c κs = search needs
 
+wide-requires : tie.Need-wide-requires Inv-loop μ-loop
+wide-requires c κs = search needs
+
 add-n : tie.Need-add-n Inv-loop μ-loop
 add-n c = omega arith
 
@@ -36,7 +38,7 @@ loop-less : tie.Need-loop-less Inv-loop μ-loop
 loop-less c = omega arith
 
 loop-again : tie.Need-loop-again Inv-loop μ-loop
-loop-again c = search (counted-next, needs)
+loop-again c = search (counted-wide, needs)
 
 returns : tie.Need-returns Inv-loop μ-loop
 returns c =
@@ -53,6 +55,7 @@ text-size-spec =
     loop-holds
     shared-slice-read-byte-size
     byte-size-requires
+    wide-requires
     add-n
     add-k
     loop-less

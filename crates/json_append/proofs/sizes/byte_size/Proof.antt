@@ -1,9 +1,9 @@
--- `json_write::sizes::byte_size` meets its contract.
+-- `json_append::sizes::byte_size` meets its contract.
 -- Assumes nothing.
 use borrow.Author.Needs.{needs}
-use Rattle.json_write.proofs.SizeRules.{size-control, size-quote, size-slash, size-alone}
-use Rattle.json_write.proofs.sizes.byte_size.Statement.{statement}
-use Rattle.json_write.proofs.sizes.byte_size.Tie as tie
+use Rattle.json_append.proofs.Sums.{size-control, size-quote, size-slash, size-alone}
+use Rattle.json_append.proofs.sizes.byte_size.Statement.{statement}
+use Rattle.json_append.proofs.sizes.byte_size.Tie as tie
 
 returns : tie.Need-returns
 returns c = search (size-control, size-quote, size-slash, size-alone, needs)
