@@ -1,0 +1,7 @@
+mod Runs
+mod LabelRules
+mod WebRules
+mod EdgeRules
+mod NodeRules
+mod WidthRules
+mod Pictures
