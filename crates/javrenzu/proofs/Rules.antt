@@ -1,24 +1,28 @@
 -- Rules for the needs of the functions that answer.
 --   rows-taken                                    rows have room
 --   webs-said, webs-refused, splits-said, splits-refused, chose-webs, chose-splits, choose-refused    the calls that number tokens
+--   picture-ready, picture-said, picture-long     a picture, where it has room and where not
+--   dot-passing, dot-said, dot-refused              what the web call answers of it
 --   json-said, json-refused                       the writer
 --   pass-accepted, pass-left, pass-lent           what a pass answers and leaves, and what is lent to it
 --   json-cut, loops-cut, word-cut                 the first words of columns
 --   for-webs, .. for-unknown                      the word
 --   read-said, read-refused                       the reader
 -- Assumes nothing.
-use Prim.Native.Nat.{ℕ, _≤_}
+use Prim.Native.Nat.{ℕ, _≤_, _<_}
 use mathlib.Core.Path.{_≡_, refl}
 use mathlib.Core.List.{List, []}
 use native.Mathlib.Omega.{arith}
-use borrow.Author.Tests.{leb-true}
+use borrow.Author.Tests.{leb-true, le-leb, lt-leb}
 use lib.Dec.{leb}
 use lib.ListN.{length, take, replicate}
 use mathlib.Core.Bool.{_&&_}
 use Rattle.definitions.specs.Model.{Line}
+use Rattle.definitions.specs.Columns.{listing}
 use Rattle.definitions.specs.Answers.{Answer, refused, accepted, loops, goto-loops}
 use Rattle.definitions.specs.Calls.{Columns, Passed, by-webs, by-splits, pass-call, web-call, split-call, choose-call}
 use Rattle.model.proofs.Ands.{both}
+use Rattle.model.proofs.Formed.{formed-lines}
 use Rattle.write.specs.Holds.{columns}
 use Rattle.json_definitions.specs.JsonCalls.{read-call, write-call}
 use Rattle.json_append.specs.Appended.{Appended}
@@ -42,12 +46,14 @@ use Rattle.pass_call.specs.declared.Answer.the-variants as pass
 use Rattle.pass_call.specs.Answers.{passed-with}
 use Rattle.rows.specs.Rows.{all-rows, Short}
 use Rattle.rows.proofs.Accepted.{Asked, web-asked, split-asked, choose-asked, printed}
+use Rattle.dot.specs.Dot.{dot-text}
+use Rattle.dot.specs.Held.{Ready}
 use Rattle.javrenzu.specs.Room.{token-zeros, text-zeros, mark-zeros, space-zeros, word-zeros, byte-zeros, lent-room, split-room, pass-room}
 use Rattle.javrenzu.specs.declared.calls.Said.{Said}
 use Rattle.javrenzu.specs.declared.calls.Said.the-variants.{Text, ByWebs, BySplits, Refused}
 use Rattle.javrenzu.specs.declared.words.Word.{Word}
 use Rattle.javrenzu.specs.declared.words.Word.the-variants as word
-use Rattle.javrenzu.specs.Command.{told, rows-of, webs-answer, splits-answer, choose-answer, written-text, json-answer, after, pass-answer, passes-answer, word-answer, read-answer, answer-in, answer}
+use Rattle.javrenzu.specs.Command.{told, rows-of, webs-answer, splits-answer, choose-answer, Passing, within, picture-of, dot-answer, written-text, json-answer, after, pass-answer, passes-answer, word-answer, read-answer, answer-in, answer}
 
 -- Rows
 
@@ -109,6 +115,57 @@ module _ (l t x numbers marks ns ms out : List ℕ) (zero-numbers : ns ≡ token
     unfolding choose-answer rows-of
     choose-refused a q h = let z : choose-called a numbers marks space ≡ choose-call l t x lent-room = rw (zero-numbers, zero-marks, zero-space) at q in rw (← z, h)
 
+-- Pictures
+
+module _ (l t x numbers : List ℕ) where
+  pub picture-ready : (space ranks : List ℕ) → Passing l t x → 32768 ≤ length space → 16384 ≡ length ranks → Ready l t x space ranks
+  picture-ready space ranks passing wide long =
+      let few = both (leb (length l) 1024 && leb (length t) 16384) (leb (length x) 262144) (passing .small) in
+      let some = both (leb (length l) 1024) (leb (length t) 16384) (few .0) in
+      let n = leb-true (length t) 16384 (some .1) in
+      record {
+        few = leb-true (length l) 1024 (some .0);
+        short = n;
+        bytes = leb-true (length x) 262144 (few .1);
+        cover = formed-lines l t x (passing .formed);
+        wide = wide;
+        room = omega arith;
+      }
+
+  module _ (out out′ : List ℕ) (e : ℕ) (wide : 4194304 ≤ length out) (f : Appended out 0 (dot-text (listing l t x) numbers) out′ e) where
+    pub picture-said : e ≤ 4194304 → told (Text e) out′ ≡ within (dot-text (listing l t x) numbers)
+    unfolding within
+    picture-said h =
+        let end = f .end in
+        let n : length (dot-text (listing l t x) numbers) ≤ 4194304 = omega arith in
+        rw (le-leb (length (dot-text (listing l t x) numbers)) 4194304 n, printed (dot-text (listing l t x) numbers) out out′ e f (omega arith) .bytes)
+
+    pub picture-long : 4194304 < e → told (Refused 4) out′ ≡ within (dot-text (listing l t x) numbers)
+    unfolding within
+    picture-long h =
+        let end = f .end in
+        let n : 4194304 < length (dot-text (listing l t x) numbers) = omega arith in
+        rw (lt-leb (length (dot-text (listing l t x) numbers)) 4194304 n)
+
+pub dot-passing : (l t x numbers marks ns ms ws space : List ℕ) (a : Webs) (sweeps : ℕ) → web-called a numbers marks space ≡ web-call l t x (lent ns ms ws)
+    → a ≡ web.Accepted sweeps → Passing l t x
+dot-passing l t x numbers marks ns ms ws space a sweeps q h =
+    let y : web-call l t x (lent ns ms ws) .answer ≡ accepted sweeps = rw (← q, h) in
+    let asked = web-asked l t x (lent ns ms ws) sweeps y in
+    record { small = asked .0; formed = asked .1 }
+
+module _ (l t x numbers marks ns ms ws space : List ℕ) (zero-numbers : ns ≡ token-zeros) (zero-marks : ms ≡ mark-zeros) (zero-space : ws ≡ space-zeros)
+    (a : Webs) (q : web-called a numbers marks space ≡ web-call l t x (lent ns ms ws)) where
+  pub dot-said : (sweeps : ℕ) (v : Answer (List ℕ)) → a ≡ web.Accepted sweeps → v ≡ within (dot-text (listing l t x) numbers) → v ≡ dot-answer l t x
+  unfolding dot-answer picture-of
+  dot-said sweeps v h f =
+      let z : web-called a numbers marks space ≡ web-call l t x lent-room = rw (zero-numbers, zero-marks, zero-space) at q in
+      rw (← z, h) f
+
+  pub dot-refused : (n : ℕ) (out : List ℕ) → a ≡ web.Refused n → told (Refused n) out ≡ dot-answer l t x
+  unfolding dot-answer picture-of
+  dot-refused n out h = let z : web-called a numbers marks space ≡ web-call l t x lent-room = rw (zero-numbers, zero-marks, zero-space) at q in rw (← z, h)
+
 -- JSON
 
 module _ (c : Columns) (out out′ : List ℕ) (r : Wrote) (q : json-written r out′ ≡ write-call c out) (n : ℕ) where
@@ -169,6 +226,9 @@ module _ (w : Word) (c : Columns) (out : List ℕ) (v : Answer (List ℕ)) where
 
   pub for-passes : w ≡ word.Passes → v ≡ passes-answer out c → v ≡ word-answer w out c
   for-passes h f = rw h f
+
+  pub for-dot : w ≡ word.Dot → v ≡ dot-answer (c .lines) (c .tokens) (c .text) → v ≡ word-answer w out c
+  for-dot h f = rw h f
 
   pub for-check : w ≡ word.Check → v ≡ accepted [] → v ≡ word-answer w out c
   for-check h f = rw h f

@@ -3,6 +3,10 @@
 --   rows-of l t x c               the rows of the answer c of a call that numbers the tokens of the columns l, t, x
 --   chosen-line a                 the first line of the chooser's answer
 --   webs-answer, splits-answer, choose-answer    what a word answers to a listing in columns
+--   Passing l t x                 the columns pass questions 1 and 2
+--   within s                      a text of at most 4,194,304 bytes, as many as are read; refusal 4 where it is longer
+--   picture-of l t x c            the picture with the web numbers of the answer c
+--   dot-answer l t x              what the word `dot` answers to a listing in columns
 --   json-answer out c             the JSON of the listing in the columns c, in a slice that holds `out` before
 --   after f p                     what f answers to the columns that a call left, or the refusal of the call
 --   pass-answer P out c           the JSON of what the pass P makes of the columns c
@@ -12,20 +16,25 @@
 --   answer w out n                what the word w answers to the first n bytes of the slice
 -- Assumes nothing.
 use Prim.Native.Nat.{ℕ}
+use mathlib.Core.Path.{_≡_}
+use mathlib.Core.Bool.{true}
 use mathlib.Core.List.{List, [], _++_}
-use lib.ListN.{take}
-use Rattle.definitions.specs.Lists.{ascii}
-use Rattle.definitions.specs.Questions.{Limits}
+use lib.Dec.{leb}
+use lib.ListN.{length, take}
+use Rattle.definitions.specs.Lists.{if_then_else_, ascii}
+use Rattle.definitions.specs.Columns.{listing}
+use Rattle.definitions.specs.Questions.{Limits, limits, question-1, question-2}
 use Rattle.definitions.specs.Model.{Line}
 use Rattle.definitions.specs.Answers.{Answer, refused, accepted, loops, goto-loops}
 use Rattle.definitions.specs.Calls.{Columns, Passed, Lent, Called, Chosen, by-webs, by-splits, pass-call, web-call, split-call, choose-call}
 use Rattle.json_definitions.specs.JsonCalls.{Written, read-call, write-call}
 use Rattle.rows.specs.Rows.{all-rows}
+use Rattle.dot.specs.Dot.{dot-text}
 use Rattle.javrenzu.specs.Room.{room, lent-room, split-room, pass-room}
 use Rattle.javrenzu.specs.declared.calls.Said.{Said}
 use Rattle.javrenzu.specs.declared.calls.Said.the-variants.{Text, ByWebs, BySplits, Refused}
 use Rattle.javrenzu.specs.declared.words.Word.{Word}
-use Rattle.javrenzu.specs.declared.words.Word.the-variants.{Webs, Splits, Choose, RecoverLoops, RecoverGotoLoops, Passes, Check, Help, Unknown}
+use Rattle.javrenzu.specs.declared.words.Word.the-variants.{Webs, Splits, Choose, RecoverLoops, RecoverGotoLoops, Passes, Dot, Check, Help, Unknown}
 
 abbrev pub told : Said → List ℕ → Answer (List ℕ)
 told (Text e) out = accepted (take e out)
@@ -50,6 +59,21 @@ splits-answer l t x = rows-of l t x (λ _. []) (split-call l t x split-room)
 
 unfoldable pub choose-answer : List ℕ → List ℕ → List ℕ → Answer (List ℕ)
 choose-answer l t x = rows-of l t x chosen-line (choose-call l t x lent-room)
+
+-- Pictures
+
+pub record Passing (l t x : List ℕ) : Type 0 where
+  pub small : question-1 limits l t x ≡ true
+  pub formed : question-2 l t x ≡ true
+
+unfoldable pub within : List ℕ → Answer (List ℕ)
+within s = if leb (length s) 4194304 then accepted s else refused 4
+
+unfoldable pub picture-of : List ℕ → List ℕ → List ℕ → Called ℕ → Answer (List ℕ)
+picture-of l t x c = elim (c .answer) [ refused n ↦ refused n | accepted sweeps ↦ within (dot-text (listing l t x) (c .lent .numbers)) ]
+
+unfoldable pub dot-answer : List ℕ → List ℕ → List ℕ → Answer (List ℕ)
+dot-answer l t x = picture-of l t x (web-call l t x lent-room)
 
 -- JSON
 
@@ -89,6 +113,7 @@ word-answer Choose out c = choose-answer (c .lines) (c .tokens) (c .text)
 word-answer RecoverLoops out c = pass-answer loops out c
 word-answer RecoverGotoLoops out c = pass-answer goto-loops out c
 word-answer Passes out c = passes-answer out c
+word-answer Dot out c = dot-answer (c .lines) (c .tokens) (c .text)
 word-answer Check out c = accepted []
 word-answer Help out c = accepted []
 word-answer Unknown out c = accepted []

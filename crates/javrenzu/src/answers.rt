@@ -26,7 +26,7 @@ fn of_columns(
     text: &[u8],
     word: Word,
 ) -> Said
-    requires { ⌜ 720896 ≤ length (now out) ⌝ }
+    requires { ⌜ 4194304 ≤ length (now out) ⌝ }
     ensures { λ r. ⌜ told r (now (out .exit))
         ≡ word-answer word (now (out .entry)) (columns (now (lines .entry)) (now (addresses .entry)) (now (tokens .entry)) (now (text .entry))) ⌝ }
 {
@@ -37,6 +37,7 @@ fn of_columns(
         Word::RecoverLoops => calls::loops_json(out, lines, addresses, tokens, text),
         Word::RecoverGotoLoops => calls::goto_loops_json(out, lines, addresses, tokens, text),
         Word::Passes => calls::passes_json(out, lines, addresses, tokens, text),
+        Word::Dot => calls::dot(out, lines, tokens, text),
         Word::Check => {
             check::sizes(lines.len(), tokens.len(), text.len());
             check::rows(out, lines, tokens, text);
@@ -60,7 +61,7 @@ fn of_cut(
     x: usize,
     word: Word,
 ) -> Said
-    requires { ⌜ 720896 ≤ length (now out) ⌝ }
+    requires { ⌜ 4194304 ≤ length (now out) ⌝ }
     ensures { λ r. ⌜ told r (now (out .exit))
         ≡ word-answer word (now (out .entry)) (columns (take k (now (lines .entry))) (take k (now (addresses .entry))) (take m (now (tokens .entry))) (take x (now (text .entry)))) ⌝ }
 {
@@ -84,7 +85,7 @@ fn answer_in(
     tokens: &mut [u32],
     text: &mut [u8],
 ) -> Said
-    requires { ⌜ 720896 ≤ length (now buffer) ⌝ }
+    requires { ⌜ 4194304 ≤ length (now buffer) ⌝ }
     ensures { λ r. ⌜ told r (now (buffer .exit))
         ≡ answer-in (columns (now (lines .entry)) (now (addresses .entry)) (now (tokens .entry)) (now (text .entry))) word (now (buffer .entry)) n ⌝ }
 {
@@ -95,7 +96,7 @@ fn answer_in(
 }
 
 pub fn answer(buffer: &mut [u8], n: usize, word: Word) -> Said
-    requires { ⌜ 720896 ≤ length (now buffer) ⌝ }
+    requires { ⌜ 4194304 ≤ length (now buffer) ⌝ }
     ensures { λ r. ⌜ told r (now (buffer .exit)) ≡ answer word (now (buffer .entry)) n ⌝ }
 {
     let mut lines = [0u32; 1024];

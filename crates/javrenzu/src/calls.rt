@@ -3,6 +3,7 @@
 // Contracts cite specs/Command.antt. Local arrays take up to 0.7 MiB; rows take at most 28 bytes for each of 16,384 tokens, and 262,144 of text.
 use crate::room;
 use choose::Choice;
+use dot::put_dot;
 use pass_call::Answer;
 use pseudo_ssa::Webs;
 use rows::columns::first;
@@ -13,10 +14,12 @@ use splits::call::Splits;
 ghost use mathlib.Core.Path.{_≡_};
 ghost use Prim.Native.Nat.{_≤_};
 ghost use lib.ListN.{length, take};
+ghost use Rattle.definitions.specs.Columns.{listing};
 ghost use Rattle.definitions.specs.Answers.{loops, goto-loops};
 ghost use Rattle.write.specs.Holds.{columns};
 ghost use Rattle.pass_call.specs.Answers.{passed-with};
-ghost use Rattle.javrenzu.specs.Command.{told, webs-answer, splits-answer, choose-answer, json-answer, after, pass-in, pass-answer, passes-in, passes-answer};
+ghost use Rattle.dot.specs.Dot.{dot-text};
+ghost use Rattle.javrenzu.specs.Command.{told, webs-answer, splits-answer, choose-answer, Passing, within, dot-answer, json-answer, after, pass-in, pass-answer, passes-in, passes-answer};
 
 // What is said: so many bytes at the start of the slice, behind a line `webs` or `splits` where the chooser chose; or the question that is answered no.
 pub enum Said {
@@ -62,6 +65,41 @@ pub fn chosen_rows(out: &mut [u8], lines: &[u32], tokens: &[u32], text: &[u8]) -
         Choice::ByWebs(_) => Said::ByWebs(put_rows(out, lines, tokens, text, &numbers, &marks)),
         Choice::BySplits => Said::BySplits(put_rows(out, lines, tokens, text, &numbers, &marks)),
         Choice::Refused(n) => Said::Refused(n),
+    }
+}
+
+// The picture with these web numbers, or refusal 4 where it has no room.
+fn picture(
+    out: &mut [u8],
+    lines: &[u32],
+    tokens: &[u32],
+    text: &[u8],
+    numbers: &[u32],
+    space: &mut [u64],
+) -> Said
+    requires { ⌜ 4194304 ≤ length (now out) ⌝ }
+    requires { ⌜ Passing (now lines) (now tokens) (now text) × (32768 ≤ length (now space)) ⌝ }
+    ensures { λ r. ⌜ told r (now (out .exit)) ≡ within (dot-text (listing (now (lines .entry)) (now (tokens .entry)) (now (text .entry))) (now (numbers .entry))) ⌝ }
+{
+    let mut ranks = room::tokens();
+    let e = put_dot(out, lines, tokens, text, numbers, space, &mut ranks);
+    if e <= 4194304 {
+        Said::Text(e)
+    } else {
+        Said::Refused(4)
+    }
+}
+
+pub fn dot(out: &mut [u8], lines: &[u32], tokens: &[u32], text: &[u8]) -> Said
+    requires { ⌜ 4194304 ≤ length (now out) ⌝ }
+    ensures { λ r. ⌜ told r (now (out .exit)) ≡ dot-answer (now (lines .entry)) (now (tokens .entry)) (now (text .entry)) ⌝ }
+{
+    let mut numbers = room::tokens();
+    let mut marks = room::marks();
+    let mut space = room::space();
+    match pseudo_ssa::recover(lines, tokens, text, &mut numbers, &mut marks, &mut space) {
+        Webs::Accepted(_) => picture(out, lines, tokens, text, &numbers, &mut space),
+        Webs::Refused(n) => Said::Refused(n),
     }
 }
 

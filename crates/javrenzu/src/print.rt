@@ -65,7 +65,7 @@ pub fn said(buffer: &[u8], r: Said) {
 pub fn unknown() {
     text(
         STDERR_FILENO,
-        b"javrenzu: the word is webs, splits, choose, recover_loops, recover_goto_loops, passes or check; javrenzu --help says more\n",
+        b"javrenzu: the word is webs, splits, choose, recover_loops, recover_goto_loops, passes, check or dot; javrenzu --help says more\n",
     );
 }
 
@@ -101,6 +101,10 @@ pub fn help() {
     text(
         STDOUT_FILENO,
         b"  check               is this a listing, and what each word above says to it\n",
+    );
+    text(
+        STDOUT_FILENO,
+        b"  dot                 the flow graph with a colour for each web, for graphviz: javrenzu dot FILE | dot -Tsvg > FILE.svg\n",
     );
     text(
         STDOUT_FILENO,

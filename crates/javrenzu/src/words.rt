@@ -7,6 +7,7 @@ pub enum Word {
     RecoverLoops,
     RecoverGotoLoops,
     Passes,
+    Dot,
     Check,
     Help,
     Unknown,
@@ -31,6 +32,9 @@ fn named(s: &[u8]) -> Word {
     }
     if text::equal(s, b"passes") {
         return Word::Passes;
+    }
+    if text::equal(s, b"dot") {
+        return Word::Dot;
     }
     if text::equal(s, b"check") {
         return Word::Check;
