@@ -1,6 +1,5 @@
 -- Rules for the needs of `tokens`.
 --   register-some, register-none, register-fits     `search_place`
---   register-row, row-place-is, row-fits, row-filled, looked-start, looked-next, looked-end     `register_place`, `fill_row`, `fill_rows`
 --   token-register, token-other, token-kind   `token_place`
 --   number-none, number-zero, number-some     `number_of`
 --   mark-zero, mark-yes, mark-no              `mark_of`
@@ -20,16 +19,15 @@ use native.Mathlib.Decide.{ℕ-discrete}
 use native.Mathlib.Nat.{zero-add}
 use native.Mathlib.Numerals.{add-one}
 use native.Mathlib.Omega.{arith}
-use borrow.Author.Tests.{eq-eqb, ne-eqb, lt-ltb, ltb-true}
+use borrow.Author.Tests.{eq-eqb, ne-eqb}
 use mir.Syntax.{w16, w64}
 use mir.Val.{Fits}
-use lib.Dec.{eqb, ltb}
+use lib.Dec.{eqb}
 use lib.ListN.{length, getD, set, take, drop, length-append, length-map, take-append-drop}
 use lib.Seq.{set-at, append-snoc, length-take-le, take-all, getD-set-same, getD-set-other}
 use Rattle.definitions.specs.Lists.{is-some, part, filter, count, range, up-to}
-use Rattle.definitions.specs.Model.{Token, Line, line}
+use Rattle.definitions.specs.Model.{Token, Line}
 use Rattle.definitions.specs.Family.{Family, family, fam-of}
-use Rattle.definitions.specs.Statements.{defines}
 use Rattle.definitions.specs.Questions.{covers}
 use Rattle.definitions.specs.Recover.{defined-families}
 use Rattle.text.proofs.Parts.{drop-step, part-step, part-none, part-join, length-part}
@@ -37,13 +35,12 @@ use Rattle.theory.proofs.Bools.{clash}
 use Rattle.theory.proofs.ListLaws.{count-all, length-range}
 use Rattle.model.specs.Places.{line-start, line-end}
 use Rattle.family.specs.declared.Register.{Register}
-use Rattle.family.specs.declared.Register.the-variants.{Legacy}
-use Rattle.family.specs.Register.{family-of, row-name}
-use Rattle.recover.specs.Families.{place, place-of}
+use Rattle.family.specs.Register.{family-of}
+use Rattle.recover.specs.Families.{place-of}
 use Rattle.recover.specs.Tokens.{Finds}
 use Rattle.recover.proofs.TokenWords.{found-few}
 use Rattle.recover.proofs.Lists.{count-snoc, range-snoc}
-use Rattle.splits.specs.Tokens.{found, LookedTo, Looked, tally, number-of, mark-of, token-number, token-mark, over, by-line}
+use Rattle.splits.specs.Tokens.{found, tally, number-of, mark-of, token-number, token-mark, over, by-line}
 use Rattle.splits.proofs.ByLine.{line-upward, by-line-start, by-line-next, by-line-end}
 
 -- One token
@@ -65,62 +62,6 @@ module _ (L : List Line) (count : ℕ) (table : List ℕ) (F : Finds L count tab
 
 pub register-fits : (L : List Line) (count : ℕ) (table : List ℕ) → Finds L count table → (s : List ℕ) (r : Register) (c : ℕ) → c ≡ place-of (take count (defined-families L)) (family-of s r) → Fits w64 (c + 1)
 register-fits L count table F s r c e = record { fits = omega (arith, found-few L count table F s r c e) }
-
--- The rows of the legacy names
-
-pub register-row : (L : List Line) (count : ℕ) (table : List ℕ) → Looked L count table → (s : List ℕ) (r : Register) → family-of s r ≡ family s → (i w : ℕ) → r ≡ Legacy i w
-    → (c : ℕ) → c ≡ cond (ltb i 8) (getD table (2304 + i) 0) 0 → c ≡ found (defined-families L) (family s)
-register-row L count table K s r q i w e c f = rw (← q, e) (go (ltb i 8) refl f)
-  where
-    go : (x : Bool) → ltb i 8 ≡ x → c ≡ cond x (getD table (2304 + i) 0) 0 → c ≡ found (defined-families L) (cond x (some (record { name = row-name i; width = w })) none)
-    go true y g = g ∙ K .rows i (ltb-true i 8 y)
-    go false y g = g
-
-module _ (L : List Line) (count : ℕ) (table : List ℕ) (F : Finds L count table) (i c : ℕ) (h : i < 8) (e : c ≡ place-of (take count (defined-families L)) (family-of [] (Legacy i 64))) where
-  pub row-place-is : c ≡ place (defined-families L) (row-name i)
-  row-place-is =
-      e ∙ rw (lt-ltb i 8 h, take-all count (defined-families L) (omega (arith, F .all)))
-
-  pub row-fits : c + 1 < 65536
-  row-fits = omega (arith, found-few L count table F [] (Legacy i 64) c e)
-
-  pub row-filled : (v : ℕ) (t : List ℕ) → v ≡ c + 1 → set t (2304 + i) v ≡ set t (2304 + i) (suc (place (defined-families L) (row-name i)))
-  row-filled v t q = ap (set t (2304 + i)) (q ∙ add-one c ∙ ap suc row-place-is)
-
-module _ (L : List Line) (count : ℕ) (t : List ℕ) where
-  pub looked-end : (i : ℕ) → i ≤ 8 → 8 ≤ i → LookedTo L count t i → Looked L count t
-  looked-end i h g K = record { finds = K .finds; rows = λ j f. K .rows j (omega arith) }
-
-  pub looked-start : Finds L count t → LookedTo L count t 0
-  looked-start F = record { finds = F; rows = λ j h. absurd (omega arith) }
-
-  pub looked-next : (i : ℕ) → i < 8 → 2312 ≤ length t → LookedTo L count t i → (t′ : List ℕ) → t′ ≡ set t (2304 + i) (suc (place (defined-families L) (row-name i)))
-      → LookedTo L count t′ (i + 1)
-  looked-next i h room K t′ e = rw e (record {
-    finds = record {
-      table = record {
-        size = K .finds .table .size;
-        heads = λ k g. kept k (omega arith) ∙ K .finds .table .heads k g;
-        next = λ k g. kept (256 + k) (omega (arith, K .finds .few)) ∙ K .finds .table .next k g;
-        first = λ k g. ap (λ (v : ℕ). defines (line L v)) (kept (1280 + k) (omega (arith, K .finds .few))) ∙ K .finds .table .first k g;
-      };
-      all = K .finds .all;
-      few = K .finds .few;
-    };
-    rows = λ j g. row j g (ℕ-discrete j i);
-  })
-    where
-      v : ℕ
-      v = suc (place (defined-families L) (row-name i))
-
-      kept : (k : ℕ) → k < 2304 → getD (set t (2304 + i) v) k 0 ≡ getD t k 0
-      kept k g = getD-set-other t (2304 + i) k v 0 (λ q. omega arith)
-
-      row : (j : ℕ) → j < i + 1 → Dec (j ≡ i) → getD (set t (2304 + i) v) (2304 + j) 0 ≡ suc (place (defined-families L) (row-name j))
-      row j g (yes q) = rw q (getD-set-same t (2304 + i) v 0 (omega arith))
-      row j g (no q) = getD-set-other t (2304 + i) (2304 + j) v 0 (λ z. q (omega arith)) ∙ K .rows j (omega arith)
-
-pub ruleset looks = (looked-start, looked-next, looked-end)
 
 module _ (fs : List (List ℕ)) (u : Token) (k : ℕ) (e : k ≡ u .kind) where
   pub token-register : (c : ℕ) (s : List ℕ) → k ≡ 1 → s ≡ u .text → c ≡ found fs (family s) → c ≡ found fs (fam-of u)
@@ -269,4 +210,4 @@ module _ (l t : List ℕ) (ok : covers 512 0 l (length t) ≡ true) {A : Type 0}
 pub number-tallied : (fs : List (List ℕ)) (ds : List ℕ) (i : ℕ) (cs : List ℕ) → Tallied ds (i + 1) cs → token-number fs (λ c. getD cs c 0) ≡ number-at fs ds i
 number-tallied fs ds i cs T = ap (token-number fs) (fun-ext (λ c. T .at c))
 
-pub ruleset writes = (register-row, register-some, register-none, register-fits, token-register, token-other, token-kind, number-none, number-zero, number-some, mark-zero, mark-yes, mark-no, count-fits, count-by)
+pub ruleset writes = (register-some, register-none, register-fits, token-register, token-other, token-kind, number-none, number-zero, number-some, mark-zero, mark-yes, mark-no, count-fits, count-by)

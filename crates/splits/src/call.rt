@@ -1,6 +1,6 @@
 // The split call: questions 1 to 4, then a number and a mark for each token, and zeros behind them.
 //
-// Contracts cite `splits` of Rattle.definitions.specs.Answers and `split-call` of Rattle.definitions.specs.Calls. Local arrays take 10,768
+// Contracts cite `splits` of Rattle.definitions.specs.Answers and `split-call` of Rattle.definitions.specs.Calls. Local arrays take 10,752
 // bytes, and 16,384 more where there is a goto.
 ghost use mathlib.Core.Path.{_≡_};
 ghost use mathlib.Core.Bool.{true};
@@ -15,7 +15,6 @@ ghost use Rattle.recover.specs.Tokens.{Finds};
 ghost use Rattle.splits.specs.Starts.{Starts};
 ghost use Rattle.splits.specs.Call.{lent, called, questions, split-within};
 use crate::starts::starts;
-use crate::tokens::fill_rows;
 use crate::tokens::write_lines;
 use crossings::crossings;
 use model::questions::Limits;
@@ -71,11 +70,10 @@ fn write(lines: &[u32], tokens: &[u32], text: &[u8], numbers: &mut [u32], marks:
     ensures { λ _. ⌜ now (numbers .exit) ≡ splits (listing (now (lines .entry)) (now (tokens .entry)) (now (text .entry))) .numbers ⌝ }
     ensures { λ _. ⌜ now (marks .exit) ≡ splits (listing (now (lines .entry)) (now (tokens .entry)) (now (text .entry))) .marks ⌝ }
 {
-    let mut table = [0u16; 2312];
+    let mut table = [0u16; 2304];
     let mut defs = [0u16; 1024];
     let mut counts = [0u16; 1024];
     let count = find_starts(lines, tokens, text, &mut table, &mut defs);
-    fill_rows(lines, tokens, text, &mut table, count);
     write_lines(
         lines,
         tokens,

@@ -1,39 +1,27 @@
 // The numbers and marks of tokens, one look-up a register token: the number is how many of the lines up to and with the token's are split
-// points of its family, the mark is 1 where the token's own line is one. What is found of each row of the legacy names is kept behind the
-// table, so that such a name is read once.
+// points of its family, the mark is 1 where the token's own line is one.
 //
 // `number-is` and `mark-is` of proofs/Places say that these are `split-key` and `split-starts` of Rattle.definitions.specs.SplitPoints.
 ghost use mathlib.Core.Path.{_≡_};
 ghost use mathlib.Core.Bool.{true};
-ghost use Prim.Native.Nat.{ℕ, suc, _+_, _≤_, _<_};
-ghost use lib.Dec.{ltb};
+ghost use Prim.Native.Nat.{ℕ, _+_, _≤_, _<_};
 ghost use lib.ListN.{length, getD, set};
-ghost use Rattle.definitions.specs.Lists.{if_then_else_};
 ghost use Rattle.definitions.specs.Model.{no-token};
 ghost use Rattle.definitions.specs.Family.{family, fam-of};
 ghost use Rattle.definitions.specs.Columns.{token-list, listing};
 ghost use Rattle.definitions.specs.Questions.{covers};
 ghost use Rattle.definitions.specs.Recover.{defined-families};
 ghost use Rattle.model.specs.Places.{line-start, line-end};
-ghost use Rattle.family.specs.Register.{family-of, row-name};
-ghost use Rattle.recover.specs.Families.{place};
+ghost use Rattle.family.specs.Register.{family-of};
 ghost use Rattle.recover.specs.Tokens.{Finds};
-ghost use Rattle.splits.specs.Tokens.{found, Looked, tally, number-of, mark-of, token-number, token-mark, over, by-line};
+ghost use Rattle.splits.specs.Tokens.{found, tally, number-of, mark-of, token-number, token-mark, over, by-line};
 use family::Register;
 use model::columns::token_kind;
 use model::columns::token_text;
 use recover::families::is_some;
 use recover::families::search;
-use recover::words::narrow;
 use recover::words::number;
 use recover::words::word;
-
-// What `found` is of row i of the legacy names, 0 where there is no such row.
-fn row_place(table: &[u16], i: usize) -> usize
-    ensures { λ c. ⌜ c ≡ (if ltb i 8 then getD (now (table .entry)) (2304 + i) 0 else 0) ⌝ }
-{
-    if i < 8 { number(table, 2304 + i) } else { 0 }
-}
 
 // 1 + the place of the family that the answer r of the register s is, 1 for one without a definition, 0 where it is none.
 fn search_place(
@@ -64,48 +52,10 @@ fn register_place(
     count: usize,
     s: &[u8],
 ) -> usize
-    requires { ⌜ Looked (listing (now lines) (now tokens) (now text)) count (now table) ⌝ }
+    requires { ⌜ Finds (listing (now lines) (now tokens) (now text)) count (now table) ⌝ }
     ensures { λ c. ⌜ c ≡ found (defined-families (listing (now (lines .entry)) (now (tokens .entry)) (now (text .entry)))) (family (now (s .entry))) ⌝ }
 {
-    let r = family::family(s);
-    let Register::Legacy(i, _) = r else {
-        return search_place(lines, tokens, text, table, count, s, r);
-    };
-    row_place(table, i)
-}
-
-// What `found` is of row i is written to the table.
-fn fill_row(lines: &[u32], tokens: &[u32], text: &[u8], table: &mut [u16], count: usize, i: usize)
-    requires { ⌜ Finds (listing (now lines) (now tokens) (now text)) count (now table) ⌝ }
-    requires { ⌜ (i < 8) × (2312 ≤ length (now table)) ⌝ }
-    ensures { λ _.
-        ⌜ (let fs = defined-families (listing (now (lines .entry)) (now (tokens .entry)) (now (text .entry))) in
-        now (table .exit) ≡ set (now (table .entry)) (2304 + i) (suc (place fs (row-name i)))) ⌝ }
-{
-    let c = search(
-        lines,
-        tokens,
-        text,
-        table,
-        count,
-        b"",
-        Register::Legacy(i, 64),
-    );
-    let v = narrow(c + 1);
-    table[2304 + i] = v;
-}
-
-// The same of every row.
-pub fn fill_rows(lines: &[u32], tokens: &[u32], text: &[u8], table: &mut [u16], count: usize)
-    requires { ⌜ Finds (listing (now lines) (now tokens) (now text)) count (now table) ⌝ }
-    requires { ⌜ 2312 ≤ length (now table) ⌝ }
-    ensures { λ _. ⌜ Looked (listing (now (lines .entry)) (now (tokens .entry)) (now (text .entry))) count (now (table .exit)) ⌝ }
-{
-    let mut i = 0;
-    while i < 8 {
-        fill_row(lines, tokens, text, table, count, i);
-        i += 1;
-    }
+    search_place(lines, tokens, text, table, count, s, family::family(s))
 }
 
 // The same of token k of all.
@@ -117,7 +67,7 @@ fn token_place(
     count: usize,
     k: usize,
 ) -> usize
-    requires { ⌜ Looked (listing (now lines) (now tokens) (now text)) count (now table) ⌝ }
+    requires { ⌜ Finds (listing (now lines) (now tokens) (now text)) count (now table) ⌝ }
     ensures { λ c.
         ⌜ (let u = getD (token-list (now (tokens .entry)) (now (text .entry))) k no-token in
         c ≡ found (defined-families (listing (now (lines .entry)) (now (tokens .entry)) (now (text .entry)))) (fam-of u)) ⌝ }
@@ -187,7 +137,7 @@ fn write_part(
     from: usize,
     to: usize,
 )
-    requires { ⌜ Looked (listing (now lines) (now tokens) (now text)) count (now table) ⌝ }
+    requires { ⌜ Finds (listing (now lines) (now tokens) (now text)) count (now table) ⌝ }
     requires { ⌜ (from ≤ to) × (to ≤ length (now tokens)) × (length (now numbers) ≡ length (now tokens)) × (length (now marks) ≡ length (now tokens)) × (d < 65536) ⌝ }
     ensures { λ _.
         ⌜ (let fs = defined-families (listing (now (lines .entry)) (now (tokens .entry)) (now (text .entry))) in
@@ -220,7 +170,7 @@ fn write_line(
     d: usize,
     i: usize,
 )
-    requires { ⌜ Looked (listing (now lines) (now tokens) (now text)) count (now table) ⌝ }
+    requires { ⌜ Finds (listing (now lines) (now tokens) (now text)) count (now table) ⌝ }
     requires { ⌜ (covers 512 0 (now lines) (length (now tokens)) ≡ true) × (i < length (now lines)) × (length (now numbers) ≡ length (now tokens)) × (length (now marks) ≡ length (now tokens)) × (d < 65536) ⌝ }
     ensures { λ _.
         ⌜ (let l = now (lines .entry) in
@@ -272,7 +222,7 @@ pub fn write_lines(
     numbers: &mut [u32],
     marks: &mut [u8],
 )
-    requires { ⌜ Looked (listing (now lines) (now tokens) (now text)) count (now table) ⌝ }
+    requires { ⌜ Finds (listing (now lines) (now tokens) (now text)) count (now table) ⌝ }
     requires { ⌜ (covers 512 0 (now lines) (length (now tokens)) ≡ true) × (length (now lines) ≤ 1024) × (length (now numbers) ≡ length (now tokens)) × (length (now marks) ≡ length (now tokens)) ⌝ }
     requires { ⌜ ((j : ℕ) → j < length (now lines) → getD (now starts) j 0 < 1024) × (1024 ≤ length (now counts)) × ((c : ℕ) → getD (now counts) c 0 ≡ 0) ⌝ }
     ensures { λ _.

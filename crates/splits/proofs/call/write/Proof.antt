@@ -17,12 +17,6 @@ slice-aggregate-find-starts-2 c = search needs
 find-starts-requires : tie.Need-find-starts-requires
 find-starts-requires c κs = search needs
 
-slice-aggregate-fill-rows : tie.Need-slice-aggregate-fill-rows
-slice-aggregate-fill-rows c = search needs
-
-fill-rows-requires : tie.Need-fill-rows-requires
-fill-rows-requires c κs = search needs
-
 slice-aggregate-write-lines : tie.Need-slice-aggregate-write-lines
 slice-aggregate-write-lines c = search needs
 
@@ -34,10 +28,10 @@ slice-aggregate-write-lines-3 c = search needs
 
 write-lines-requires : tie.Need-write-lines-requires
 write-lines-requires c κs =
-    let a = c .before .before .before .before .before .before .before .before .before .before .before .before .before .before .before .before .before .before .args in
-    let p = c .before .before .before .before .before .before .before .before .before .before .before .before .before .before .before .before .before .before .pre in
-    let f = c .before .before .before .before .before .before .before .before .before .before .find-starts .ensures in (
-      c .before .before .before .before .before .before .fill-rows .ensures,
+    let a = c .before .before .before .before .before .before .before .before .before .before .before .before .before .before .before .args in
+    let p = c .before .before .before .before .before .before .before .before .before .before .before .before .before .before .before .pre in
+    let f = c .before .before .before .before .before .before .before .find-starts .ensures in (
+      f .0,
       ((p .1 .0, p .0 .1, p .1 .1, p .1 .2), (starts-few (now (a .lines)) (now (a .tokens)) (now (a .text)) _ (f .1) (p .0 .1), omega arith, zeros 1024)),
     )
 
@@ -49,9 +43,9 @@ same-length-2 c = search needs
 
 returns : tie.Need-returns
 returns c =
-    let a = c .before .before .before .before .before .before .before .before .before .before .before .before .before .before .before .before .before .before .before .before .before .before .before .before .args in
-    let p = c .before .before .before .before .before .before .before .before .before .before .before .before .before .before .before .before .before .before .before .before .before .before .before .before .pre in
-    let f = c .before .before .before .before .before .before .before .before .before .before .before .before .before .before .before .before .find-starts .ensures in (
+    let a = c .before .before .before .before .before .before .before .before .before .before .before .before .before .before .before .before .before .before .before .before .before .args in
+    let p = c .before .before .before .before .before .before .before .before .before .before .before .before .before .before .before .before .before .before .before .before .before .pre in
+    let f = c .before .before .before .before .before .before .before .before .before .before .before .before .before .find-starts .ensures in (
       numbers-are (now (a .lines)) (now (a .tokens)) (now (a .text)) _ (f .1) (p .0 .1) (p .1 .0) _ (c .before .before .before .before .before .write-lines .ensures .0),
       marks-are (now (a .lines)) (now (a .tokens)) (now (a .text)) _ (f .1) (p .0 .1) (p .1 .0) _ (c .before .before .before .before .before .write-lines .ensures .1),
     )
@@ -63,8 +57,6 @@ write-spec =
     slice-aggregate-find-starts
     slice-aggregate-find-starts-2
     find-starts-requires
-    slice-aggregate-fill-rows
-    fill-rows-requires
     slice-aggregate-write-lines
     slice-aggregate-write-lines-2
     slice-aggregate-write-lines-3
