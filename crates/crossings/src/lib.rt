@@ -12,13 +12,14 @@ ghost use Rattle.definitions.specs.Statements.{has-kw};
 ghost use Rattle.definitions.specs.Model.{line};
 ghost use Rattle.definitions.specs.Columns.{listing};
 ghost use Rattle.definitions.specs.SplitPoints.{all-jumps, crosses};
+ghost use Rattle.line_keywords.specs.Masks.{Masks};
 ghost use Rattle.flow.specs.Buckets.{Indexed};
 ghost use Rattle.flow.specs.Gotos.{jump};
 ghost use Rattle.crossings.specs.Crossed.{goto, gotos, line-gotos, crossed, Marked};
 use flow::gotos::jump;
 use flow::labels::Label;
 use flow::labels::index;
-use line_keywords::has_kw;
+use line_keywords::has_goto;
 use model::columns::token_count;
 use recover::words::greater;
 use recover::words::narrow;
@@ -60,13 +61,13 @@ fn mark_token(
     lines: &[u32],
     tokens: &[u32],
     text: &[u8],
-    heads: &[usize],
-    nexts: &[usize],
+    heads: &[u16],
+    nexts: &[u16],
     far: &mut [u16],
     i: usize,
     j: usize,
 )
-    requires { ⌜ (1024 ≤ length (now heads)) × (length (now lines) ≤ length (now nexts)) × (i < length (now lines)) × (length (now lines) ≤ length (now far)) × (length (now far) ≤ 1024) ⌝ }
+    requires { ⌜ (256 ≤ length (now heads)) × (length (now lines) ≤ length (now nexts)) × (i < length (now lines)) × (length (now lines) ≤ length (now far)) × (length (now far) ≤ 1024) ⌝ }
     requires { ⌜ Indexed (listing (now lines) (now tokens) (now text)) (now heads) (now nexts) (length (now lines)) ⌝ }
     ensures { λ _.
         ⌜ (let L = listing (now (lines .entry)) (now (tokens .entry)) (now (text .entry)) in
@@ -83,12 +84,12 @@ fn mark_tokens(
     lines: &[u32],
     tokens: &[u32],
     text: &[u8],
-    heads: &[usize],
-    nexts: &[usize],
+    heads: &[u16],
+    nexts: &[u16],
     far: &mut [u16],
     i: usize,
 )
-    requires { ⌜ (1024 ≤ length (now heads)) × (length (now lines) ≤ length (now nexts)) × (i < length (now lines)) × (length (now lines) ≤ length (now far)) × (length (now far) ≤ 1024) ⌝ }
+    requires { ⌜ (256 ≤ length (now heads)) × (length (now lines) ≤ length (now nexts)) × (i < length (now lines)) × (length (now lines) ≤ length (now far)) × (length (now far) ≤ 1024) ⌝ }
     requires { ⌜ Indexed (listing (now lines) (now tokens) (now text)) (now heads) (now nexts) (length (now lines)) ⌝ }
     ensures { λ _. ⌜ Marked (now (far .entry)) (now (far .exit)) (line-gotos (listing (now (lines .entry)) (now (tokens .entry)) (now (text .entry))) i) ⌝ }
 {
@@ -105,18 +106,19 @@ fn mark_line(
     lines: &[u32],
     tokens: &[u32],
     text: &[u8],
-    heads: &[usize],
-    nexts: &[usize],
+    masks: &[u8],
+    heads: &[u16],
+    nexts: &[u16],
     far: &mut [u16],
     i: usize,
 )
-    requires { ⌜ (1024 ≤ length (now heads)) × (length (now lines) ≤ length (now nexts)) × (i < length (now lines)) × (length (now lines) ≤ length (now far)) × (length (now far) ≤ 1024) ⌝ }
+    requires { ⌜ (256 ≤ length (now heads)) × (length (now lines) ≤ length (now nexts)) × (i < length (now lines)) × (length (now lines) ≤ length (now far)) × (length (now far) ≤ 1024) × Masks (listing (now lines) (now tokens) (now text)) (now masks) ⌝ }
     requires { ⌜ Indexed (listing (now lines) (now tokens) (now text)) (now heads) (now nexts) (length (now lines)) ⌝ }
     ensures { λ _.
         ⌜ (let L = listing (now (lines .entry)) (now (tokens .entry)) (now (text .entry)) in
         Marked (now (far .entry)) (now (far .exit)) (line-gotos L i)) ⌝ }
 {
-    if has_kw(lines, tokens, text, i, b"goto") {
+    if has_goto(lines, tokens, text, masks, i) {
         mark_tokens(lines, tokens, text, heads, nexts, far, i);
         return;
     }
@@ -127,18 +129,19 @@ fn mark_lines(
     lines: &[u32],
     tokens: &[u32],
     text: &[u8],
-    heads: &[usize],
-    nexts: &[usize],
+    masks: &[u8],
+    heads: &[u16],
+    nexts: &[u16],
     far: &mut [u16],
 )
-    requires { ⌜ (1024 ≤ length (now heads)) × (length (now lines) ≤ length (now nexts)) × (length (now lines) ≤ length (now far)) × (length (now far) ≤ 1024) ⌝ }
+    requires { ⌜ (256 ≤ length (now heads)) × (length (now lines) ≤ length (now nexts)) × (length (now lines) ≤ length (now far)) × (length (now far) ≤ 1024) × Masks (listing (now lines) (now tokens) (now text)) (now masks) ⌝ }
     requires { ⌜ Indexed (listing (now lines) (now tokens) (now text)) (now heads) (now nexts) (length (now lines)) ⌝ }
     ensures { λ _. ⌜ Marked (now (far .entry)) (now (far .exit)) (all-jumps (listing (now (lines .entry)) (now (tokens .entry)) (now (text .entry)))) ⌝ }
 {
     let n = lines.len();
     let mut i = 0;
     while i < n {
-        mark_line(lines, tokens, text, heads, nexts, far, i);
+        mark_line(lines, tokens, text, masks, heads, nexts, far, i);
         i += 1;
     }
 }
@@ -148,30 +151,32 @@ fn mark_all_in(
     lines: &[u32],
     tokens: &[u32],
     text: &[u8],
-    heads: &mut [usize],
-    nexts: &mut [usize],
+    masks: &[u8],
+    heads: &mut [u16],
+    nexts: &mut [u16],
     far: &mut [u16],
 )
-    requires { ⌜ (1024 ≤ length (now heads)) × (length (now lines) ≤ length (now nexts)) × (length (now lines) ≤ length (now far)) × (length (now far) ≤ 1024) ⌝ }
+    requires { ⌜ (256 ≤ length (now heads)) × (length (now lines) ≤ length (now nexts)) × (length (now lines) ≤ length (now far)) × (length (now far) ≤ 1024) × Masks (listing (now lines) (now tokens) (now text)) (now masks) ⌝ }
     requires { ⌜ ((b : ℕ) → getD (now heads) b 0 ≡ 0) ⌝ }
     ensures { λ _. ⌜ Marked (now (far .entry)) (now (far .exit)) (all-jumps (listing (now (lines .entry)) (now (tokens .entry)) (now (text .entry)))) ⌝ }
 {
     index(lines, tokens, text, heads, nexts);
-    mark_lines(lines, tokens, text, heads, nexts, far);
+    mark_lines(lines, tokens, text, masks, heads, nexts, far);
 }
 
 // The gotos of every line, the labels looked for first.
-fn mark_all(lines: &[u32], tokens: &[u32], text: &[u8], far: &mut [u16])
-    requires { ⌜ (length (now lines) ≤ length (now far)) × (length (now far) ≤ 1024) ⌝ }
+fn mark_all(lines: &[u32], tokens: &[u32], text: &[u8], masks: &[u8], far: &mut [u16])
+    requires { ⌜ (length (now lines) ≤ length (now far)) × (length (now far) ≤ 1024) × Masks (listing (now lines) (now tokens) (now text)) (now masks) ⌝ }
     ensures { λ _. ⌜ Marked (now (far .entry)) (now (far .exit)) (all-jumps (listing (now (lines .entry)) (now (tokens .entry)) (now (text .entry)))) ⌝ }
 {
-    let mut heads = [0usize; 1024];
-    let mut nexts = [0usize; 1024];
-    mark_all_in(lines, tokens, text, &mut heads, &mut nexts, far);
+    let mut heads = [0u16; 256];
+    let mut nexts = [0u16; 1024];
+    mark_all_in(lines, tokens, text, masks, &mut heads, &mut nexts, far);
 }
 
 // A line has a goto.
-fn has_goto(lines: &[u32], tokens: &[u32], text: &[u8]) -> bool
+fn any_goto(lines: &[u32], tokens: &[u32], text: &[u8], masks: &[u8]) -> bool
+    requires { ⌜ Masks (listing (now lines) (now tokens) (now text)) (now masks) ⌝ }
     ensures { λ y.
         ⌜ (let L = listing (now (lines .entry)) (now (tokens .entry)) (now (text .entry)) in
         y ≡ any (λ i. has-kw (line L i) (ascii "goto")) (up-to (length (now (lines .entry))))) ⌝ }
@@ -179,7 +184,7 @@ fn has_goto(lines: &[u32], tokens: &[u32], text: &[u8]) -> bool
     let n = lines.len();
     let mut i = 0;
     while i < n {
-        if has_kw(lines, tokens, text, i, b"goto") {
+        if has_goto(lines, tokens, text, masks, i) {
             return true;
         }
         i += 1;
@@ -187,16 +192,27 @@ fn has_goto(lines: &[u32], tokens: &[u32], text: &[u8]) -> bool
     false
 }
 
-// The lines that the gotos of a listing cross. The column is empty, and there is an entry for each line. Labels are looked for only where
-// there is a goto.
+// The same as `crossings`, with the masks of the lines lent. Labels are looked for only where there is a goto.
+fn crossings_in(lines: &[u32], tokens: &[u32], text: &[u8], masks: &[u8], far: &mut [u16])
+    requires { ⌜ (length (now lines) ≤ length (now far)) × (length (now far) ≤ 1024) × Masks (listing (now lines) (now tokens) (now text)) (now masks) ⌝ }
+    requires { ⌜ ((b : ℕ) → getD (now far) b 0 ≡ 0) ⌝ }
+    ensures { λ _.
+        ⌜ ((k : ℕ) → crossed (now (far .exit)) k ≡ any (crosses k) (all-jumps (listing (now (lines .entry)) (now (tokens .entry)) (now (text .entry))))) ⌝ }
+{
+    if any_goto(lines, tokens, text, masks) {
+        mark_all(lines, tokens, text, masks, far);
+        return;
+    }
+}
+
+// The lines that the gotos of a listing cross. The column is empty, and there is an entry for each line.
 pub fn crossings(lines: &[u32], tokens: &[u32], text: &[u8], far: &mut [u16])
     requires { ⌜ (length (now lines) ≤ length (now far)) × (length (now far) ≤ 1024) ⌝ }
     requires { ⌜ ((b : ℕ) → getD (now far) b 0 ≡ 0) ⌝ }
     ensures { λ _.
         ⌜ ((k : ℕ) → crossed (now (far .exit)) k ≡ any (crosses k) (all-jumps (listing (now (lines .entry)) (now (tokens .entry)) (now (text .entry))))) ⌝ }
 {
-    if has_goto(lines, tokens, text) {
-        mark_all(lines, tokens, text, far);
-        return;
-    }
+    let mut masks = [0u8; 1024];
+    line_keywords::masks(lines, tokens, text, &mut masks);
+    crossings_in(lines, tokens, text, &masks, far);
 }

@@ -31,7 +31,7 @@ unfolding bucket
 bucket-start s = refl
 
 module _ (s : List ℕ) (h k : ℕ) (inv : bucket s ≡ fold mix h (drop k s)) where
-  pub bucket-next : (v : ℕ) → v ≡ getD s k 0 → k < length s → bucket s ≡ fold mix ((h * 31 + v) % 1024) (drop (k + 1) s)
+  pub bucket-next : (v : ℕ) → v ≡ getD s k 0 → k < length s → bucket s ≡ fold mix ((h * 31 + v) % 256) (drop (k + 1) s)
   unfolding fold
   bucket-next v e g = inv ∙ rw (drop-step 0 s k, e)
 

@@ -1,4 +1,5 @@
 -- Entries that lead from line to line, each to an earlier one.
+--   wider            an entry of 16 bits as a number of the code
 --   place-some       an entry that is not 0
 --   get-set          what holds of an entry that was stored and of those that were not
 --   linked-set       an entry of a later line does not touch the walk
@@ -15,11 +16,16 @@ use native.Mathlib.Decide.{ℕ-discrete}
 use native.Mathlib.Omega.{arith}
 use borrow.Author.Tests.{eqb-true}
 use lib.Dec.{eqb}
+use mir.Syntax.{w16, w64}
+use mir.Val.{Fits}
 use lib.ListN.{length, getD, set}
 use lib.Seq.{getD-set-same, getD-set-other}
 use Rattle.definitions.specs.Lists.{any, member}
 use Rattle.theory.proofs.Bools.{or-cases}
 use Rattle.flow.specs.Entries.{place, linked}
+
+pub wider : (l : List ℕ) (k : ℕ) → ((j : ℕ) → Fits w16 (getD l j 0)) → Fits w64 (getD l k 0)
+wider l k h = omega (arith, h k)
 
 pub place-some : (e : ℕ) → (e ≡ 0 → ⊥) → place e ≡ some (e - 1)
 place-some zero z = absurd (z refl)

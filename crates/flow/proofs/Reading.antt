@@ -1,5 +1,6 @@
 -- The loop of `blocks`.
 --   Reading L es ps cs p i     the columns stand for what the definition has at line i, and what is left to read is the rest of L
+--   closed-below               the innermost opener stands before the line that closes
 --   reading-start, reading-next, reading-fail, reading-end
 -- Assumes nothing.
 use Prim.Native.Nat.{ℕ, _+_, _<_, _≤_}
@@ -21,6 +22,9 @@ use Rattle.flow.specs.Stack.{bottom, Held, Closing, Closed}
 use Rattle.flow.specs.declared.blocks.Top.{Top}
 use Rattle.flow.specs.declared.blocks.Top.the-variants.{At, Unmatched}
 use Rattle.flow.proofs.Stacks.{stack-test, entered}
+
+pub closed-below : (i k : ℕ) (o : Open) (es ps cs : List ℕ) (r : Top) (q : ℕ) → Closed i k o es ps cs r → r ≡ At q → q ≤ i
+closed-below i k o es ps cs r q C e = let D : Closing i k 0 o es ps cs q = rw e at C in D .held .below
 
 beginning : List Line → Open
 beginning L = record { stack = []; ends = replicate (length L) none; enclosing = [] }

@@ -19,7 +19,7 @@ use Rattle.flow.specs.declared.labels.Label.{Label}
 use Rattle.flow.specs.declared.labels.Label.the-variants.{At, Missing}
 
 abbrev pub mix : ℕ → ℕ → ℕ
-mix h c = (h * 31 + c) % 1024
+mix h c = (h * 31 + c) % 256
 
 unfoldable pub bucket : List ℕ → ℕ
 bucket s = fold mix 0 s

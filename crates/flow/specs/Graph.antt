@@ -1,5 +1,5 @@
 -- The flow graph as the code draws it, and its answer.
---   Read l t x es ps hs ns     the columns es and ps have the blocks of the listing, hs and ns its labels
+--   Read l t x ms es ps hs ns  the column ms has the keywords of the listing, es and ps have its blocks, hs and ns its labels
 --   Graph L n r l₀ l           the words l have the flow graph of L in the two matrices, and are as l₀ behind them
 --   flow-refusal L             questions 8 and 9: does every brace match, and does every goto lead to a label?
 --   refused f                  the refusal that the code answers
@@ -16,15 +16,17 @@ use Rattle.definitions.specs.Columns.{listing}
 use Rattle.definitions.specs.Blocks.{blocks}
 use Rattle.definitions.specs.FlowGraph.{gotos-lead, flow-graph, steps}
 use Rattle.bits.specs.Edges.{edges, Agree}
+use Rattle.line_keywords.specs.Masks.{Masks}
 use Rattle.flow.specs.Structure.{blocks-of, Ended, Enclosed}
 use Rattle.flow.specs.Buckets.{Indexed}
 use Rattle.flow.specs.declared.graph.Flow.{Flow}
 use Rattle.flow.specs.declared.graph.Flow.the-variants.{Drawn, UnmatchedBrace, UnknownLabel}
 
-pub record Read (l t x es ps hs ns : List ℕ) : Type 0 where
+pub record Read (l t x ms es ps hs ns : List ℕ) : Type 0 where
+  pub masks : Masks (listing l t x) ms
   pub ends-room : length l ≤ length es
   pub parents-room : length l ≤ length ps
-  pub heads-room : 1024 ≤ length hs
+  pub heads-room : 256 ≤ length hs
   pub nexts-room : length l ≤ length ns
   pub ends : Ended (listing l t x) (blocks-of (listing l t x)) es
   pub parents : Enclosed (listing l t x) (blocks-of (listing l t x)) ps

@@ -20,26 +20,26 @@ pub enum Top {
 }
 
 // One block less of line h, which is the innermost opener; answers the entry of the innermost opener then.
-fn pop(parents: &[usize], counts: &mut [usize], h: usize) -> usize
+fn pop(parents: &[u16], counts: &mut [usize], h: usize) -> usize
     requires { ⌜ (h < length (now parents)) × (h < length (now counts)) × (0 < getD (now counts) h 0) ⌝ }
     ensures { λ r. ⌜ r ≡ cond (eqb (getD (now (counts .entry)) h 0) 1) (getD (now (parents .entry)) h 0) (h + 1) ⌝ }
     ensures { λ r. ⌜ now (counts .exit) ≡ set (now (counts .entry)) h (getD (now (counts .entry)) h 0 - 1) ⌝ }
 {
     let c = counts[h];
     counts[h] = c - 1;
-    if c == 1 { parents[h] } else { h + 1 }
+    if c == 1 { parents[h] as usize } else { h + 1 }
 }
 
 // Line i closes k blocks.
 fn close(
-    ends: &mut [usize],
-    parents: &[usize],
+    ends: &mut [u16],
+    parents: &[u16],
     counts: &mut [usize],
     top: usize,
     i: usize,
     k: usize,
 ) -> Top
-    requires { ⌜ (i < length (now ends)) × (i < length (now parents)) × (i < length (now counts)) ⌝ }
+    requires { ⌜ (i < length (now ends)) × (i < length (now parents)) × (i < length (now counts)) × (i < 1024) ⌝ }
     requires { ⌜ ((o : Open) × Held (now ends) (now parents) (now counts) top i o × (i < length (o .ends))) ⌝ }
     ensures { λ r.
         ⌜ ((o : Open) → Held (now (ends .entry)) (now (parents .entry)) (now (counts .entry)) top i o → i < length (o .ends) → Closed i k o (now (ends .exit)) (now (parents .entry)) (now (counts .exit)) r) ⌝ }
@@ -51,7 +51,7 @@ fn close(
             return Top::Unmatched;
         }
         let h = p - 1;
-        ends[h] = i + 1;
+        ends[h] = (i + 1) as u16;
         p = pop(parents, counts, h);
         left -= 1;
     }
@@ -60,21 +60,21 @@ fn close(
 
 // Line i opens k blocks; it lies itself in those that were open before, p being the innermost.
 fn enter(
-    ends: &mut [usize],
-    parents: &mut [usize],
+    ends: &mut [u16],
+    parents: &mut [u16],
     counts: &mut [usize],
     p: usize,
     i: usize,
     k: usize,
 ) -> usize
-    requires { ⌜ (i < length (now ends)) × (i < length (now parents)) × (i < length (now counts)) ⌝ }
+    requires { ⌜ (i < length (now ends)) × (i < length (now parents)) × (i < length (now counts)) × (i < 1024) × (p ≤ i) ⌝ }
     ensures { λ r. ⌜ r ≡ cond (ltb 0 k) (i + 1) p ⌝ }
     ensures { λ r. ⌜ now (ends .exit) ≡ set (now (ends .entry)) i 0 ⌝ }
     ensures { λ r. ⌜ now (parents .exit) ≡ set (now (parents .entry)) i p ⌝ }
     ensures { λ r. ⌜ now (counts .exit) ≡ set (now (counts .entry)) i k ⌝ }
 {
     ends[i] = 0;
-    parents[i] = p;
+    parents[i] = p as u16;
     counts[i] = k;
     if 0 < k { i + 1 } else { p }
 }
@@ -85,12 +85,12 @@ pub fn blocks(
     lines: &[u32],
     tokens: &[u32],
     text: &[u8],
-    ends: &mut [usize],
-    parents: &mut [usize],
+    ends: &mut [u16],
+    parents: &mut [u16],
     counts: &mut [usize],
 ) -> bool
     requires { ⌜ (let n = length (now lines) in
-        (n ≤ length (now ends)) × (n ≤ length (now parents)) × (n ≤ length (now counts))) ⌝ }
+        (n ≤ length (now ends)) × (n ≤ length (now parents)) × (n ≤ length (now counts)) × (n ≤ 1024)) ⌝ }
     ensures { λ r.
         ⌜ (let L = listing (now (lines .entry)) (now (tokens .entry)) (now (text .entry)) in
         Matched L (now (ends .exit)) (now (parents .exit)) r) ⌝ }

@@ -11,11 +11,12 @@ ghost use Rattle.definitions.specs.Model.{token, line};
 ghost use Rattle.definitions.specs.Columns.{listing};
 ghost use Rattle.definitions.specs.Statements.{is-kw};
 ghost use Rattle.definitions.specs.FlowGraph.{leads, gotos-lead};
+ghost use Rattle.line_keywords.specs.Masks.{Masks};
 ghost use Rattle.flow.specs.Buckets.{Indexed, line-of};
 ghost use Rattle.flow.specs.Gotos.{goto-line, jump};
 use crate::labels::Label;
 use crate::labels::label_line;
-use line_keywords::has_kw;
+use line_keywords::has_goto;
 use model::columns::text_at;
 use model::columns::token_count;
 use pseudo_opt::Found;
@@ -27,12 +28,12 @@ fn goto_line(
     lines: &[u32],
     tokens: &[u32],
     text: &[u8],
-    heads: &[usize],
-    nexts: &[usize],
+    heads: &[u16],
+    nexts: &[u16],
     i: usize,
     j: usize,
 ) -> Label
-    requires { ⌜ (1024 ≤ length (now heads)) × (length (now lines) ≤ length (now nexts)) ⌝ }
+    requires { ⌜ (256 ≤ length (now heads)) × (length (now lines) ≤ length (now nexts)) ⌝ }
     requires { ⌜ Indexed (listing (now lines) (now tokens) (now text)) (now heads) (now nexts) (length (now lines)) ⌝ }
     ensures { λ r.
         ⌜ (let L = listing (now (lines .entry)) (now (tokens .entry)) (now (text .entry)) in
@@ -56,12 +57,12 @@ pub fn jump(
     lines: &[u32],
     tokens: &[u32],
     text: &[u8],
-    heads: &[usize],
-    nexts: &[usize],
+    heads: &[u16],
+    nexts: &[u16],
     i: usize,
     j: usize,
 ) -> Label
-    requires { ⌜ (1024 ≤ length (now heads)) × (length (now lines) ≤ length (now nexts)) ⌝ }
+    requires { ⌜ (256 ≤ length (now heads)) × (length (now lines) ≤ length (now nexts)) ⌝ }
     requires { ⌜ Indexed (listing (now lines) (now tokens) (now text)) (now heads) (now nexts) (length (now lines)) ⌝ }
     ensures { λ r. ⌜ (let L = listing (now (lines .entry)) (now (tokens .entry)) (now (text .entry)) in line-of r ≡ jump L (line L i) j) ⌝ }
 {
@@ -77,12 +78,12 @@ fn goto_leads(
     lines: &[u32],
     tokens: &[u32],
     text: &[u8],
-    heads: &[usize],
-    nexts: &[usize],
+    heads: &[u16],
+    nexts: &[u16],
     i: usize,
     j: usize,
 ) -> bool
-    requires { ⌜ (1024 ≤ length (now heads)) × (length (now lines) ≤ length (now nexts)) ⌝ }
+    requires { ⌜ (256 ≤ length (now heads)) × (length (now lines) ≤ length (now nexts)) ⌝ }
     requires { ⌜ Indexed (listing (now lines) (now tokens) (now text)) (now heads) (now nexts) (length (now lines)) ⌝ }
     ensures { λ r.
         ⌜ (let L = listing (now (lines .entry)) (now (tokens .entry)) (now (text .entry)) in
@@ -103,11 +104,11 @@ fn tokens_lead(
     lines: &[u32],
     tokens: &[u32],
     text: &[u8],
-    heads: &[usize],
-    nexts: &[usize],
+    heads: &[u16],
+    nexts: &[u16],
     i: usize,
 ) -> bool
-    requires { ⌜ (1024 ≤ length (now heads)) × (length (now lines) ≤ length (now nexts)) ⌝ }
+    requires { ⌜ (256 ≤ length (now heads)) × (length (now lines) ≤ length (now nexts)) ⌝ }
     requires { ⌜ Indexed (listing (now lines) (now tokens) (now text)) (now heads) (now nexts) (length (now lines)) ⌝ }
     ensures { λ r. ⌜ r ≡ all is-some (leads (listing (now (lines .entry)) (now (tokens .entry)) (now (text .entry))) i) ⌝ }
 {
@@ -128,15 +129,16 @@ fn line_gotos_lead(
     lines: &[u32],
     tokens: &[u32],
     text: &[u8],
-    heads: &[usize],
-    nexts: &[usize],
+    masks: &[u8],
+    heads: &[u16],
+    nexts: &[u16],
     i: usize,
 ) -> bool
-    requires { ⌜ (1024 ≤ length (now heads)) × (length (now lines) ≤ length (now nexts)) ⌝ }
+    requires { ⌜ (256 ≤ length (now heads)) × (length (now lines) ≤ length (now nexts)) × Masks (listing (now lines) (now tokens) (now text)) (now masks) ⌝ }
     requires { ⌜ Indexed (listing (now lines) (now tokens) (now text)) (now heads) (now nexts) (length (now lines)) ⌝ }
     ensures { λ r. ⌜ r ≡ all is-some (leads (listing (now (lines .entry)) (now (tokens .entry)) (now (text .entry))) i) ⌝ }
 {
-    if has_kw(lines, tokens, text, i, b"goto") {
+    if has_goto(lines, tokens, text, masks, i) {
         tokens_lead(lines, tokens, text, heads, nexts, i)
     } else {
         true
@@ -148,17 +150,18 @@ pub fn gotos_lead(
     lines: &[u32],
     tokens: &[u32],
     text: &[u8],
-    heads: &[usize],
-    nexts: &[usize],
+    masks: &[u8],
+    heads: &[u16],
+    nexts: &[u16],
 ) -> bool
-    requires { ⌜ (1024 ≤ length (now heads)) × (length (now lines) ≤ length (now nexts)) ⌝ }
+    requires { ⌜ (256 ≤ length (now heads)) × (length (now lines) ≤ length (now nexts)) × Masks (listing (now lines) (now tokens) (now text)) (now masks) ⌝ }
     requires { ⌜ Indexed (listing (now lines) (now tokens) (now text)) (now heads) (now nexts) (length (now lines)) ⌝ }
     ensures { λ r. ⌜ r ≡ gotos-lead (listing (now (lines .entry)) (now (tokens .entry)) (now (text .entry))) ⌝ }
 {
     let n = lines.len();
     let mut i = 0;
     while i < n {
-        if line_gotos_lead(lines, tokens, text, heads, nexts, i) {
+        if line_gotos_lead(lines, tokens, text, masks, heads, nexts, i) {
             i += 1;
         } else {
             return false;

@@ -11,7 +11,8 @@ ghost use Rattle.definitions.specs.Lists.{member};
 ghost use Rattle.definitions.specs.Columns.{listing};
 ghost use Rattle.definitions.specs.FlowGraph.{successors};
 ghost use Rattle.bits.specs.Edges.{Matrices};
-ghost use Rattle.flow.specs.Structure.{blocks-of};
+ghost use Rattle.line_keywords.specs.Masks.{Masks};
+ghost use Rattle.flow.specs.Structure.{blocks-of, Matched};
 ghost use Rattle.flow.specs.Drawing.{Drawn};
 ghost use Rattle.flow.specs.Graph.{Read, Graph, flow-refusal, refused};
 use crate::blocks::blocks;
@@ -31,15 +32,16 @@ fn draw(
     lines: &[u32],
     tokens: &[u32],
     text: &[u8],
-    ends: &[usize],
-    parents: &[usize],
-    heads: &[usize],
-    nexts: &[usize],
+    masks: &[u8],
+    ends: &[u16],
+    parents: &[u16],
+    heads: &[u16],
+    nexts: &[u16],
     space: &mut [u64],
     r: usize,
 )
     requires { ⌜ Matrices (length (now lines)) r (now space) ⌝ }
-    requires { ⌜ Read (now lines) (now tokens) (now text) (now ends) (now parents) (now heads) (now nexts) ⌝ }
+    requires { ⌜ Read (now lines) (now tokens) (now text) (now masks) (now ends) (now parents) (now heads) (now nexts) ⌝ }
     ensures { λ z.
         ⌜ (let L = listing (now (lines .entry)) (now (tokens .entry)) (now (text .entry)) in
         let n = length (now (lines .entry)) in
@@ -52,6 +54,7 @@ fn draw(
             lines,
             tokens,
             text,
+            masks,
             ends,
             parents,
             heads,
@@ -64,21 +67,68 @@ fn draw(
     }
 }
 
-// The same as `flow_graph`, with the columns of the blocks and of the labels lent. The buckets of the labels are empty.
-fn flow_graph_in(
+// The same as `flow_graph_in`, once every brace is known to match.
+fn label_graph(
     lines: &[u32],
     tokens: &[u32],
     text: &[u8],
-    ends: &mut [usize],
-    parents: &mut [usize],
-    counts: &mut [usize],
-    heads: &mut [usize],
-    nexts: &mut [usize],
+    masks: &[u8],
+    ends: &[u16],
+    parents: &[u16],
+    heads: &mut [u16],
+    nexts: &mut [u16],
     space: &mut [u64],
     r: usize,
 ) -> Flow
     requires { ⌜ (let n = length (now lines) in
-        (n ≤ length (now ends)) × (n ≤ length (now parents)) × (n ≤ length (now counts)) × (1024 ≤ length (now heads)) × (n ≤ length (now nexts))) ⌝ }
+        (n ≤ length (now ends)) × (n ≤ length (now parents)) × (256 ≤ length (now heads)) × (n ≤ length (now nexts)) × (n ≤ 1024)) ⌝ }
+    requires { ⌜ (let L = listing (now lines) (now tokens) (now text) in Masks L (now masks) × Matched L (now ends) (now parents) true) ⌝ }
+    requires { ⌜ ((b : ℕ) → getD (now heads) b 0 ≡ 0) ⌝ }
+    requires { ⌜ Matrices (length (now lines)) r (now space) ⌝ }
+    ensures { λ f. ⌜ refused f ≡ flow-refusal (listing (now (lines .entry)) (now (tokens .entry)) (now (text .entry))) ⌝ }
+    ensures { λ f.
+        ⌜ (let L = listing (now (lines .entry)) (now (tokens .entry)) (now (text .entry)) in
+        (refused f ≡ none → Graph L (length (now (lines .entry))) r (now (space .entry)) (now (space .exit)))) ⌝ }
+{
+    index(lines, tokens, text, heads, nexts);
+    if gotos_lead(lines, tokens, text, masks, heads, nexts) {
+        bits::no_edges(space, lines.len(), r);
+        draw(
+            lines,
+            tokens,
+            text,
+            masks,
+            ends,
+            parents,
+            heads,
+            nexts,
+            space,
+            r,
+        );
+        Flow::Drawn
+    } else {
+        Flow::UnknownLabel
+    }
+}
+
+// The same as `flow_graph`, with the masks of the lines and the columns of the blocks and of the labels lent. The buckets of the labels are
+// empty.
+fn flow_graph_in(
+    lines: &[u32],
+    tokens: &[u32],
+    text: &[u8],
+    masks: &[u8],
+    ends: &mut [u16],
+    parents: &mut [u16],
+    counts: &mut [usize],
+    heads: &mut [u16],
+    nexts: &mut [u16],
+    space: &mut [u64],
+    r: usize,
+) -> Flow
+    requires { ⌜ (let n = length (now lines) in
+        (n ≤ length (now ends)) × (n ≤ length (now parents)) × (n ≤ length (now counts)) × (256 ≤ length (now heads)) × (n ≤ length (now nexts)) × (n ≤ 1024)) ⌝ }
+    requires { ⌜ Masks (listing (now lines) (now tokens) (now text)) (now masks) ⌝ }
     requires { ⌜ ((b : ℕ) → getD (now heads) b 0 ≡ 0) ⌝ }
     requires { ⌜ Matrices (length (now lines)) r (now space) ⌝ }
     ensures { λ f. ⌜ refused f ≡ flow-refusal (listing (now (lines .entry)) (now (tokens .entry)) (now (text .entry))) ⌝ }
@@ -87,14 +137,18 @@ fn flow_graph_in(
         (refused f ≡ none → Graph L (length (now (lines .entry))) r (now (space .entry)) (now (space .exit)))) ⌝ }
 {
     if blocks(lines, tokens, text, ends, parents, counts) {
-        index(lines, tokens, text, heads, nexts);
-        if gotos_lead(lines, tokens, text, heads, nexts) {
-            bits::no_edges(space, lines.len(), r);
-            draw(lines, tokens, text, ends, parents, heads, nexts, space, r);
-            Flow::Drawn
-        } else {
-            Flow::UnknownLabel
-        }
+        label_graph(
+            lines,
+            tokens,
+            text,
+            masks,
+            ends,
+            parents,
+            heads,
+            nexts,
+            space,
+            r,
+        )
     } else {
         Flow::UnmatchedBrace
     }
@@ -109,15 +163,18 @@ pub fn flow_graph(lines: &[u32], tokens: &[u32], text: &[u8], space: &mut [u64],
         ⌜ (let L = listing (now (lines .entry)) (now (tokens .entry)) (now (text .entry)) in
         (refused f ≡ none → Graph L (length (now (lines .entry))) r (now (space .entry)) (now (space .exit)))) ⌝ }
 {
-    let mut ends = [0usize; 1024];
-    let mut parents = [0usize; 1024];
+    let mut masks = [0u8; 1024];
+    let mut ends = [0u16; 1024];
+    let mut parents = [0u16; 1024];
     let mut counts = [0usize; 1024];
-    let mut heads = [0usize; 1024];
-    let mut nexts = [0usize; 1024];
+    let mut heads = [0u16; 256];
+    let mut nexts = [0u16; 1024];
+    line_keywords::masks(lines, tokens, text, &mut masks);
     flow_graph_in(
         lines,
         tokens,
         text,
+        &masks,
         &mut ends,
         &mut parents,
         &mut counts,

@@ -1,16 +1,19 @@
-// What a line is for the flow graph, by its keywords: an else-close, a loop, a switch, a case, a break or continue. Each takes time linear
-// in the line's tokens and in the bytes of its keywords and braces.
+// What a line is for the flow graph, by its keywords and braces: an else-close, a loop or a switch, a case. A line without the keyword takes
+// constant time, an else-close time linear in the line's tokens and in the bytes of its punctuation.
 //
 // Contracts cite `is-else-close`, `is-loop`, `is-switch` and `is-case` of Rattle.definitions.specs.FlowGraph.
 ghost use mathlib.Core.Path.{_≡_};
 ghost use mathlib.Core.Bool.{_&&_, _||_};
 ghost use lib.Dec.{eqb};
-ghost use Rattle.definitions.specs.Lists.{any, contains, ascii};
+ghost use Rattle.definitions.specs.Lists.{any, contains};
 ghost use Rattle.definitions.specs.Model.{token, line, Punct};
 ghost use Rattle.definitions.specs.Columns.{listing};
-ghost use Rattle.definitions.specs.Statements.{has-kw};
 ghost use Rattle.definitions.specs.FlowGraph.{is-else-close, is-loop, is-switch, is-case};
-use line_keywords::has_kw;
+ghost use Rattle.line_keywords.specs.Masks.{Masks};
+use line_keywords::has_case;
+use line_keywords::has_else;
+use line_keywords::is_loop;
+use line_keywords::is_switch;
 use model::columns::kind;
 use model::columns::text_at;
 use model::columns::token_count;
@@ -44,73 +47,50 @@ fn has_close(lines: &[u32], tokens: &[u32], text: &[u8], i: usize) -> bool
     false
 }
 
-pub fn is_else_close(lines: &[u32], tokens: &[u32], text: &[u8], i: usize) -> bool
+pub fn is_else_close(lines: &[u32], tokens: &[u32], text: &[u8], masks: &[u8], i: usize) -> bool
+    requires { ⌜ Masks (listing (now lines) (now tokens) (now text)) (now masks) ⌝ }
     ensures { λ r. ⌜ r ≡ is-else-close (line (listing (now (lines .entry)) (now (tokens .entry)) (now (text .entry))) i) ⌝ }
 {
-    if has_kw(lines, tokens, text, i, b"else") {
+    if has_else(lines, tokens, text, masks, i) {
         has_close(lines, tokens, text, i)
     } else {
         false
     }
 }
 
-// Line i has one of two keywords.
-fn has_either(lines: &[u32], tokens: &[u32], text: &[u8], i: usize, a: &[u8], b: &[u8]) -> bool
-    ensures { λ r.
-        ⌜ (let L = listing (now (lines .entry)) (now (tokens .entry)) (now (text .entry)) in
-        r ≡ (has-kw (line L i) (now (a .entry)) || has-kw (line L i) (now (b .entry)))) ⌝ }
-{
-    if has_kw(lines, tokens, text, i, a) {
-        true
-    } else {
-        has_kw(lines, tokens, text, i, b)
-    }
-}
-
-pub fn is_loop(lines: &[u32], tokens: &[u32], text: &[u8], i: usize) -> bool
-    ensures { λ r. ⌜ r ≡ is-loop (line (listing (now (lines .entry)) (now (tokens .entry)) (now (text .entry))) i) ⌝ }
-{
-    if has_either(lines, tokens, text, i, b"while", b"for") {
-        true
-    } else {
-        has_kw(lines, tokens, text, i, b"do")
-    }
-}
-
-pub fn is_switch(lines: &[u32], tokens: &[u32], text: &[u8], i: usize) -> bool
-    ensures { λ r. ⌜ r ≡ is-switch (line (listing (now (lines .entry)) (now (tokens .entry)) (now (text .entry))) i) ⌝ }
-{
-    has_kw(lines, tokens, text, i, b"switch")
-}
-
 // A loop or a switch: what a break or continue leaves.
-pub fn is_left(lines: &[u32], tokens: &[u32], text: &[u8], i: usize) -> bool
+pub fn is_left(lines: &[u32], tokens: &[u32], text: &[u8], masks: &[u8], i: usize) -> bool
+    requires { ⌜ Masks (listing (now lines) (now tokens) (now text)) (now masks) ⌝ }
     ensures { λ r.
         ⌜ (let L = listing (now (lines .entry)) (now (tokens .entry)) (now (text .entry)) in
         r ≡ (is-loop (line L i) || is-switch (line L i))) ⌝ }
 {
-    if is_loop(lines, tokens, text, i) {
+    if is_loop(lines, tokens, text, masks, i) {
         true
     } else {
-        is_switch(lines, tokens, text, i)
+        is_switch(lines, tokens, text, masks, i)
     }
 }
 
-// A break or continue.
-pub fn leaves_block(lines: &[u32], tokens: &[u32], text: &[u8], i: usize) -> bool
-    ensures { λ r.
-        ⌜ (let L = listing (now (lines .entry)) (now (tokens .entry)) (now (text .entry)) in
-        r ≡ (has-kw (line L i) (ascii "break") || has-kw (line L i) (ascii "continue"))) ⌝ }
-{
-    has_either(lines, tokens, text, i, b"break", b"continue")
-}
-
-pub fn is_case(lines: &[u32], tokens: &[u32], text: &[u8], i: usize) -> bool
+// Line i starts with a case or default.
+fn starts_case(lines: &[u32], tokens: &[u32], text: &[u8], i: usize) -> bool
     ensures { λ r. ⌜ r ≡ is-case (line (listing (now (lines .entry)) (now (tokens .entry)) (now (text .entry))) i) ⌝ }
 {
     if is_kw(lines, tokens, text, i, 0, b"case") {
         true
     } else {
         is_kw(lines, tokens, text, i, 0, b"default")
+    }
+}
+
+// The same, asked only of a line that has a case or default.
+pub fn is_case(lines: &[u32], tokens: &[u32], text: &[u8], masks: &[u8], i: usize) -> bool
+    requires { ⌜ Masks (listing (now lines) (now tokens) (now text)) (now masks) ⌝ }
+    ensures { λ r. ⌜ r ≡ is-case (line (listing (now (lines .entry)) (now (tokens .entry)) (now (text .entry))) i) ⌝ }
+{
+    if has_case(lines, tokens, text, masks, i) {
+        starts_case(lines, tokens, text, i)
+    } else {
+        false
     }
 }

@@ -1,7 +1,8 @@
 // The steps of one line, drawn into the two matrices of Rattle.bits: the kinds of step of Rattle.definitions.specs.FlowGraph.
 //
-// A kind takes time linear in the tokens of the lines that it looks at: `falls_to` looks at the lines of an else chain, `cases` at the lines
-// between a switch and its close, `leaves` at the openers around a break or continue. No step leads past the last line.
+// What a line is says its mask of keywords; only at an `else`, a case and a goto its tokens are looked at. `falls_to` looks at the lines of an
+// else chain, `cases` at the lines between a switch and its close, `leaves` at the openers around a break or continue. No step leads past the
+// last line.
 ghost use mathlib.Core.Path.{_≡_};
 ghost use mathlib.Core.Bool.{cond};
 ghost use mathlib.Core.List.{[], _∷_, _++_};
@@ -12,6 +13,7 @@ ghost use Rattle.definitions.specs.Model.{line};
 ghost use Rattle.definitions.specs.Columns.{listing};
 ghost use Rattle.definitions.specs.FlowGraph.{is-else-close, is-case, chain-end, falls, past-end, cases, jumps, leaves};
 ghost use Rattle.bits.specs.Edges.{Matrices};
+ghost use Rattle.line_keywords.specs.Masks.{Masks};
 ghost use Rattle.flow.specs.Entries.{linked};
 ghost use Rattle.flow.specs.Structure.{blocks-of, Ended, Enclosed};
 ghost use Rattle.flow.specs.Buckets.{Indexed};
@@ -22,11 +24,11 @@ use crate::gotos::jump;
 use crate::keywords::is_case;
 use crate::keywords::is_else_close;
 use crate::keywords::is_left;
-use crate::keywords::is_loop;
-use crate::keywords::is_switch;
-use crate::keywords::leaves_block;
 use crate::labels::Label;
-use line_keywords::has_kw;
+use line_keywords::has_goto;
+use line_keywords::is_loop;
+use line_keywords::is_switch;
+use line_keywords::leaves_block;
 use model::columns::token_count;
 
 // The step from line p to line q, unless it leads past the last line.
@@ -42,39 +44,60 @@ fn step(space: &mut [u64], n: usize, r: usize, p: usize, q: usize)
 // Falling to the next line
 
 // The entry of the close of the block at an else-close.
-fn else_end(lines: &[u32], tokens: &[u32], text: &[u8], ends: &[usize], c: usize) -> usize
-    requires { ⌜ (c < length (now lines)) × (length (now lines) ≤ length (now ends)) ⌝ }
+fn else_end(
+    lines: &[u32],
+    tokens: &[u32],
+    text: &[u8],
+    masks: &[u8],
+    ends: &[u16],
+    c: usize,
+) -> usize
+    requires { ⌜ (c < length (now lines)) × (length (now lines) ≤ length (now ends)) × Masks (listing (now lines) (now tokens) (now text)) (now masks) ⌝ }
     ensures { λ e.
         ⌜ (let L = listing (now (lines .entry)) (now (tokens .entry)) (now (text .entry)) in
         e ≡ cond (is-else-close (line L c)) (getD (now (ends .entry)) c 0) 0) ⌝ }
 {
-    if is_else_close(lines, tokens, text, c) {
-        ends[c]
+    if is_else_close(lines, tokens, text, masks, c) {
+        ends[c] as usize
     } else {
         0
     }
 }
 
 // The last close of the chain in which line c closes a block.
-fn chain_end(lines: &[u32], tokens: &[u32], text: &[u8], ends: &[usize], c: usize) -> usize
-    requires { ⌜ (c < length (now lines)) × (length (now lines) ≤ length (now ends)) ⌝ }
+fn chain_end(
+    lines: &[u32],
+    tokens: &[u32],
+    text: &[u8],
+    masks: &[u8],
+    ends: &[u16],
+    c: usize,
+) -> usize
+    requires { ⌜ (c < length (now lines)) × (length (now lines) ≤ length (now ends)) × Masks (listing (now lines) (now tokens) (now text)) (now masks) ⌝ }
     requires { ⌜ (let L = listing (now lines) (now tokens) (now text) in Ended L (blocks-of L) (now ends)) ⌝ }
     ensures { λ e.
         ⌜ (let L = listing (now (lines .entry)) (now (tokens .entry)) (now (text .entry)) in
         (e ≡ chain-end L (blocks-of L) (length L) c) × (e < length (now (lines .entry)))) ⌝ }
 {
     let mut at = c;
-    let mut e = else_end(lines, tokens, text, ends, c);
+    let mut e = else_end(lines, tokens, text, masks, ends, c);
     while e != 0 {
         at = e - 1;
-        e = else_end(lines, tokens, text, ends, at);
+        e = else_end(lines, tokens, text, masks, ends, at);
     }
     at
 }
 
 // Where line i falls to.
-fn falls_to(lines: &[u32], tokens: &[u32], text: &[u8], ends: &[usize], i: usize) -> usize
-    requires { ⌜ (i < length (now lines)) × (length (now lines) ≤ length (now ends)) ⌝ }
+fn falls_to(
+    lines: &[u32],
+    tokens: &[u32],
+    text: &[u8],
+    masks: &[u8],
+    ends: &[u16],
+    i: usize,
+) -> usize
+    requires { ⌜ (i < length (now lines)) × (length (now lines) ≤ length (now ends)) × Masks (listing (now lines) (now tokens) (now text)) (now masks) ⌝ }
     requires { ⌜ (let L = listing (now lines) (now tokens) (now text) in Ended L (blocks-of L) (now ends)) ⌝ }
     ensures { λ e.
         ⌜ (let L = listing (now (lines .entry)) (now (tokens .entry)) (now (text .entry)) in
@@ -84,21 +107,21 @@ fn falls_to(lines: &[u32], tokens: &[u32], text: &[u8], ends: &[usize], i: usize
     if lines.len() <= next {
         return next;
     }
-    let e = else_end(lines, tokens, text, ends, next);
+    let e = else_end(lines, tokens, text, masks, ends, next);
     if e == 0 {
         return next;
     }
-    chain_end(lines, tokens, text, ends, e - 1) + 1
+    chain_end(lines, tokens, text, masks, ends, e - 1) + 1
 }
 
 // Past the end of a block, and back to its opener
 
 // The step from line i past the end of the block that line h opens.
-fn past_end(ends: &[usize], space: &mut [u64], n: usize, r: usize, i: usize, h: usize)
+fn past_end(ends: &[u16], space: &mut [u64], n: usize, r: usize, i: usize, h: usize)
     requires { ⌜ Matrices n r (now space) × (i < n) × (h < length (now ends)) ⌝ }
     ensures { λ z. ⌜ Drawn n r (now (space .entry)) (now (space .exit)) (from i (after (getD (now (ends .entry)) h 0))) ⌝ }
 {
-    let e = ends[h];
+    let e = ends[h] as usize;
     if e != 0 {
         step(space, n, r, i, e);
     }
@@ -109,20 +132,21 @@ fn loops_back(
     lines: &[u32],
     tokens: &[u32],
     text: &[u8],
-    ends: &[usize],
+    masks: &[u8],
+    ends: &[u16],
     space: &mut [u64],
     r: usize,
     h: usize,
 )
-    requires { ⌜ Matrices (length (now lines)) r (now space) × (h < length (now lines)) × (length (now lines) ≤ length (now ends)) ⌝ }
+    requires { ⌜ Matrices (length (now lines)) r (now space) × (h < length (now lines)) × (length (now lines) ≤ length (now ends)) × Masks (listing (now lines) (now tokens) (now text)) (now masks) ⌝ }
     requires { ⌜ (let L = listing (now lines) (now tokens) (now text) in Ended L (blocks-of L) (now ends)) ⌝ }
     ensures { λ z.
         ⌜ (let L = listing (now (lines .entry)) (now (tokens .entry)) (now (text .entry)) in
         Drawn (length (now (lines .entry))) r (now (space .entry)) (now (space .exit)) (back L (blocks-of L) h)) ⌝ }
 {
-    let e = ends[h];
+    let e = ends[h] as usize;
     if e != 0 {
-        if is_loop(lines, tokens, text, h) {
+        if is_loop(lines, tokens, text, masks, h) {
             bits::add_edge(space, lines.len(), r, e - 1, h);
         }
     }
@@ -134,18 +158,19 @@ fn case_step(
     lines: &[u32],
     tokens: &[u32],
     text: &[u8],
+    masks: &[u8],
     space: &mut [u64],
     r: usize,
     h: usize,
     j: usize,
 )
-    requires { ⌜ Matrices (length (now lines)) r (now space) × (h < length (now lines)) ⌝ }
+    requires { ⌜ Matrices (length (now lines)) r (now space) × (h < length (now lines)) × Masks (listing (now lines) (now tokens) (now text)) (now masks) ⌝ }
     ensures { λ z.
         ⌜ (let L = listing (now (lines .entry)) (now (tokens .entry)) (now (text .entry)) in
         let n = length (now (lines .entry)) in
         Drawn n r (now (space .entry)) (now (space .exit)) (from h (if is-case (line L j) then j ∷ [] else []))) ⌝ }
 {
-    if is_case(lines, tokens, text, j) {
+    if is_case(lines, tokens, text, masks, j) {
         step(space, lines.len(), r, h, j);
     }
 }
@@ -155,12 +180,13 @@ fn case_steps(
     lines: &[u32],
     tokens: &[u32],
     text: &[u8],
+    masks: &[u8],
     space: &mut [u64],
     r: usize,
     h: usize,
     c: usize,
 )
-    requires { ⌜ Matrices (length (now lines)) r (now space) × (h < length (now lines)) ⌝ }
+    requires { ⌜ Matrices (length (now lines)) r (now space) × (h < length (now lines)) × Masks (listing (now lines) (now tokens) (now text)) (now masks) ⌝ }
     ensures { λ z.
         ⌜ (let L = listing (now (lines .entry)) (now (tokens .entry)) (now (text .entry)) in
         let n = length (now (lines .entry)) in
@@ -168,7 +194,7 @@ fn case_steps(
 {
     let mut j = h + 1;
     while j < c {
-        case_step(lines, tokens, text, space, r, h, j);
+        case_step(lines, tokens, text, masks, space, r, h, j);
         j += 1;
     }
 }
@@ -178,22 +204,23 @@ fn cases(
     lines: &[u32],
     tokens: &[u32],
     text: &[u8],
-    ends: &[usize],
+    masks: &[u8],
+    ends: &[u16],
     space: &mut [u64],
     r: usize,
     h: usize,
 )
-    requires { ⌜ Matrices (length (now lines)) r (now space) × (h < length (now lines)) × (length (now lines) ≤ length (now ends)) ⌝ }
+    requires { ⌜ Matrices (length (now lines)) r (now space) × (h < length (now lines)) × (length (now lines) ≤ length (now ends)) × Masks (listing (now lines) (now tokens) (now text)) (now masks) ⌝ }
     requires { ⌜ (let L = listing (now lines) (now tokens) (now text) in Ended L (blocks-of L) (now ends)) ⌝ }
     ensures { λ z.
         ⌜ (let L = listing (now (lines .entry)) (now (tokens .entry)) (now (text .entry)) in
         let n = length (now (lines .entry)) in
         Drawn n r (now (space .entry)) (now (space .exit)) (from h (cases L (blocks-of L) h))) ⌝ }
 {
-    let e = ends[h];
+    let e = ends[h] as usize;
     if e != 0 {
-        if is_switch(lines, tokens, text, h) {
-            case_steps(lines, tokens, text, space, r, h, e - 1);
+        if is_switch(lines, tokens, text, masks, h) {
+            case_steps(lines, tokens, text, masks, space, r, h, e - 1);
         }
     }
 }
@@ -205,19 +232,20 @@ fn leave(
     lines: &[u32],
     tokens: &[u32],
     text: &[u8],
-    ends: &[usize],
+    masks: &[u8],
+    ends: &[u16],
     space: &mut [u64],
     r: usize,
     i: usize,
     h: usize,
 )
-    requires { ⌜ Matrices (length (now lines)) r (now space) × (i < length (now lines)) × (h < length (now ends)) ⌝ }
+    requires { ⌜ Matrices (length (now lines)) r (now space) × (i < length (now lines)) × (h < length (now ends)) × Masks (listing (now lines) (now tokens) (now text)) (now masks) ⌝ }
     ensures { λ z.
         ⌜ (let L = listing (now (lines .entry)) (now (tokens .entry)) (now (text .entry)) in
         let n = length (now (lines .entry)) in
         Drawn n r (now (space .entry)) (now (space .exit)) (from i (left L (now (ends .entry)) h))) ⌝ }
 {
-    if is_left(lines, tokens, text, h) {
+    if is_left(lines, tokens, text, masks, h) {
         step(space, lines.len(), r, i, h);
         past_end(ends, space, lines.len(), r, i, h);
     }
@@ -228,25 +256,26 @@ fn leave_all(
     lines: &[u32],
     tokens: &[u32],
     text: &[u8],
-    ends: &[usize],
-    parents: &[usize],
+    masks: &[u8],
+    ends: &[u16],
+    parents: &[u16],
     space: &mut [u64],
     r: usize,
     i: usize,
 )
     requires { ⌜ (let n = length (now lines) in
-        Matrices n r (now space) × (i < n) × (n ≤ length (now ends)) × (n ≤ length (now parents))) ⌝ }
+        Matrices n r (now space) × (i < n) × (n ≤ length (now ends)) × (n ≤ length (now parents)) × Masks (listing (now lines) (now tokens) (now text)) (now masks)) ⌝ }
     requires { ⌜ (let L = listing (now lines) (now tokens) (now text) in Enclosed L (blocks-of L) (now parents)) ⌝ }
     ensures { λ z.
         ⌜ (let L = listing (now (lines .entry)) (now (tokens .entry)) (now (text .entry)) in
         let n = length (now (lines .entry)) in
         Drawn n r (now (space .entry)) (now (space .exit)) (from i (lefts L (now (ends .entry)) (linked (now (parents .entry)) i (getD (now (parents .entry)) i 0))))) ⌝ }
 {
-    let mut p = parents[i];
+    let mut p = parents[i] as usize;
     while p != 0 {
         let h = p - 1;
-        leave(lines, tokens, text, ends, space, r, i, h);
-        p = parents[h];
+        leave(lines, tokens, text, masks, ends, space, r, i, h);
+        p = parents[h] as usize;
     }
 }
 
@@ -255,14 +284,15 @@ fn leaves(
     lines: &[u32],
     tokens: &[u32],
     text: &[u8],
-    ends: &[usize],
-    parents: &[usize],
+    masks: &[u8],
+    ends: &[u16],
+    parents: &[u16],
     space: &mut [u64],
     r: usize,
     i: usize,
 )
     requires { ⌜ (let n = length (now lines) in
-        Matrices n r (now space) × (i < n) × (n ≤ length (now ends)) × (n ≤ length (now parents))) ⌝ }
+        Matrices n r (now space) × (i < n) × (n ≤ length (now ends)) × (n ≤ length (now parents)) × Masks (listing (now lines) (now tokens) (now text)) (now masks)) ⌝ }
     requires { ⌜ (let L = listing (now lines) (now tokens) (now text) in Ended L (blocks-of L) (now ends)) ⌝ }
     requires { ⌜ (let L = listing (now lines) (now tokens) (now text) in Enclosed L (blocks-of L) (now parents)) ⌝ }
     ensures { λ z.
@@ -270,8 +300,8 @@ fn leaves(
         let n = length (now (lines .entry)) in
         Drawn n r (now (space .entry)) (now (space .exit)) (from i (leaves L (blocks-of L) i))) ⌝ }
 {
-    if leaves_block(lines, tokens, text, i) {
-        leave_all(lines, tokens, text, ends, parents, space, r, i);
+    if leaves_block(lines, tokens, text, masks, i) {
+        leave_all(lines, tokens, text, masks, ends, parents, space, r, i);
     }
 }
 
@@ -281,15 +311,15 @@ fn jump_step(
     lines: &[u32],
     tokens: &[u32],
     text: &[u8],
-    heads: &[usize],
-    nexts: &[usize],
+    heads: &[u16],
+    nexts: &[u16],
     space: &mut [u64],
     r: usize,
     i: usize,
     j: usize,
 )
     requires { ⌜ (let n = length (now lines) in
-        Matrices n r (now space) × (i < n) × (1024 ≤ length (now heads)) × (n ≤ length (now nexts))) ⌝ }
+        Matrices n r (now space) × (i < n) × (256 ≤ length (now heads)) × (n ≤ length (now nexts))) ⌝ }
     requires { ⌜ Indexed (listing (now lines) (now tokens) (now text)) (now heads) (now nexts) (length (now lines)) ⌝ }
     ensures { λ z.
         ⌜ (let L = listing (now (lines .entry)) (now (tokens .entry)) (now (text .entry)) in
@@ -307,14 +337,14 @@ fn token_jumps(
     lines: &[u32],
     tokens: &[u32],
     text: &[u8],
-    heads: &[usize],
-    nexts: &[usize],
+    heads: &[u16],
+    nexts: &[u16],
     space: &mut [u64],
     r: usize,
     i: usize,
 )
     requires { ⌜ (let n = length (now lines) in
-        Matrices n r (now space) × (i < n) × (1024 ≤ length (now heads)) × (n ≤ length (now nexts))) ⌝ }
+        Matrices n r (now space) × (i < n) × (256 ≤ length (now heads)) × (n ≤ length (now nexts))) ⌝ }
     requires { ⌜ Indexed (listing (now lines) (now tokens) (now text)) (now heads) (now nexts) (length (now lines)) ⌝ }
     ensures { λ z.
         ⌜ (let L = listing (now (lines .entry)) (now (tokens .entry)) (now (text .entry)) in
@@ -333,20 +363,21 @@ fn jumps(
     lines: &[u32],
     tokens: &[u32],
     text: &[u8],
-    heads: &[usize],
-    nexts: &[usize],
+    masks: &[u8],
+    heads: &[u16],
+    nexts: &[u16],
     space: &mut [u64],
     r: usize,
     i: usize,
 )
     requires { ⌜ (let n = length (now lines) in
-        Matrices n r (now space) × (i < n) × (1024 ≤ length (now heads)) × (n ≤ length (now nexts))) ⌝ }
+        Matrices n r (now space) × (i < n) × (256 ≤ length (now heads)) × (n ≤ length (now nexts)) × Masks (listing (now lines) (now tokens) (now text)) (now masks)) ⌝ }
     requires { ⌜ Indexed (listing (now lines) (now tokens) (now text)) (now heads) (now nexts) (length (now lines)) ⌝ }
     ensures { λ z.
         ⌜ (let L = listing (now (lines .entry)) (now (tokens .entry)) (now (text .entry)) in
         Drawn (length (now (lines .entry))) r (now (space .entry)) (now (space .exit)) (from i (jumps L i))) ⌝ }
 {
-    if has_kw(lines, tokens, text, i, b"goto") {
+    if has_goto(lines, tokens, text, masks, i) {
         token_jumps(lines, tokens, text, heads, nexts, space, r, i);
         return;
     }
@@ -359,12 +390,13 @@ fn block_steps(
     lines: &[u32],
     tokens: &[u32],
     text: &[u8],
-    ends: &[usize],
+    masks: &[u8],
+    ends: &[u16],
     space: &mut [u64],
     r: usize,
     i: usize,
 )
-    requires { ⌜ Matrices (length (now lines)) r (now space) × (i < length (now lines)) × (length (now lines) ≤ length (now ends)) ⌝ }
+    requires { ⌜ Matrices (length (now lines)) r (now space) × (i < length (now lines)) × (length (now lines) ≤ length (now ends)) × Masks (listing (now lines) (now tokens) (now text)) (now masks) ⌝ }
     requires { ⌜ (let L = listing (now lines) (now tokens) (now text) in Ended L (blocks-of L) (now ends)) ⌝ }
     ensures { λ z.
         ⌜ (let L = listing (now (lines .entry)) (now (tokens .entry)) (now (text .entry)) in
@@ -372,10 +404,10 @@ fn block_steps(
         Drawn n r (now (space .entry)) (now (space .exit)) (from i (falls L (blocks-of L) i ++ past-end (blocks-of L) i ++ cases L (blocks-of L) i))) ⌝ }
 {
     let n = lines.len();
-    let t = falls_to(lines, tokens, text, ends, i);
+    let t = falls_to(lines, tokens, text, masks, ends, i);
     step(space, n, r, i, t);
     past_end(ends, space, n, r, i, i);
-    cases(lines, tokens, text, ends, space, r, i);
+    cases(lines, tokens, text, masks, ends, space, r, i);
 }
 
 // All edges that line i draws.
@@ -383,22 +415,23 @@ pub fn line_steps(
     lines: &[u32],
     tokens: &[u32],
     text: &[u8],
-    ends: &[usize],
-    parents: &[usize],
-    heads: &[usize],
-    nexts: &[usize],
+    masks: &[u8],
+    ends: &[u16],
+    parents: &[u16],
+    heads: &[u16],
+    nexts: &[u16],
     space: &mut [u64],
     r: usize,
     i: usize,
 )
     requires { ⌜ Matrices (length (now lines)) r (now space) × (i < length (now lines)) ⌝ }
-    requires { ⌜ Read (now lines) (now tokens) (now text) (now ends) (now parents) (now heads) (now nexts) ⌝ }
+    requires { ⌜ Read (now lines) (now tokens) (now text) (now masks) (now ends) (now parents) (now heads) (now nexts) ⌝ }
     ensures { λ z.
         ⌜ (let L = listing (now (lines .entry)) (now (tokens .entry)) (now (text .entry)) in
         Drawn (length (now (lines .entry))) r (now (space .entry)) (now (space .exit)) (line-edges L (blocks-of L) i)) ⌝ }
 {
-    block_steps(lines, tokens, text, ends, space, r, i);
-    jumps(lines, tokens, text, heads, nexts, space, r, i);
-    leaves(lines, tokens, text, ends, parents, space, r, i);
-    loops_back(lines, tokens, text, ends, space, r, i);
+    block_steps(lines, tokens, text, masks, ends, space, r, i);
+    jumps(lines, tokens, text, masks, heads, nexts, space, r, i);
+    leaves(lines, tokens, text, masks, ends, parents, space, r, i);
+    loops_back(lines, tokens, text, masks, ends, space, r, i);
 }

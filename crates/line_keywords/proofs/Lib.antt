@@ -1,2 +1,4 @@
-pub mod Passes
+pub mod Classes
+pub mod Filling
+pub mod MaskLaws
 pub mod NoGotos

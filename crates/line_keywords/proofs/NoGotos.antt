@@ -1,5 +1,6 @@
 -- A line without the keyword `goto` leads nowhere.
---   no-leads, no-jumps
+--   neither               of two tests that are false together, each is
+--   no-leads, no-jumps    a line without the keyword
 -- Assumes nothing.
 use Prim.Native.Nat.{ℕ}
 use mathlib.Core.Path.{_≡_, refl}
@@ -11,7 +12,7 @@ use Rattle.definitions.specs.Model.{Token, Line, line}
 use Rattle.definitions.specs.Statements.{is-kw, has-kw, targets}
 use Rattle.definitions.specs.FlowGraph.{leads, jumps}
 
-neither : (a b : Bool) → (a || b) ≡ false → (a ≡ false) × (b ≡ false)
+pub neither : (a b : Bool) → (a || b) ≡ false → (a ≡ false) × (b ≡ false)
 neither true b e = let z : _≡_ {A = ℕ} 0 1 = cc in absurd (omega arith)
 neither false b e = (refl, e)
 

@@ -12,7 +12,7 @@ slice-aggregate-mark-all-in-2 : tie.Need-slice-aggregate-mark-all-in-2
 slice-aggregate-mark-all-in-2 c = search needs
 
 mark-all-in-requires : tie.Need-mark-all-in-requires
-mark-all-in-requires c κs = ((omega arith, omega arith, search needs, search needs), zeros 1024)
+mark-all-in-requires c κs = ((omega arith, omega arith, search needs, search needs, search needs), zeros 256)
 
 same-length : tie.Need-same-length
 same-length c = search needs

@@ -5,11 +5,8 @@ use borrow.Author.Needs.{needs}
 use Rattle.crossings.proofs.mark_line.Statement.{statement}
 use Rattle.crossings.proofs.mark_line.Tie as tie
 
-slice-aggregate-has-kw : tie.Need-slice-aggregate-has-kw
-slice-aggregate-has-kw c = search needs
-
-has-kw-requires : tie.Need-has-kw-requires
-has-kw-requires c κs = search needs
+has-goto-requires : tie.Need-has-goto-requires
+has-goto-requires c κs = search needs
 
 mark-tokens-requires : tie.Need-mark-tokens-requires
 mark-tokens-requires c κs = search needs
@@ -27,8 +24,7 @@ pub mark-line-spec : {M : Type 1} → statement M
 mark-line-spec =
     tie.close
     (tie.spec
-    slice-aggregate-has-kw
-    has-kw-requires
+    has-goto-requires
     mark-tokens-requires
     same-length
     returns

@@ -8,7 +8,7 @@ use lib.ListN.{length}
 use Rattle.definitions.specs.Columns.{listing}
 use Rattle.model.proofs.Decode.{length-listing}
 use Rattle.pseudo_opt.specs.Braces.{counted}
-use Rattle.flow.proofs.Reading.{Reading, reading-start, reading-next, reading-fail, reading-end}
+use Rattle.flow.proofs.Reading.{closed-below, Reading, reading-start, reading-next, reading-fail, reading-end}
 use Rattle.flow.proofs.blocks.blocks.Statement.{statement}
 use Rattle.flow.proofs.blocks.blocks.Tie as tie
 
@@ -28,7 +28,7 @@ close-requires : tie.Need-close-requires Inv-loop μ-loop
 close-requires c κs =
     let l = c .before .before .before .before .before .loop in
     let a = c .before .before .before .before .before .before .before .before .before .before .before .before .args in
-    ((omega arith, omega arith, omega arith), (l .inv .4 .at, l .inv .4 .held, omega (arith, l .inv .4 .size, length-listing (now (a .lines)) (now (a .tokens)) (now (a .text)))))
+    ((omega arith, omega arith, omega arith, omega arith), (l .inv .4 .at, l .inv .4 .held, omega (arith, l .inv .4 .size, length-listing (now (a .lines)) (now (a .tokens)) (now (a .text)))))
 
 enum-known-p : tie.Need-enum-known-p Inv-loop μ-loop
 enum-known-p c = search needs
@@ -54,7 +54,13 @@ returns c =
     _ _ (c .before .before .before .before .before .before .close .result) (c .before .before .before .before .before .before .close .ensures) _ _ (c .enum-told .given .1)
 
 enter-requires : tie.Need-enter-requires Inv-loop μ-loop
-enter-requires c κs = search needs
+enter-requires c κs =
+    let a = c .before .before .before .before .before .before .before .before .before .before .before .before .before .before .before .before .before .before .before .before .before .before .before .args in
+    let l = c .before .before .before .before .before .before .before .before .before .before .before .before .before .before .before .before .loop in
+    let t = c .before .before .before .before .before .before .before .before .before .before .before .before .before .before .before .loop-test .taken in
+    let C = c .before .before .before .before .before .before .before .before .before .before .close in
+    let r = c .before .before .before .before .before .before .before .before .before .before .before .before .before .before .before .before .before .before .before .before .before .before .before .pre in
+    (omega (arith, C .kept .0, l .inv .1, r .0, t), omega (arith, l .inv .2, r .1, t), omega (arith, C .kept .1 .1 .0, l .inv .3, r .2, t), omega (arith, t, r .3), closed-below (l .i) _ (l .inv .4 .at) _ _ _ (C .result) _ (C .ensures (l .inv .4 .at) (l .inv .4 .held) (omega (arith, t, l .inv .4 .size, length-listing (now (a .lines)) (now (a .tokens)) (now (a .text))))) (search needs))
 
 add-i : tie.Need-add-i Inv-loop μ-loop
 add-i c = let g = c .before .before .before .before .before .before .before .before .before .before .before .before .before .before .before .before .before .before .before .before .before .before .before .before .before .before .before .before .before .before .good in let t = c .before .before .before .before .before .before .before .before .before .before .before .before .before .before .before .before .before .before .before .before .before .before .loop-test .taken in omega arith

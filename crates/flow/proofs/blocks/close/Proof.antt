@@ -35,6 +35,9 @@ sub-h c = omega arith
 add-ends : tie.Need-add-ends Inv-loop μ-loop
 add-ends c = search needs
 
+cast-ends : tie.Need-cast-ends Inv-loop μ-loop
+cast-ends c = search needs
+
 mul-ends : tie.Need-mul-ends Inv-loop μ-loop
 mul-ends c = omega (arith, c .before .before .loop .inv .2 (c .before .before .before .before .before .before .pre .1 .0) (c .before .before .before .before .before .before .pre .1 .1) (c .before .before .before .before .before .before .pre .1 .2) .held .below)
 
@@ -84,6 +87,7 @@ close-spec =
     returns
     sub-h
     add-ends
+    cast-ends
     mul-ends
     slice-write-ends
     pop-requires

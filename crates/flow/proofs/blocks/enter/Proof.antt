@@ -11,6 +11,9 @@ mul-ends c = search needs
 slice-write-ends : tie.Need-slice-write-ends
 slice-write-ends c = search needs
 
+cast-parents : tie.Need-cast-parents
+cast-parents c = search needs
+
 mul-parents : tie.Need-mul-parents
 mul-parents c = search needs
 
@@ -56,6 +59,7 @@ enter-spec =
     (tie.spec
     mul-ends
     slice-write-ends
+    cast-parents
     mul-parents
     slice-write-parents
     mul-counts

@@ -1,6 +1,7 @@
 -- `flow::blocks::pop` meets its contract. By the count. Assumes nothing.
 use borrow.Author.Needs.{needs}
 use Rattle.text.proofs.Bools.{bools}
+use Rattle.flow.proofs.Links.{wider}
 use Rattle.flow.proofs.blocks.pop.Statement.{statement}
 use Rattle.flow.proofs.blocks.pop.Tie as tie
 
@@ -24,6 +25,9 @@ mul-result c = search needs
 
 shared-slice-read-result : tie.Need-shared-slice-read-result
 shared-slice-read-result c = search needs
+
+cast-result : tie.Need-cast-result
+cast-result c = search (wider, needs)
 
 add-result : tie.Need-add-result
 add-result c = search needs
@@ -50,7 +54,7 @@ pop-spec =
     mul-counts
     slice-write-counts
     mul-result
-    shared-slice-read-result
+    shared-slice-read-result cast-result
     add-result
     same-length
     returns

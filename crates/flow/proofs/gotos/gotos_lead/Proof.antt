@@ -9,10 +9,10 @@ use Rattle.flow.proofs.gotos.gotos_lead.Statement.{statement}
 use Rattle.flow.proofs.gotos.gotos_lead.Tie as tie
 
 abbrev Inv-loop : tie.InvT-loop
-Inv-loop lines tokens text heads nexts n i₀ i = (i ≤ n) × (gotos-lead (listing lines tokens text) ≡ lines-from (listing lines tokens text) n i)
+Inv-loop lines tokens text masks heads nexts n i₀ i = (i ≤ n) × (gotos-lead (listing lines tokens text) ≡ lines-from (listing lines tokens text) n i)
 
 abbrev μ-loop : tie.MeasureT-loop
-μ-loop lines tokens text heads nexts n i₀ i = n - i
+μ-loop lines tokens text masks heads nexts n i₀ i = n - i
 
 loop-holds : tie.Need-loop-holds Inv-loop μ-loop
 loop-holds c = search (lines-leading, needs)

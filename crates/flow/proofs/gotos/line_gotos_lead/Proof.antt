@@ -5,11 +5,8 @@ use borrow.Author.Needs.{needs}
 use Rattle.flow.proofs.gotos.line_gotos_lead.Statement.{statement}
 use Rattle.flow.proofs.gotos.line_gotos_lead.Tie as tie
 
-slice-aggregate-has-kw : tie.Need-slice-aggregate-has-kw
-slice-aggregate-has-kw c = search needs
-
-has-kw-requires : tie.Need-has-kw-requires
-has-kw-requires c κs = search needs
+has-goto-requires : tie.Need-has-goto-requires
+has-goto-requires c κs = search needs
 
 tokens-lead-requires : tie.Need-tokens-lead-requires
 tokens-lead-requires c κs = search needs
@@ -23,4 +20,4 @@ returns-2 c = search (leads-none, needs)
 pub line-gotos-lead-spec : {M : Type 1} → statement M
 line-gotos-lead-spec =
     tie.close
-    (tie.spec slice-aggregate-has-kw has-kw-requires tokens-lead-requires returns returns-2)
+    (tie.spec has-goto-requires tokens-lead-requires returns returns-2)

@@ -17,20 +17,20 @@ use Rattle.flow.proofs.graph.draw.Statement.{statement}
 use Rattle.flow.proofs.graph.draw.Tie as tie
 
 abbrev Inv-loop : tie.InvT-loop
-Inv-loop lines tokens text ends parents heads nexts space₀ r n i₀ space i = (i ≤ n) × (length space ≡ length space₀) × Drawing (length lines) r space₀ space (rest (listing lines tokens text) (blocks-of (listing lines tokens text)) 0) (rest (listing lines tokens text) (blocks-of (listing lines tokens text)) i)
+Inv-loop lines tokens text masks ends parents heads nexts space₀ r n i₀ space i = (i ≤ n) × (length space ≡ length space₀) × Drawing (length lines) r space₀ space (rest (listing lines tokens text) (blocks-of (listing lines tokens text)) 0) (rest (listing lines tokens text) (blocks-of (listing lines tokens text)) i)
 
 abbrev μ-loop : tie.MeasureT-loop
-μ-loop lines tokens text ends parents heads nexts space₀ r n i₀ space i = n - i
+μ-loop lines tokens text masks ends parents heads nexts space₀ r n i₀ space i = n - i
 
 loop-holds : tie.Need-loop-holds Inv-loop μ-loop
 loop-holds c =
-    let a = c .before .before .before .before .before .before .before .before .args in
+    let a = c .before .before .before .before .before .before .before .before .before .args in
     (search needs, refl, drawing-start (length (now (a .lines))) (a .r) (now (a .space)) (rest (listing (now (a .lines)) (now (a .tokens)) (now (a .text))) (blocks-of (listing (now (a .lines)) (now (a .tokens)) (now (a .text)))) 0))
 
 line-steps-requires : tie.Need-line-steps-requires Inv-loop μ-loop
 line-steps-requires c κs =
-    let a = c .before .before .before .before .before .before .before .before .before .before .before .args in
-    ((matrices-kept (length (now (a .lines))) (a .r) (now (a .space)) (c .before .before .loop .space) (c .before .before .before .before .before .before .before .before .before .before .before .pre .0) (c .before .before .loop .inv .1), search needs), c .before .before .before .before .before .before .before .before .before .before .before .pre .1)
+    let a = c .before .before .before .before .before .before .before .before .before .before .before .before .args in
+    ((matrices-kept (length (now (a .lines))) (a .r) (now (a .space)) (c .before .before .loop .space) (c .before .before .before .before .before .before .before .before .before .before .before .before .pre .0) (c .before .before .loop .inv .1), search needs), c .before .before .before .before .before .before .before .before .before .before .before .before .pre .1)
 
 add-i : tie.Need-add-i Inv-loop μ-loop
 add-i c = search needs
@@ -40,10 +40,10 @@ loop-less c = search needs
 
 loop-again : tie.Need-loop-again Inv-loop μ-loop
 loop-again c =
-    let a = c .before .before .before .before .before .before .before .before .before .before .before .before .before .before .args in
+    let a = c .before .before .before .before .before .before .before .before .before .before .before .before .before .before .before .args in
     let l = c .before .before .before .before .before .loop in (
       search needs,
-      c .before .before .line-steps .kept .1 .1 .1 .1 .1 .1 .1 .0 ∙ l .inv .1,
+      c .before .before .line-steps .kept .1 .1 .1 .1 .1 .1 .1 .1 .0 ∙ l .inv .1,
       drawing-next (length (now (a .lines))) (a .r) (now (a .space)) (rest (listing (now (a .lines)) (now (a .tokens)) (now (a .text))) (blocks-of (listing (now (a .lines)) (now (a .tokens)) (now (a .text)))) 0) (l .space) (rest (listing (now (a .lines)) (now (a .tokens)) (now (a .text))) (blocks-of (listing (now (a .lines)) (now (a .tokens)) (now (a .text)))) (l .i)) (l .inv .2) _ (line-edges (listing (now (a .lines)) (now (a .tokens)) (now (a .text))) (blocks-of (listing (now (a .lines)) (now (a .tokens)) (now (a .text)))) (l .i)) (rest (listing (now (a .lines)) (now (a .tokens)) (now (a .text))) (blocks-of (listing (now (a .lines)) (now (a .tokens)) (now (a .text)))) (l .i + 1)) (c .before .before .line-steps .ensures)
           (λ p q hp hq. rest-next (listing (now (a .lines)) (now (a .tokens)) (now (a .text))) (blocks-of (listing (now (a .lines)) (now (a .tokens)) (now (a .text)))) (l .i) p q),
     )
@@ -53,7 +53,7 @@ same-length c = search needs
 
 returns : tie.Need-returns Inv-loop μ-loop
 returns c =
-    let a = c .before .before .before .before .before .before .before .before .before .before .args in
+    let a = c .before .before .before .before .before .before .before .before .before .before .before .args in
     let l = c .before .loop in
     let n = length-listing (now (a .lines)) (now (a .tokens)) (now (a .text)) in
     drawn-as (length (now (a .lines))) (a .r) (now (a .space)) (l .space) (rest (listing (now (a .lines)) (now (a .tokens)) (now (a .text))) (blocks-of (listing (now (a .lines)) (now (a .tokens)) (now (a .text)))) 0) (λ i j. member j (successors (listing (now (a .lines)) (now (a .tokens)) (now (a .text))) (blocks-of (listing (now (a .lines)) (now (a .tokens)) (now (a .text)))) i))

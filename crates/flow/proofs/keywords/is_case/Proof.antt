@@ -1,34 +1,21 @@
--- `flow::keywords::is_case` meets its contract. Assumes nothing.
+-- `flow::keywords::is_case` meets its contract.
+-- Assumes nothing.
+use Rattle.flow.proofs.Tests.{no-case}
 use borrow.Author.Needs.{needs}
-use Rattle.text.proofs.Bools.{bools}
 use Rattle.flow.proofs.keywords.is_case.Statement.{statement}
 use Rattle.flow.proofs.keywords.is_case.Tie as tie
 
-slice-aggregate-is-kw : tie.Need-slice-aggregate-is-kw
-slice-aggregate-is-kw c = search needs
+has-case-requires : tie.Need-has-case-requires
+has-case-requires c κs = search needs
 
-is-kw-requires : tie.Need-is-kw-requires
-is-kw-requires c κs = search needs
-
-slice-aggregate-is-kw-2 : tie.Need-slice-aggregate-is-kw-2
-slice-aggregate-is-kw-2 c = search needs
-
-is-kw-requires-2 : tie.Need-is-kw-requires-2
-is-kw-requires-2 c κs = search needs
+starts-case-requires : tie.Need-starts-case-requires
+starts-case-requires c κs = search needs
 
 returns : tie.Need-returns
-returns c = search (bools, needs)
+returns c = search needs
 
 returns-2 : tie.Need-returns-2
-returns-2 c = search (bools, needs)
+returns-2 c = search (no-case, needs)
 
 pub is-case-spec : {M : Type 1} → statement M
-is-case-spec =
-    tie.close
-    (tie.spec
-    slice-aggregate-is-kw
-    is-kw-requires
-    slice-aggregate-is-kw-2
-    is-kw-requires-2
-    returns
-    returns-2)
+is-case-spec = tie.close (tie.spec has-case-requires starts-case-requires returns returns-2)

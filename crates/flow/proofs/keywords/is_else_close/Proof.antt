@@ -4,11 +4,8 @@ use Rattle.text.proofs.Bools.{bools}
 use Rattle.flow.proofs.keywords.is_else_close.Statement.{statement}
 use Rattle.flow.proofs.keywords.is_else_close.Tie as tie
 
-slice-aggregate-has-kw : tie.Need-slice-aggregate-has-kw
-slice-aggregate-has-kw c = search needs
-
-has-kw-requires : tie.Need-has-kw-requires
-has-kw-requires c κs = search needs
+has-else-requires : tie.Need-has-else-requires
+has-else-requires c κs = search needs
 
 has-close-requires : tie.Need-has-close-requires
 has-close-requires c κs = search needs
@@ -22,4 +19,4 @@ returns-2 c = search (bools, needs)
 pub is-else-close-spec : {M : Type 1} → statement M
 is-else-close-spec =
     tie.close
-    (tie.spec slice-aggregate-has-kw has-kw-requires has-close-requires returns returns-2)
+    (tie.spec has-else-requires has-close-requires returns returns-2)

@@ -10,7 +10,7 @@ use Rattle.flow.proofs.labels.bucket.Statement.{statement}
 use Rattle.flow.proofs.labels.bucket.Tie as tie
 
 abbrev Inv-loop : tie.InvT-loop
-Inv-loop s h₀ k₀ h k = (k ≤ length s) × (h < 1024) × (bucket s ≡ fold mix h (drop k s))
+Inv-loop s h₀ k₀ h k = (k ≤ length s) × (h < 256) × (bucket s ≡ fold mix h (drop k s))
 
 abbrev μ-loop : tie.MeasureT-loop
 μ-loop s h₀ k₀ h k = length s - k

@@ -34,6 +34,9 @@ slice-write-nexts c = search needs
 add-heads : tie.Need-add-heads
 add-heads c = search needs
 
+cast-heads : tie.Need-cast-heads
+cast-heads c = search needs
+
 mul-heads : tie.Need-mul-heads
 mul-heads c = search needs
 
@@ -81,6 +84,7 @@ index-line-spec =
     mul-nexts-2
     slice-write-nexts
     add-heads
+    cast-heads
     mul-heads
     slice-write-heads
     mul-nexts-3

@@ -10,6 +10,7 @@ use Rattle.definitions.specs.Columns.{listing}
 use Rattle.model.proofs.Decode.{length-listing}
 use Rattle.flow.specs.Buckets.{lookup}
 use Rattle.flow.proofs.Buckets.{lookup-start, lookup-found, lookup-next, lookup-end, buckets}
+use Rattle.flow.proofs.Links.{wider}
 use Rattle.flow.proofs.labels.label_line.Statement.{statement}
 use Rattle.flow.proofs.labels.label_line.Tie as tie
 
@@ -27,6 +28,9 @@ mul-p c = search (buckets, needs)
 
 shared-slice-read-p : tie.Need-shared-slice-read-p Inv-loop μ-loop
 shared-slice-read-p c = search (buckets, needs)
+
+cast-p : tie.Need-cast-p Inv-loop μ-loop
+cast-p c = search (wider, needs)
 
 loop-holds : tie.Need-loop-holds Inv-loop μ-loop
 loop-holds c =
@@ -55,6 +59,9 @@ mul-p-2 c = search (buckets, needs)
 shared-slice-read-p-2 : tie.Need-shared-slice-read-p-2 Inv-loop μ-loop
 shared-slice-read-p-2 c = search (buckets, needs)
 
+cast-p-2 : tie.Need-cast-p-2 Inv-loop μ-loop
+cast-p-2 c = search (wider, needs)
+
 loop-less : tie.Need-loop-less Inv-loop μ-loop
 loop-less c = let q = c .before .before .before .before .before .before .before .before .before .before .before .before .before .before .pre .1 .back (c .before .before .before .before .before .loop .p - 1) (omega arith) in omega arith
 
@@ -81,6 +88,7 @@ label-line-spec =
     bucket-requires
     mul-p
     shared-slice-read-p
+    cast-p
     loop-holds
     sub-h
     text-at-requires
@@ -88,6 +96,7 @@ label-line-spec =
     returns
     mul-p-2
     shared-slice-read-p-2
+    cast-p-2
     loop-less
     loop-again
     returns-2)

@@ -21,12 +21,12 @@ same-length c = search needs
 
 returns : tie.Need-returns
 returns c =
-    let a = c .before .before .before .before .before .before .before .before .before .before .args in
+    let a = c .before .before .before .before .before .before .before .before .before .before .before .args in
     test-yes (length (now (a .lines))) (a .r) (a .h) (c .before .before .before .before .before .is-case .result) (is-case (line (listing (now (a .lines)) (now (a .tokens)) (now (a .text))) (a .j))) (c .before .before .before .before .before .is-case .ensures) (a .j ∷ []) _ _ (c .before .before .before .before .if1 .taken) (c .before .before .step .ensures)
 
 returns-2 : tie.Need-returns-2
 returns-2 c =
-    let a = c .before .before .before .before .before .before .args in
+    let a = c .before .before .before .before .before .before .before .args in
     test-no (length (now (a .lines))) (a .r) (a .h) (c .before .is-case .result) (is-case (line (listing (now (a .lines)) (now (a .tokens)) (now (a .text))) (a .j))) (c .before .is-case .ensures) (a .j ∷ []) _ (c .if1 .left)
 
 pub case-step-spec : {M : Type 1} → statement M

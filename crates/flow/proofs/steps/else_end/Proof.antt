@@ -1,6 +1,7 @@
 -- `flow::steps::else_end` meets its contract. Assumes nothing.
 use borrow.Author.Needs.{needs}
 use Rattle.text.proofs.Bools.{bools}
+use Rattle.flow.proofs.Links.{wider}
 use Rattle.flow.proofs.steps.else_end.Statement.{statement}
 use Rattle.flow.proofs.steps.else_end.Tie as tie
 
@@ -13,6 +14,9 @@ mul-result c = search needs
 shared-slice-read-result : tie.Need-shared-slice-read-result
 shared-slice-read-result c = search needs
 
+cast-result : tie.Need-cast-result
+cast-result c = search (wider, needs)
+
 returns : tie.Need-returns
 returns c = search (bools, needs)
 
@@ -22,4 +26,4 @@ returns-2 c = search (bools, needs)
 pub else-end-spec : {M : Type 1} → statement M
 else-end-spec =
     tie.close
-    (tie.spec is-else-close-requires mul-result shared-slice-read-result returns returns-2)
+    (tie.spec is-else-close-requires mul-result shared-slice-read-result cast-result returns returns-2)

@@ -5,11 +5,8 @@ use borrow.Author.Needs.{needs}
 use Rattle.flow.proofs.steps.jumps.Statement.{statement}
 use Rattle.flow.proofs.steps.jumps.Tie as tie
 
-slice-aggregate-has-kw : tie.Need-slice-aggregate-has-kw
-slice-aggregate-has-kw c = search needs
-
-has-kw-requires : tie.Need-has-kw-requires
-has-kw-requires c κs = search needs
+has-goto-requires : tie.Need-has-goto-requires
+has-goto-requires c κs = search needs
 
 token-jumps-requires : tie.Need-token-jumps-requires
 token-jumps-requires c κs = search needs
@@ -27,8 +24,7 @@ pub jumps-spec : {M : Type 1} → statement M
 jumps-spec =
     tie.close
     (tie.spec
-    slice-aggregate-has-kw
-    has-kw-requires
+    has-goto-requires
     token-jumps-requires
     same-length
     returns

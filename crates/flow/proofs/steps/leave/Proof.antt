@@ -21,12 +21,12 @@ same-length c = search needs
 
 returns : tie.Need-returns
 returns c =
-    let a = c .before .before .before .before .before .before .before .before .before .before .before .before .before .before .before .args in
+    let a = c .before .before .before .before .before .before .before .before .before .before .before .before .before .before .before .before .args in
     left-yes (listing (now (a .lines)) (now (a .tokens)) (now (a .text))) (now (a .ends)) (length (now (a .lines))) (a .r) (a .i) (a .h) (c .before .before .before .before .before .before .before .before .before .is-left .result) (c .before .before .before .before .before .before .before .before .before .is-left .ensures) _ _ _ (c .before .before .before .before .before .before .before .before .if1 .taken) (c .before .before .before .before .before .before .step .ensures) (c .before .before .past-end .ensures)
 
 returns-2 : tie.Need-returns-2
 returns-2 c =
-    let a = c .before .before .before .before .before .before .before .args in
+    let a = c .before .before .before .before .before .before .before .before .args in
     left-no (listing (now (a .lines)) (now (a .tokens)) (now (a .text))) (now (a .ends)) (length (now (a .lines))) (a .r) (a .i) (a .h) (c .before .is-left .result) (c .before .is-left .ensures) _ (c .if1 .left)
 
 pub leave-spec : {M : Type 1} → statement M

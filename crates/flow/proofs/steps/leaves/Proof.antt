@@ -21,13 +21,13 @@ same-length c = search needs
 
 returns : tie.Need-returns
 returns c =
-    let a = c .before .before .before .before .before .before .before .before .before .before .before .before .args in
-    leaves-yes (listing (now (a .lines)) (now (a .tokens)) (now (a .text))) (blocks-of (listing (now (a .lines)) (now (a .tokens)) (now (a .text)))) (now (a .ends)) (now (a .parents)) (c .before .before .before .before .before .before .before .before .before .before .before .before .pre .1 .0) (c .before .before .before .before .before .before .before .before .before .before .before .before .pre .1 .1) (a .i) (omega (arith, length-listing (now (a .lines)) (now (a .tokens)) (now (a .text)))) (length (now (a .lines))) (a .r) (c .before .before .before .before .before .leaves-block .result) (c .before .before .before .before .before .leaves-block .ensures) _ _ (c .before .before .before .before .if1 .taken) (c .before .before .leave-all .ensures)
+    let a = c .before .before .before .before .before .before .before .before .before .before .before .before .before .args in
+    leaves-yes (listing (now (a .lines)) (now (a .tokens)) (now (a .text))) (blocks-of (listing (now (a .lines)) (now (a .tokens)) (now (a .text)))) (now (a .ends)) (now (a .parents)) (c .before .before .before .before .before .before .before .before .before .before .before .before .before .pre .1 .0) (c .before .before .before .before .before .before .before .before .before .before .before .before .before .pre .1 .1) (a .i) (omega (arith, length-listing (now (a .lines)) (now (a .tokens)) (now (a .text)))) (length (now (a .lines))) (a .r) (c .before .before .before .before .before .leaves-block .result) (c .before .before .before .before .before .leaves-block .ensures) _ _ (c .before .before .before .before .if1 .taken) (c .before .before .leave-all .ensures)
 
 returns-2 : tie.Need-returns-2
 returns-2 c =
-    let a = c .before .before .before .before .before .before .before .before .args in
-    leaves-no (listing (now (a .lines)) (now (a .tokens)) (now (a .text))) (blocks-of (listing (now (a .lines)) (now (a .tokens)) (now (a .text)))) (now (a .ends)) (now (a .parents)) (c .before .before .before .before .before .before .before .before .pre .1 .0) (c .before .before .before .before .before .before .before .before .pre .1 .1) (a .i) (omega (arith, length-listing (now (a .lines)) (now (a .tokens)) (now (a .text)))) (length (now (a .lines))) (a .r) (c .before .leaves-block .result) (c .before .leaves-block .ensures) _ (c .if1 .left)
+    let a = c .before .before .before .before .before .before .before .before .before .args in
+    leaves-no (listing (now (a .lines)) (now (a .tokens)) (now (a .text))) (blocks-of (listing (now (a .lines)) (now (a .tokens)) (now (a .text)))) (now (a .ends)) (now (a .parents)) (c .before .before .before .before .before .before .before .before .before .pre .1 .0) (c .before .before .before .before .before .before .before .before .before .pre .1 .1) (a .i) (omega (arith, length-listing (now (a .lines)) (now (a .tokens)) (now (a .text)))) (length (now (a .lines))) (a .r) (c .before .leaves-block .result) (c .before .leaves-block .ensures) _ (c .if1 .left)
 
 pub leaves-spec : {M : Type 1} → statement M
 leaves-spec =

@@ -18,21 +18,21 @@ block-steps-requires c κs = search needs
 
 jumps-requires : tie.Need-jumps-requires
 jumps-requires c κs =
-    let a = c .before .before .before .before .before .before .before .before .before .before .before .before .before .args in
-    let R = c .before .before .before .before .before .before .before .before .before .before .before .before .before .pre .1 in
-    ((matrices-kept (length (now (a .lines))) (a .r) (now (a .space)) _ (c .before .before .before .before .before .before .before .before .before .before .before .before .before .pre .0 .0) (c .before .before .before .block-steps .kept .1 .1 .1 .1 .0), c .before .before .before .before .before .before .before .before .before .before .before .before .before .pre .0 .1, R .heads-room, R .nexts-room), R .labels)
+    let a = c .before .before .before .before .before .before .before .before .before .before .before .before .before .before .args in
+    let R = c .before .before .before .before .before .before .before .before .before .before .before .before .before .before .pre .1 in
+    ((matrices-kept (length (now (a .lines))) (a .r) (now (a .space)) _ (c .before .before .before .before .before .before .before .before .before .before .before .before .before .before .pre .0 .0) (c .before .before .before .block-steps .kept .1 .1 .1 .1 .1 .0), c .before .before .before .before .before .before .before .before .before .before .before .before .before .before .pre .0 .1, R .heads-room, R .nexts-room, R .masks), R .labels)
 
 leaves-requires : tie.Need-leaves-requires
 leaves-requires c κs =
-    let a = c .before .before .before .before .before .before .before .before .before .before .before .before .before .before .before .before .before .args in
-    let R = c .before .before .before .before .before .before .before .before .before .before .before .before .before .before .before .before .before .pre .1 in
-    ((matrices-kept (length (now (a .lines))) (a .r) (now (a .space)) _ (c .before .before .before .before .before .before .before .before .before .before .before .before .before .before .before .before .before .pre .0 .0) (c .before .before .before .jumps .kept .1 .1 .1 .1 .1 .0 ∙ c .before .before .before .before .before .before .before .block-steps .kept .1 .1 .1 .1 .0), c .before .before .before .before .before .before .before .before .before .before .before .before .before .before .before .before .before .pre .0 .1, R .ends-room, R .parents-room), (R .ends, R .parents))
+    let a = c .before .before .before .before .before .before .before .before .before .before .before .before .before .before .before .before .before .before .args in
+    let R = c .before .before .before .before .before .before .before .before .before .before .before .before .before .before .before .before .before .before .pre .1 in
+    ((matrices-kept (length (now (a .lines))) (a .r) (now (a .space)) _ (c .before .before .before .before .before .before .before .before .before .before .before .before .before .before .before .before .before .before .pre .0 .0) (c .before .before .before .jumps .kept .1 .1 .1 .1 .1 .1 .0 ∙ c .before .before .before .before .before .before .before .block-steps .kept .1 .1 .1 .1 .1 .0), c .before .before .before .before .before .before .before .before .before .before .before .before .before .before .before .before .before .before .pre .0 .1, R .ends-room, R .parents-room, R .masks), (R .ends, R .parents))
 
 loops-back-requires : tie.Need-loops-back-requires
 loops-back-requires c κs =
-    let a = c .before .before .before .before .before .before .before .before .before .before .before .before .before .before .before .before .before .before .before .before .before .args in
-    let R = c .before .before .before .before .before .before .before .before .before .before .before .before .before .before .before .before .before .before .before .before .before .pre .1 in
-    ((matrices-kept (length (now (a .lines))) (a .r) (now (a .space)) _ (c .before .before .before .before .before .before .before .before .before .before .before .before .before .before .before .before .before .before .before .before .before .pre .0 .0) (c .before .before .before .leaves .kept .1 .1 .1 .1 .1 .0 ∙ c .before .before .before .before .before .before .before .jumps .kept .1 .1 .1 .1 .1 .0 ∙ c .before .before .before .before .before .before .before .before .before .before .before .block-steps .kept .1 .1 .1 .1 .0), c .before .before .before .before .before .before .before .before .before .before .before .before .before .before .before .before .before .before .before .before .before .pre .0 .1, R .ends-room), R .ends)
+    let a = c .before .before .before .before .before .before .before .before .before .before .before .before .before .before .before .before .before .before .before .before .before .before .args in
+    let R = c .before .before .before .before .before .before .before .before .before .before .before .before .before .before .before .before .before .before .before .before .before .before .pre .1 in
+    ((matrices-kept (length (now (a .lines))) (a .r) (now (a .space)) _ (c .before .before .before .before .before .before .before .before .before .before .before .before .before .before .before .before .before .before .before .before .before .before .pre .0 .0) (c .before .before .before .leaves .kept .1 .1 .1 .1 .1 .1 .0 ∙ c .before .before .before .before .before .before .before .jumps .kept .1 .1 .1 .1 .1 .1 .0 ∙ c .before .before .before .before .before .before .before .before .before .before .before .block-steps .kept .1 .1 .1 .1 .1 .0), c .before .before .before .before .before .before .before .before .before .before .before .before .before .before .before .before .before .before .before .before .before .before .pre .0 .1, R .ends-room, R .masks), R .ends)
 
 same-length : tie.Need-same-length
 same-length c = search needs
@@ -40,7 +40,7 @@ same-length c = search needs
 returns : tie.Need-returns
 unfolding own
 returns c =
-    let a = c .before .before .before .before .before .before .before .before .before .before .before .before .before .before .before .before .before .before .before .before .before .before .before .before .args in
+    let a = c .before .before .before .before .before .before .before .before .before .before .before .before .before .before .before .before .before .before .before .before .before .before .before .before .before .args in
     drawn-both (length (now (a .lines))) (a .r) _ _ _ (from (a .i) (own (listing (now (a .lines)) (now (a .tokens)) (now (a .text))) (blocks-of (listing (now (a .lines)) (now (a .tokens)) (now (a .text)))) (a .i))) (back (listing (now (a .lines)) (now (a .tokens)) (now (a .text))) (blocks-of (listing (now (a .lines)) (now (a .tokens)) (now (a .text)))) (a .i))
     (steps-append (length (now (a .lines))) (a .r) (a .i) (falls (listing (now (a .lines)) (now (a .tokens)) (now (a .text))) (blocks-of (listing (now (a .lines)) (now (a .tokens)) (now (a .text)))) (a .i) ++ past-end (blocks-of (listing (now (a .lines)) (now (a .tokens)) (now (a .text)))) (a .i) ++ cases (listing (now (a .lines)) (now (a .tokens)) (now (a .text))) (blocks-of (listing (now (a .lines)) (now (a .tokens)) (now (a .text)))) (a .i) ++ jumps (listing (now (a .lines)) (now (a .tokens)) (now (a .text))) (a .i)) (leaves (listing (now (a .lines)) (now (a .tokens)) (now (a .text))) (blocks-of (listing (now (a .lines)) (now (a .tokens)) (now (a .text)))) (a .i)) _ _ _
     (steps-append (length (now (a .lines))) (a .r) (a .i) (falls (listing (now (a .lines)) (now (a .tokens)) (now (a .text))) (blocks-of (listing (now (a .lines)) (now (a .tokens)) (now (a .text)))) (a .i) ++ past-end (blocks-of (listing (now (a .lines)) (now (a .tokens)) (now (a .text)))) (a .i) ++ cases (listing (now (a .lines)) (now (a .tokens)) (now (a .text))) (blocks-of (listing (now (a .lines)) (now (a .tokens)) (now (a .text)))) (a .i)) (jumps (listing (now (a .lines)) (now (a .tokens)) (now (a .text))) (a .i)) _ _ _ (c .before .before .before .before .before .before .before .before .before .before .before .before .before .before .block-steps .ensures) (c .before .before .before .before .before .before .before .before .before .before .jumps .ensures))

@@ -3,6 +3,7 @@ use borrow.Author.Needs.{needs}
 use denote.Ref.{now}
 use lib.ListN.{getD}
 use Rattle.flow.proofs.Edges.{after-some, after-none}
+use Rattle.flow.proofs.Links.{wider}
 use Rattle.flow.proofs.steps.past_end.Statement.{statement}
 use Rattle.flow.proofs.steps.past_end.Tie as tie
 
@@ -11,6 +12,9 @@ mul-e c = search needs
 
 shared-slice-read-e : tie.Need-shared-slice-read-e
 shared-slice-read-e c = search needs
+
+cast-e : tie.Need-cast-e
+cast-e c = search (wider, needs)
 
 step-requires : tie.Need-step-requires
 step-requires c κs = search needs
@@ -30,4 +34,4 @@ returns-2 c =
 
 pub past-end-spec : {M : Type 1} → statement M
 past-end-spec =
-    tie.close (tie.spec mul-e shared-slice-read-e step-requires same-length returns returns-2)
+    tie.close (tie.spec mul-e shared-slice-read-e cast-e step-requires same-length returns returns-2)

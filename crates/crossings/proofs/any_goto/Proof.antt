@@ -1,4 +1,4 @@
--- `crossings::has_goto` meets its contract. The lines before line i have no goto. Assumes nothing.
+-- `crossings::any_goto` meets its contract. The lines before line i have no goto. Assumes nothing.
 use Prim.Native.Nat.{_-_, _≤_}
 use mathlib.Core.Path.{_≡_}
 use borrow.Author.Needs.{needs}
@@ -7,23 +7,20 @@ use Rattle.definitions.specs.Lists.{any, up-to, ascii}
 use Rattle.definitions.specs.Model.{line}
 use Rattle.definitions.specs.Statements.{has-kw}
 use Rattle.crossings.proofs.Joins.{joins, goto-in}
-use Rattle.crossings.proofs.has_goto.Statement.{statement}
-use Rattle.crossings.proofs.has_goto.Tie as tie
+use Rattle.crossings.proofs.any_goto.Statement.{statement}
+use Rattle.crossings.proofs.any_goto.Tie as tie
 
 abbrev Inv-loop : tie.InvT-loop
-Inv-loop lines tokens text n i₀ t6 i = (i ≤ n) × (any (λ i. has-kw (line (listing lines tokens text) i) (ascii "goto")) (up-to n) ≡ goto-in (listing lines tokens text) n i)
+Inv-loop lines tokens text masks n i₀ i = (i ≤ n) × (any (λ i. has-kw (line (listing lines tokens text) i) (ascii "goto")) (up-to n) ≡ goto-in (listing lines tokens text) n i)
 
 abbrev μ-loop : tie.MeasureT-loop
-μ-loop lines tokens text n i₀ t6 i = n - i
+μ-loop lines tokens text masks n i₀ i = n - i
 
 loop-holds : tie.Need-loop-holds Inv-loop μ-loop
 loop-holds c = search (joins, needs)
 
-slice-aggregate-has-kw : tie.Need-slice-aggregate-has-kw Inv-loop μ-loop
-slice-aggregate-has-kw c = search (joins, needs)
-
-has-kw-requires : tie.Need-has-kw-requires Inv-loop μ-loop
-has-kw-requires c κs = search (joins, needs)
+has-goto-requires : tie.Need-has-goto-requires Inv-loop μ-loop
+has-goto-requires c κs = search (joins, needs)
 
 returns : tie.Need-returns Inv-loop μ-loop
 returns c = search (joins, needs)
@@ -40,15 +37,14 @@ loop-again c = search (joins, needs)
 returns-2 : tie.Need-returns-2 Inv-loop μ-loop
 returns-2 c = search (joins, needs)
 
-pub has-goto-spec : {M : Type 1} → statement M
-has-goto-spec =
+pub any-goto-spec : {M : Type 1} → statement M
+any-goto-spec =
     tie.close
     (tie.spec
     Inv-loop
     μ-loop
     loop-holds
-    slice-aggregate-has-kw
-    has-kw-requires
+    has-goto-requires
     returns
     add-i
     loop-less
