@@ -2,23 +2,26 @@
 --   brace-open, brace-cancel, brace-close, brace-other    one byte
 --   bytes-next, bytes-end                                 the loop of `in_text`
 --   punct-yes, punct-no, punct-other, within-of, grown-of what a token adds, by its kind
---   rest, braces-start, braces-next, braces-end           the loop of `line_braces`
+--   rest, braces-start, braces-next, braces-end           the loop of `line_braces`, by the places of the tokens among all
+--   place-short                                           how many tokens and bytes there can be
 --   braces-within                                         with question 2's answer, the counts are no larger than the text is long
 -- Assumes nothing.
 use mathlib.Core.Path.{_≡_, refl, sym, _∙_}
 use mathlib.Core.Bool.{Bool, true, false, cond, not}
 use mathlib.Core.List.{List, [], _∷_, _++_}
-use Prim.Native.Nat.{ℕ, _+_, _-_, _≤_, _<_}
+use Prim.Native.Nat.{ℕ, _+_, _-_, _/_, _≤_, _<_}
 use native.Mathlib.Omega.{arith}
 use borrow.Author.Tests.{eq-eqb, ne-eqb, lt-ltb, le-ltb}
 use lib.Dec.{T, eqb, ltb}
 use lib.ListN.{length, getD, drop, length-append}
 use Rattle.definitions.specs.Lists.{if_then_else_, filter, fold}
 use Rattle.definitions.specs.Model.{Token, Line, no-token, text, line, Punct}
-use Rattle.definitions.specs.Columns.{listing}
+use Rattle.definitions.specs.Columns.{token-list, listing}
 use Rattle.definitions.specs.Questions.{question-2}
 use Rattle.definitions.specs.Blocks.{Braces, brace, braces}
-use Rattle.text.proofs.Parts.{drop-step, drop-end}
+use Rattle.text.proofs.Parts.{drop-step, drop-end, length-part}
+use Rattle.model.specs.Places.{token-start, line-start, line-end}
+use Rattle.model.proofs.Decode.{token-at, line-length, line-token, line-short}
 use Rattle.model.proofs.Formed.{formed-tokens, line-text}
 
 -- One byte
@@ -87,30 +90,46 @@ fold-append b (c ∷ s) t = fold-append (brace b c) s t
 unfoldable pub rest : List Token → ℕ → List ℕ
 rest ts j = text (filter (λ t. eqb (t .kind) Punct) (drop j ts))
 
-module _ (l : Line) (j n : ℕ) (b : Braces) (inv : braces l ≡ fold brace b (rest (l .tokens) j)) (e : n ≡ length (l .tokens)) where
-  pub braces-next : (d : Braces)
-      → d ≡ (if eqb (getD (l .tokens) j no-token .kind) Punct then fold brace b (getD (l .tokens) j no-token .text) else b) → j < n
-      → braces l ≡ fold brace d (rest (l .tokens) (j + 1))
-  unfolding rest filter text
-  braces-next d q h =
-      let g : j < length (l .tokens) = omega arith in
-      inv ∙ rw (drop-step no-token (l .tokens) j, q) (go (eqb (getD (l .tokens) j no-token .kind) Punct))
-    where
-      more : List Token
-      more = filter (λ t. eqb (t .kind) Punct) (drop (j + 1) (l .tokens))
-
-      go : (p : Bool) → fold brace b (text (cond p (getD (l .tokens) j no-token ∷ more) more))
-          ≡ fold brace (cond p (fold brace b (getD (l .tokens) j no-token .text)) b) (text more)
-      go true = fold-append b (getD (l .tokens) j no-token .text) (text more)
-      go false = refl
-
-  pub braces-end : n ≤ j → b ≡ braces l
-  unfolding rest filter text fold
-  braces-end h = sym (inv ∙ rw (drop-end (l .tokens) j (omega arith)))
-
-pub braces-start : (l : Line) → braces l ≡ fold brace (record { opens = 0; closes = 0 }) (rest (l .tokens) 0)
+pub braces-start : (l : Line) (s k : ℕ) → k ≡ s → braces l ≡ fold brace (record { opens = 0; closes = 0 }) (rest (l .tokens) (k - s))
 unfolding rest braces
-braces-start l = refl
+braces-start l s k h = let z : k - s ≡ 0 = omega arith in rw z
+
+-- token j more
+rest-next : (ts : List Token) (j : ℕ) (b : Braces) → j < length ts
+    → fold brace b (rest ts j) ≡ fold brace (if eqb (getD ts j no-token .kind) Punct then fold brace b (getD ts j no-token .text) else b) (rest ts (j + 1))
+unfolding rest filter text
+rest-next ts j b h = rw (drop-step no-token ts j) (go (eqb (getD ts j no-token .kind) Punct))
+  where
+    more : List Token
+    more = filter (λ t. eqb (t .kind) Punct) (drop (j + 1) ts)
+
+    go : (p : Bool) → fold brace b (text (cond p (getD ts j no-token ∷ more) more)) ≡ fold brace (cond p (fold brace b (getD ts j no-token .text)) b) (text more)
+    go true = fold-append b (getD ts j no-token .text) (text more)
+    go false = refl
+
+-- line i starts at place s of all tokens and ends before place e
+module _ (l t x : List ℕ) (i s e : ℕ) (es : s ≡ line-start l i) (ee : e ≡ line-end l t i) (k : ℕ) (g : s ≤ k) where
+  module _ (b : Braces) (inv : braces (line (listing l t x) i) ≡ fold brace b (rest (line (listing l t x) i .tokens) (k - s))) where
+    pub braces-next : (d : Braces)
+        → d ≡ (if eqb (getD (token-list t x) k no-token .kind) Punct then fold brace b (getD (token-list t x) k no-token .text) else b) → k < e
+        → braces (line (listing l t x) i) ≡ fold brace d (rest (line (listing l t x) i .tokens) (k + 1 - s))
+    braces-next d q h =
+        let y : line-start l i + (k - s) ≡ k = omega arith in
+        let z : (k - s) + 1 ≡ k + 1 - s = omega arith in
+        let w : k - s < line-end l t i - line-start l i = omega arith in
+        inv ∙ rest-next (line (listing l t x) i .tokens) (k - s) b (rw line-length w) ∙ rw (line-token l t x i (k - s) w, y, z, q)
+
+    pub braces-end : e ≤ k → b ≡ braces (line (listing l t x) i)
+    unfolding rest filter text fold
+    braces-end h = sym (inv ∙ rw (drop-end (line (listing l t x) i .tokens) (k - s) (rw line-length (omega arith))))
+
+  -- a word of 32 bits can say so many tokens and bytes
+  pub place-short : k < e → getD l i 0 < 4294967296 → ((j : ℕ) → getD t j 0 < 4294967296)
+      → (k - s ≤ 8388607) × (length (getD (token-list t x) k no-token .text) ≤ 16777215)
+  place-short h p q = (
+    omega (arith, line-short l t x i p, line-length l t x i),
+    rw (token-at t x k) (omega (arith, q k, length-part x (token-start t k) (getD t k 0 / 256))),
+  )
 
 -- How large the counts get
 

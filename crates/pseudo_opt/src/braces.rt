@@ -1,15 +1,19 @@
-// The braces of a line, in time linear in its bytes. Only braces in punct tokens count; a `}` first cancels a `{` earlier on the line.
+// The braces of a line, in one pass over the words of its tokens and the bytes of its punctuation. Only braces in punct tokens count; a `}` first cancels a `{` earlier on the line.
 //
 // Contracts cite `brace` and `braces` of Rattle.definitions.specs.Blocks.
 ghost use mathlib.Core.Path.{_≡_};
 ghost use Prim.Native.Nat.{_+_, _≤_, _<_};
 ghost use lib.Dec.{eqb};
-ghost use lib.ListN.{length};
+ghost use lib.ListN.{length, getD};
 ghost use Rattle.definitions.specs.Lists.{if_then_else_, fold};
-ghost use Rattle.definitions.specs.Model.{token, line, Punct};
-ghost use Rattle.definitions.specs.Columns.{listing};
+ghost use Rattle.definitions.specs.Model.{line, no-token, Punct};
+ghost use Rattle.definitions.specs.Columns.{token-list, listing};
 ghost use Rattle.definitions.specs.Blocks.{brace, braces};
 ghost use Rattle.pseudo_opt.specs.Braces.{counted};
+use model::columns::line_end;
+use model::columns::line_start;
+use model::columns::token_kind;
+use model::columns::token_text;
 
 // How many blocks a line opens that later lines close, and how many it closes that earlier lines opened.
 pub struct Braces {
@@ -60,25 +64,25 @@ fn in_text(s: &[u8], b: Braces) -> Braces
     r
 }
 
-// Token j of line i more: its kind decides.
-fn in_token(lines: &[u32], tokens: &[u32], text: &[u8], i: usize, j: usize, b: Braces) -> Braces
-    requires { ⌜ (let l = line (listing (now lines) (now tokens) (now text)) i in
-        b .opens + b .closes + length (token l j .text) ≤ 18446744073709551615) ⌝ }
+// Token k of all more: its kind decides.
+fn in_token(tokens: &[u32], text: &[u8], k: usize, b: Braces) -> Braces
+    requires { ⌜ (let t = getD (token-list (now tokens) (now text)) k no-token in
+        b .opens + b .closes + length (t .text) ≤ 18446744073709551615) ⌝ }
     ensures { λ r.
-        ⌜ (let l = line (listing (now (lines .entry)) (now (tokens .entry)) (now (text .entry))) i in
-        counted r ≡ (if eqb (token l j .kind) Punct then fold brace (counted b) (token l j .text) else counted b)) ⌝ }
+        ⌜ (let t = getD (token-list (now (tokens .entry)) (now (text .entry))) k no-token in
+        counted r ≡ (if eqb (t .kind) Punct then fold brace (counted b) (t .text) else counted b)) ⌝ }
     ensures { λ r.
-        ⌜ (let l = line (listing (now (lines .entry)) (now (tokens .entry)) (now (text .entry))) i in
-        r .opens + r .closes ≤ b .opens + b .closes + length (token l j .text)) ⌝ }
+        ⌜ (let t = getD (token-list (now (tokens .entry)) (now (text .entry))) k no-token in
+        r .opens + r .closes ≤ b .opens + b .closes + length (t .text)) ⌝ }
 {
-    match model::columns::kind(lines, tokens, text, i, j) {
+    match token_kind(tokens, text, k) {
         0 => b,
         1 => b,
         2 => b,
         3 => b,
         4 => b,
         5 => b,
-        6 => in_text(model::columns::text_at(lines, tokens, text, i, j), b),
+        6 => in_text(token_text(tokens, text, k), b),
         7 => b,
         _ => b,
     }
@@ -88,15 +92,16 @@ fn in_token(lines: &[u32], tokens: &[u32], text: &[u8], i: usize, j: usize, b: B
 pub fn line_braces(lines: &[u32], tokens: &[u32], text: &[u8], i: usize) -> Braces
     ensures { λ r. ⌜ counted r ≡ braces (line (listing (now (lines .entry)) (now (tokens .entry)) (now (text .entry))) i) ⌝ }
 {
-    let n = model::columns::token_count(lines, tokens, text, i);
+    let s = line_start(lines, i);
+    let e = line_end(lines, tokens, i);
     let mut b = Braces {
         opens: 0,
         closes: 0,
     };
-    let mut j = 0;
-    while j < n {
-        b = in_token(lines, tokens, text, i, j, b);
-        j += 1;
+    let mut k = s;
+    while k < e {
+        b = in_token(tokens, text, k, b);
+        k += 1;
     }
     b
 }

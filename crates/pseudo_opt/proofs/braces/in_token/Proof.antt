@@ -4,11 +4,11 @@ use Rattle.pseudo_opt.proofs.Counts.{counts}
 use Rattle.pseudo_opt.proofs.braces.in_token.Statement.{statement}
 use Rattle.pseudo_opt.proofs.braces.in_token.Tie as tie
 
-kind-requires : tie.Need-kind-requires
-kind-requires c κs = search needs
+token-kind-requires : tie.Need-token-kind-requires
+token-kind-requires c κs = search needs
 
-text-at-requires : tie.Need-text-at-requires
-text-at-requires c κs = search needs
+token-text-requires : tie.Need-token-text-requires
+token-text-requires c κs = search needs
 
 in-text-requires : tie.Need-in-text-requires
 in-text-requires c κs = search (counts, needs)
@@ -44,8 +44,8 @@ pub in-token-spec : {M : Type 1} → statement M
 in-token-spec =
     tie.close
     (tie.spec
-    kind-requires
-    text-at-requires
+    token-kind-requires
+    token-text-requires
     in-text-requires
     returns
     returns-2
