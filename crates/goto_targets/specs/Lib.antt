@@ -1,2 +1,3 @@
 pub mod Seek
 pub mod Targets
+pub mod Marks

@@ -6,7 +6,9 @@ ghost use Rattle.definitions.specs.Columns.{listing};
 ghost use Rattle.definitions.specs.Questions.{question-2};
 ghost use Rattle.plan.specs.Changes.{is-goto};
 ghost use Rattle.goto_targets.specs.Targets.{names, goes-inside};
+ghost use Rattle.goto_targets.specs.Marks.{Marked};
 use crate::headers::word_target;
+use crate::marks::silent;
 use crate::seeking::State;
 use model::columns::text_at;
 
@@ -34,12 +36,23 @@ fn any_names(lines: &[u32], tokens: &[u32], text: &[u8], labels: &[usize], s: &[
 }
 
 // The line of w has a goto to one of the labels.
-fn goes_inside(lines: &[u32], tokens: &[u32], text: &[u8], labels: &[usize], w: usize) -> bool
+fn goes_inside(
+    lines: &[u32],
+    tokens: &[u32],
+    text: &[u8],
+    labels: &[usize],
+    w: usize,
+    marks: &[u8],
+) -> bool
     requires { ⌜ (question-2 (now lines) (now tokens) (now text) ≡ true) × (is-goto w ≡ true) ⌝ }
+    requires { ⌜ Marked (now lines) (now tokens) (now text) (now marks) ⌝ }
     ensures { λ r.
         ⌜ (let C = listing (now (lines .entry)) (now (tokens .entry)) (now (text .entry)) in
         r ≡ goes-inside C (now (labels .entry)) w) ⌝ }
 {
+    if silent(marks, w) {
+        return false;
+    }
     match word_target(lines, tokens, text, w) {
         State::Looking => false,
         State::Waiting => false,
@@ -65,15 +78,17 @@ pub fn any_goes_inside(
     text: &[u8],
     labels: &[usize],
     words: &[usize],
+    marks: &[u8],
 ) -> bool
     requires { ⌜ (question-2 (now lines) (now tokens) (now text) ≡ true) × (all is-goto (now words) ≡ true) ⌝ }
+    requires { ⌜ Marked (now lines) (now tokens) (now text) (now marks) ⌝ }
     ensures { λ r.
         ⌜ (let C = listing (now (lines .entry)) (now (tokens .entry)) (now (text .entry)) in
         r ≡ any (goes-inside C (now (labels .entry))) (now (words .entry))) ⌝ }
 {
     let mut k = 0;
     while k < words.len() {
-        if goes_inside(lines, tokens, text, labels, words[k]) {
+        if goes_inside(lines, tokens, text, labels, words[k], marks) {
             return true;
         }
         k += 1;

@@ -78,14 +78,15 @@ fn seek_over(lines: &[u32], tokens: &[u32], text: &[u8], h: usize, t: usize, s: 
     s
 }
 
-fn initialiser(w: usize) -> usize
-    ensures { λ r. ⌜ r ≡ initialiser-at w ⌝ }
+// The pieces that a for header is made of.
+pub fn initialiser(w: usize) -> usize
+    ensures { λ r. ⌜ (r ≡ initialiser-at w) × (r < 4096) ⌝ }
 {
     w / 256 / 8 / 4096 / 4096 % 4096
 }
 
-fn step(w: usize) -> usize
-    ensures { λ r. ⌜ r ≡ step-at w ⌝ }
+pub fn step(w: usize) -> usize
+    ensures { λ r. ⌜ (r ≡ step-at w) × (r < 4096) ⌝ }
 {
     w / 256 / 8 / 4096 / 4096 / 4096 % 4096
 }

@@ -3,6 +3,7 @@ ghost use Prim.Native.Nat.{_<_};
 ghost use lib.ListN.{getD};
 ghost use Rattle.definitions.specs.RecoverGotoLoops.{rewritten, looped};
 ghost use Rattle.plan.specs.Plan.{indent-at};
+ghost use Rattle.goto_targets.specs.Marks.{Marked};
 ghost use Rattle.goto_turns.specs.Loops.{Labelled, Loop};
 ghost use Rattle.goto_turns.specs.Turns.{loop-at, Turn-of};
 use crate::rewriting::make_loop;
@@ -51,14 +52,16 @@ fn loop_at(
     n: usize,
     h: usize,
     b: usize,
+    marks: &[u8],
 ) -> Turn
     requires { ⌜ Labelled (now lines) (now tokens) (now text) n h (now plan) ⌝ }
     requires { ⌜ (h < b) × (b < n) × (indent-at (getD (now plan) h 0) < 255) ⌝ }
+    requires { ⌜ Marked (now lines) (now tokens) (now text) (now marks) ⌝ }
     ensures { λ r.
         ⌜ Turn-of (now (lines .entry)) (now (tokens .entry)) (now (text .entry)) (λ M. loop-at M h b) n h (now (plan .entry)) r (now (plan .exit)) ⌝ }
 {
     if h + 1 < b {
-        if enters(lines, tokens, text, plan, n, h, b) {
+        if enters(lines, tokens, text, plan, n, h, b, marks) {
             Turn::Go(n)
         } else {
             rebuild(lines, tokens, text, plan, n, h, b)
@@ -76,9 +79,11 @@ pub fn find_loop(
     plan: &mut [usize],
     n: usize,
     h: usize,
+    marks: &[u8],
 ) -> Turn
     requires { ⌜ Labelled (now lines) (now tokens) (now text) n h (now plan) ⌝ }
     requires { ⌜ indent-at (getD (now plan) h 0) < 255 ⌝ }
+    requires { ⌜ Marked (now lines) (now tokens) (now text) (now marks) ⌝ }
     ensures { λ r.
         ⌜ Turn-of (now (lines .entry)) (now (tokens .entry)) (now (text .entry)) (λ M. looped M h) n h (now (plan .entry)) r (now (plan .exit)) ⌝ }
 {
@@ -88,5 +93,5 @@ pub fn find_loop(
     let Found::At(b) = back_edge(lines, tokens, text, plan, n, h + 1, head, ind, ind + 1) else {
         return Turn::Go(n);
     };
-    loop_at(lines, tokens, text, plan, n, h, b)
+    loop_at(lines, tokens, text, plan, n, h, b, marks)
 }

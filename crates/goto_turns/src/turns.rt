@@ -10,8 +10,10 @@ ghost use Rattle.definitions.specs.RecoverGotoLoops.{goto-turn, recover-goto-lo
 ghost use Rattle.plan.specs.Changes.{Ahead};
 ghost use Rattle.plan.specs.Source.{Source};
 ghost use Rattle.loops.specs.Turns.{planned};
+ghost use Rattle.goto_targets.specs.Marks.{Marked};
 ghost use Rattle.goto_turns.specs.Turns.{Turn-of, Emitted};
 use crate::labels::find_loop;
+use goto_targets::marks::mark_lines;
 use gotos::words::label_word;
 use loops::turns::Planned;
 use plan::indent;
@@ -30,9 +32,11 @@ fn goto_turn(
     plan: &mut [usize],
     n: usize,
     h: usize,
+    marks: &[u8],
 ) -> Turn
     requires { ⌜ (h < n) × (n ≤ 1024) × (n ≤ length (now plan)) × (question-2 (now lines) (now tokens) (now text) ≡ true) ⌝ }
     requires { ⌜ Ahead h (take n (now plan)) ⌝ }
+    requires { ⌜ Marked (now lines) (now tokens) (now text) (now marks) ⌝ }
     ensures { λ r.
         ⌜ Turn-of (now (lines .entry)) (now (tokens .entry)) (now (text .entry)) (λ M. goto-turn M h) n h (now (plan .entry)) r (now (plan .exit)) ⌝ }
 {
@@ -41,14 +45,15 @@ fn goto_turn(
         if indent(v) == 255 {
             return Turn::Beyond;
         }
-        return find_loop(lines, tokens, text, plan, n, h);
+        return find_loop(lines, tokens, text, plan, n, h, marks);
     }
     Turn::Go(n)
 }
 
 // The pass, turn by turn, while two lines stand behind the line.
-pub fn plan_goto_loops(lines: &[u32], tokens: &[u32], text: &[u8], plan: &mut [usize]) -> Planned
+fn run(lines: &[u32], tokens: &[u32], text: &[u8], plan: &mut [usize], marks: &[u8]) -> Planned
     requires { ⌜ (length (now lines) ≤ 1024) × (length (now lines) ≤ length (now plan)) × (question-2 (now lines) (now tokens) (now text) ≡ true) ⌝ }
+    requires { ⌜ Marked (now lines) (now tokens) (now text) (now marks) ⌝ }
     ensures { λ r.
         ⌜ ((S : List Line) → Source S (now (lines .entry)) (now (tokens .entry)) (now (text .entry)) → planned S (now (plan .exit)) r ≡ recover-goto-loops S) ⌝ }
     ensures { λ r. ⌜ Emitted (length (now (lines .entry))) (now (plan .exit)) r ⌝ }
@@ -57,7 +62,7 @@ pub fn plan_goto_loops(lines: &[u32], tokens: &[u32], text: &[u8], plan: &mut [u
     let mut n = lines.len();
     let mut h = 0;
     while h + 2 < n {
-        match goto_turn(lines, tokens, text, plan, n, h) {
+        match goto_turn(lines, tokens, text, plan, n, h, marks) {
             Turn::Go(m) => {
                 n = m;
             }
@@ -66,4 +71,16 @@ pub fn plan_goto_loops(lines: &[u32], tokens: &[u32], text: &[u8], plan: &mut [u
         h += 1;
     }
     Planned::Lines(n)
+}
+
+// The pass: a mark for each line, by which the turns pass over those without a goto, then the turns.
+pub fn plan_goto_loops(lines: &[u32], tokens: &[u32], text: &[u8], plan: &mut [usize]) -> Planned
+    requires { ⌜ (length (now lines) ≤ 1024) × (length (now lines) ≤ length (now plan)) × (question-2 (now lines) (now tokens) (now text) ≡ true) ⌝ }
+    ensures { λ r.
+        ⌜ ((S : List Line) → Source S (now (lines .entry)) (now (tokens .entry)) (now (text .entry)) → planned S (now (plan .exit)) r ≡ recover-goto-loops S) ⌝ }
+    ensures { λ r. ⌜ Emitted (length (now (lines .entry))) (now (plan .exit)) r ⌝ }
+{
+    let mut marks = [0u8; 1024];
+    mark_lines(lines, tokens, text, &mut marks);
+    run(lines, tokens, text, plan, &marks)
 }

@@ -12,10 +12,10 @@ use Rattle.goto_targets.proofs.entering.any_goes_inside.Statement.{stat
 use Rattle.goto_targets.proofs.entering.any_goes_inside.Tie as tie
 
 abbrev Inv-loop : tie.InvT-loop
-Inv-loop lines tokens text labels words k₀ k = any (goes-inside (listing lines tokens text) labels) words ≡ any (goes-inside (listing lines tokens text) labels) (drop k words)
+Inv-loop lines tokens text labels words marks k₀ k = any (goes-inside (listing lines tokens text) labels) words ≡ any (goes-inside (listing lines tokens text) labels) (drop k words)
 
 abbrev μ-loop : tie.MeasureT-loop
-μ-loop lines tokens text labels words k₀ k = length words - k
+μ-loop lines tokens text labels words marks k₀ k = length words - k
 
 loop-holds : tie.Need-loop-holds Inv-loop μ-loop
 loop-holds c = search (scans, needs)

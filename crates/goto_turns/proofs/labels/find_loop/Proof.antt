@@ -39,16 +39,16 @@ same-length : tie.Need-same-length
 same-length c = search needs
 
 returns : tie.Need-returns
-returns c = find-none _ _ _ _ _ _ (c .before .before .before .before .before .before .before .before .before .before .before .before .pre .0) _ (c .before .before .before .before .before .before .source .ensures) _ (c .before .before .before .before .before .text-at .ensures) _ (c .before .before .before .before .indent .ensures .0) _ (c .before .before .back-edge .ensures) (c .enum-told .given .1)
+returns c = find-none _ _ _ _ _ _ (c .before .before .before .before .before .before .before .before .before .before .before .before .before .pre .0) _ (c .before .before .before .before .before .before .source .ensures) _ (c .before .before .before .before .before .text-at .ensures) _ (c .before .before .before .before .indent .ensures .0) _ (c .before .before .back-edge .ensures) (c .enum-told .given .1)
 
 loop-at-requires : tie.Need-loop-at-requires
-loop-at-requires c κs = let p = c .before .before .before .before .before .before .before .before .before .before .before .before .before .before .pre in let z = find-inside _ _ _ _ _ _ (p .0) _ (c .before .before .before .before .before .before .before .before .source .ensures) _ (c .before .before .before .before .before .before .before .text-at .ensures) _ (c .before .before .before .before .before .before .indent .ensures .0) _ (c .before .before .before .before .back-edge .ensures) _ (c .before .before .b .given .1) in (p .0, (z .0, z .1, p .1))
+loop-at-requires c κs = let p = c .before .before .before .before .before .before .before .before .before .before .before .before .before .before .before .pre in let z = find-inside _ _ _ _ _ _ (p .0) _ (c .before .before .before .before .before .before .before .before .source .ensures) _ (c .before .before .before .before .before .before .before .text-at .ensures) _ (c .before .before .before .before .before .before .indent .ensures .0) _ (c .before .before .before .before .back-edge .ensures) _ (c .before .before .b .given .1) in (p .0, ((z .0, z .1, p .1 .0), p .1 .1))
 
 same-length-2 : tie.Need-same-length-2
 same-length-2 c = search needs
 
 returns-2 : tie.Need-returns-2
-returns-2 c = find-at _ _ _ _ _ _ (c .before .before .before .before .before .before .before .before .before .before .before .before .before .before .before .before .before .pre .0) _ (c .before .before .before .before .before .before .before .before .before .before .before .source .ensures) _ (c .before .before .before .before .before .before .before .before .before .before .text-at .ensures) _ (c .before .before .before .before .before .before .before .before .before .indent .ensures .0) _ (c .before .before .before .before .before .before .before .back-edge .ensures) _ (c .before .before .before .before .before .b .given .1) _ _ (c .before .before .loop-at .ensures)
+returns-2 c = find-at _ _ _ _ _ _ (c .before .before .before .before .before .before .before .before .before .before .before .before .before .before .before .before .before .before .pre .0) _ (c .before .before .before .before .before .before .before .before .before .before .before .source .ensures) _ (c .before .before .before .before .before .before .before .before .before .before .text-at .ensures) _ (c .before .before .before .before .before .before .before .before .before .indent .ensures .0) _ (c .before .before .before .before .before .before .before .back-edge .ensures) _ (c .before .before .before .before .before .b .given .1) _ _ (c .before .before .loop-at .ensures)
 
 pub find-loop-spec : {M : Type 1} → statement M
 find-loop-spec =

@@ -18,19 +18,19 @@ indent-requires : tie.Need-indent-requires
 indent-requires c κs = search needs
 
 returns : tie.Need-returns
-returns c = let p = c .before .before .before .before .before .before .before .before .before .pre in turn-beyond _ _ _ _ _ _ (p .0 .0) (p .0 .2) (p .1) _ (c .before .before .before .label-word .ensures) (c .before .before .if1 .taken) _ (c .before .indent .ensures .0) (c .if2 .taken) _
+returns c = let p = c .before .before .before .before .before .before .before .before .before .before .pre in turn-beyond _ _ _ _ _ _ (p .0 .0) (p .0 .2) (p .1 .0) _ (c .before .before .before .label-word .ensures) (c .before .before .if1 .taken) _ (c .before .indent .ensures .0) (c .if2 .taken) _
 
 find-loop-requires : tie.Need-find-loop-requires
-find-loop-requires c κs = let p = c .before .before .before .before .before .before .before .before .before .before .pre in turn-calls _ _ _ _ _ _ (p .0 .0) (p .0 .2) (p .1) _ (c .before .before .before .before .label-word .ensures) (c .before .before .before .if1 .taken) _ (c .before .before .indent .ensures .0) (c .before .if2 .left) (p .0 .1) (p .0 .3)
+find-loop-requires c κs = let p = c .before .before .before .before .before .before .before .before .before .before .before .pre in let z = turn-calls _ _ _ _ _ _ (p .0 .0) (p .0 .2) (p .1 .0) _ (c .before .before .before .before .label-word .ensures) (c .before .before .before .if1 .taken) _ (c .before .before .indent .ensures .0) (c .before .if2 .left) (p .0 .1) (p .0 .3) in (z .0, (z .1, p .1 .1))
 
 same-length : tie.Need-same-length
 same-length c = search needs
 
 returns-2 : tie.Need-returns-2
-returns-2 c = let p = c .before .before .before .before .before .before .before .before .before .before .before .before .before .pre in turn-loop _ _ _ _ _ _ (p .0 .0) (p .0 .2) (p .1) _ (c .before .before .before .before .before .before .before .label-word .ensures) (c .before .before .before .before .before .before .if1 .taken) _ (c .before .before .before .before .before .indent .ensures .0) (c .before .before .before .before .if2 .left) _ _ (c .before .before .find-loop .ensures)
+returns-2 c = let p = c .before .before .before .before .before .before .before .before .before .before .before .before .before .before .pre in turn-loop _ _ _ _ _ _ (p .0 .0) (p .0 .2) (p .1 .0) _ (c .before .before .before .before .before .before .before .label-word .ensures) (c .before .before .before .before .before .before .if1 .taken) _ (c .before .before .before .before .before .indent .ensures .0) (c .before .before .before .before .if2 .left) _ _ (c .before .before .find-loop .ensures)
 
 returns-3 : tie.Need-returns-3
-returns-3 c = let p = c .before .before .before .before .before .before .before .pre in turn-plain _ _ _ _ _ _ (p .0 .0) (p .0 .2) (p .1) _ (c .before .label-word .ensures) (c .if1 .left)
+returns-3 c = let p = c .before .before .before .before .before .before .before .before .pre in turn-plain _ _ _ _ _ _ (p .0 .0) (p .0 .2) (p .1 .0) _ (c .before .label-word .ensures) (c .if1 .left)
 
 pub goto-turn-spec : {M : Type 1} → statement M
 goto-turn-spec =

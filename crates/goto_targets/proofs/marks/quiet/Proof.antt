@@ -1,0 +1,21 @@
+-- `goto_targets::marks::quiet` meets its contract. By its tests.
+-- Assumes nothing.
+use Rattle.text.proofs.Bools.{bools}
+use Rattle.goto_targets.specs.Marks.{quiet}
+use borrow.Author.Needs.{needs}
+use Rattle.goto_targets.proofs.marks.quiet.Statement.{statement}
+use Rattle.goto_targets.proofs.marks.quiet.Tie as tie
+
+shared-slice-read-m : tie.Need-shared-slice-read-m
+shared-slice-read-m c = search needs
+
+returns : tie.Need-returns
+unfolding quiet
+returns c = search (bools, needs)
+
+returns-2 : tie.Need-returns-2
+unfolding quiet
+returns-2 c = search (bools, needs)
+
+pub quiet-spec : {M : Type 1} → statement M
+quiet-spec = tie.close (tie.spec shared-slice-read-m returns returns-2)
