@@ -65,7 +65,7 @@ pub font-is : (c : ℕ) → ascii "<font color=\"0." ++ (hue c ++ ascii " 0.9 0.
 unfolding font
 font-is c = refl
 
-pub below-is : (w w′ : ℕ) → w′ ≡ w → ascii "<sub>" ++ (decimal w′ ++ ascii "</sub></font>") ≡ below w
+pub below-is : (w w′ : ℕ) → w′ ≡ w → ascii "<sub><font point-size=\"8\">" ++ (decimal w′ ++ ascii "</font></sub></font>") ≡ below w
 unfolding below
 below-is w w′ p = rw p
 

@@ -5,3 +5,4 @@ mod EdgeRules
 mod NodeRules
 mod WidthRules
 mod Pictures
+pub mod Colours

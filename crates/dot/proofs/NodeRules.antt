@@ -4,12 +4,12 @@
 --   head-is, number-is, cell-is, start-is     what stands before the text
 --   line-is, node-is                          the text, and the whole
 -- Assumes nothing.
-use Prim.Native.Nat.{ℕ, _+_, _≤_, _<_}
+use Prim.Native.Nat.{ℕ, _≤_, _<_}
 use mathlib.Core.Path.{_≡_, refl, _∙_}
 use mathlib.Core.Bool.{Bool, true, false}
 use mathlib.Core.List.{List, _++_}
 use native.Mathlib.Omega.{arith}
-use lib.ListN.{length, getD}
+use lib.ListN.{getD}
 use Rattle.definitions.specs.Lists.{ascii}
 use Rattle.definitions.specs.Model.{Token, no-token, line}
 use Rattle.definitions.specs.Columns.{token-list, listing}

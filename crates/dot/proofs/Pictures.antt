@@ -7,21 +7,21 @@
 --   dot-drawn        the flow graph is drawn
 --   dot-none         there is none
 -- Assumes nothing.
-use Prim.Native.Nat.{ℕ, _+_, _*_, _-_, _/_, _≤_, _<_}
+use Prim.Native.Nat.{ℕ, _+_, _*_, _-_, _<_}
 use mathlib.Core.Path.{_≡_, refl, sym, ap, _∙_}
 use mathlib.Core.Bool.{Bool, true, false, not}
 use mathlib.Core.List.{List, [], _++_, map}
 use mathlib.Core.Option.{Option, none, some}
 use native.Mathlib.Omega.{arith}
-use lib.ListN.{length, getD}
+use lib.ListN.{length}
 use lib.Seq.{length-take-le}
-use Rattle.definitions.specs.Lists.{if_then_else_, _>>=_, require, is-some, range, up-to, ascii}
+use Rattle.definitions.specs.Lists.{if_then_else_, _>>=_, require, is-some, up-to, ascii}
 use Rattle.definitions.specs.Model.{Token, Line, line}
 use Rattle.definitions.specs.Columns.{token-list, listing, all-tokens}
 use Rattle.definitions.specs.Questions.{covers}
 use Rattle.definitions.specs.Blocks.{Blocks, blocks}
 use Rattle.definitions.specs.FlowGraph.{successors, gotos-lead, flow-graph, steps}
-use Rattle.model.specs.Places.{line-start, line-end}
+use Rattle.model.specs.Places.{line-start}
 use Rattle.model.proofs.Decode.{length-listing, length-tokens, line-length}
 use Rattle.model.proofs.Formed.{line-order, line-within, tokens-before, all-tokens-listing}
 use Rattle.bits.specs.Edges.{succs, Agree}
@@ -29,9 +29,8 @@ use Rattle.flow.specs.Graph.{Graph, flow-refusal, refused}
 use Rattle.flow.specs.declared.graph.Flow.{Flow}
 use Rattle.flow.specs.declared.graph.Flow.the-variants.{Drawn, UnmatchedBrace, UnknownLabel}
 use Rattle.json_append.specs.Appended.{Appended}
-use Rattle.json_append.proofs.Appends.{append-as}
 use Rattle.rows.specs.Rows.{rows}
-use Rattle.dot.specs.Dot.{token-text, line-text, token-cells, cells, greatest, sum, node-text, start, width, node, edge, edges, settings, drawn, dot-text}
+use Rattle.dot.specs.Dot.{line-text, cells, greatest, start, width, node, edge, edges, settings, drawn, dot-text}
 use Rattle.dot.specs.Held.{Ready, line-cells, widest, line-at, node-at, nodes-at, picture}
 use Rattle.dot.proofs.Runs.{map-range, rows-same}
 

@@ -9,7 +9,7 @@
 --   Ranking, ranking-start, -next, -end       a loop that ranks the tokens
 -- Assumes nothing.
 use Prim.Native.Nat.{ℕ, suc, _+_, _-_, _≤_, _<_}
-use mathlib.Core.Path.{_≡_, refl, sym, _∙_}
+use mathlib.Core.Path.{_≡_, refl, _∙_}
 use mathlib.Core.Bool.{Bool, true, false, not}
 use mathlib.Core.List.{List}
 use native.Mathlib.Decide.{ℕ-discrete}

@@ -5,15 +5,15 @@
 --   greater-yes, greater-no                          the greater of two numbers
 --   Measuring, measuring-start, -next, -end          a loop over the lines
 -- Assumes nothing.
-use Prim.Native.Nat.{ℕ, suc, _+_, _*_, _-_, _/_, _%_, _≤_, _<_, max}
-use mathlib.Core.Path.{_≡_, refl, sym, ap, _∙_}
+use Prim.Native.Nat.{ℕ, suc, _+_, _*_, _-_, _/_, _≤_, _<_, max}
+use mathlib.Core.Path.{_≡_, ap}
 use mathlib.Core.Bool.{Bool, true, false}
-use mathlib.Core.List.{List, [], _∷_, map}
+use mathlib.Core.List.{List, map}
 use native.Mathlib.Numerals.{add-one}
 use native.Mathlib.Omega.{arith}
 use lib.ListN.{length, getD}
-use Rattle.definitions.specs.Lists.{range, up-to, part}
-use Rattle.definitions.specs.Model.{Token, no-token, line}
+use Rattle.definitions.specs.Lists.{range}
+use Rattle.definitions.specs.Model.{no-token, line}
 use Rattle.definitions.specs.Columns.{token-list, listing}
 use Rattle.model.specs.Places.{token-start, line-start, line-end}
 use Rattle.model.proofs.Decode.{token-at, line-at}

@@ -23,7 +23,7 @@
 --   dot-text L N                   the picture
 -- Assumes nothing.
 use Prim.Native.Nat.{ℕ, zero, suc, _+_, _*_, _-_, _/_, _%_, max}
-use mathlib.Core.Bool.{Bool, true, false, _&&_, not}
+use mathlib.Core.Bool.{Bool, _&&_, not}
 use mathlib.Core.List.{List, [], _∷_, _++_, map}
 use mathlib.Core.Option.{Option, none, some}
 use lib.Dec.{eqb, leb, ltb}
@@ -66,7 +66,7 @@ unfoldable pub blanks : ℕ → List ℕ
 blanks d = rows (λ i. ascii "&nbsp;&nbsp;&nbsp;&nbsp;") 0 d
 
 unfoldable pub below : ℕ → List ℕ
-below w = ascii "<sub>" ++ (decimal w ++ ascii "</sub></font>")
+below w = ascii "<sub><font point-size=\"8\">" ++ (decimal w ++ ascii "</font></sub></font>")
 
 unfoldable pub web-text : ℕ → List ℕ → ℕ → List ℕ
 web-text c s w = font c ++ (characters s ++ below w)
@@ -164,7 +164,7 @@ edges f n = rows (λ i. rows (λ j. edge (f i j) i j) 0 n) 0 n
 -- The picture
 
 abbrev pub settings : List ℕ
-settings = ascii "digraph {\n  ranksep=0.1\n  nodesep=0.15\n  node [shape=box margin=0 height=0 color=gray80 fontname=Courier fontsize=10]\n  edge [color=gray30 arrowsize=0.5]\n"
+settings = ascii "digraph flow {\n  ranksep=0.1\n  nodesep=0.15\n  node [shape=box margin=0 height=0 color=gray80 fontname=Courier fontsize=10]\n  edge [color=gray30 arrowsize=0.5]\n"
 
 unfoldable pub drawn : List Line → List ℕ → Option (List (List ℕ)) → List ℕ
 drawn L N none = []

@@ -97,9 +97,9 @@ fn put_font(out: &mut [u8], at: usize, c: usize) -> usize
 fn put_below(out: &mut [u8], at: usize, w: usize) -> usize
     ensures { λ e. ⌜ Appended (now (out .entry)) at (below w) (now (out .exit)) e ⌝ }
 {
-    let a = put(out, at, b"<sub>");
+    let a = put(out, at, b"<sub><font point-size=\"8\">");
     let b = put_decimal(out, a, wide(w));
-    put(out, b, b"</sub></font>")
+    put(out, b, b"</font></sub></font>")
 }
 
 // The text s in colour c, with the web's number w.

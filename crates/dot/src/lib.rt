@@ -74,7 +74,7 @@ fn put_picture(
     let a = put(
         out,
         0,
-        b"digraph {\n  ranksep=0.1\n  nodesep=0.15\n  node [shape=box margin=0 height=0 color=gray80 fontname=Courier fontsize=10]\n  edge [color=gray30 arrowsize=0.5]\n",
+        b"digraph flow {\n  ranksep=0.1\n  nodesep=0.15\n  node [shape=box margin=0 height=0 color=gray80 fontname=Courier fontsize=10]\n  edge [color=gray30 arrowsize=0.5]\n",
     );
     let b = put_lines(out, a, lines, tokens, text, numbers, ranks);
     put_end(out, b, space, lines.len())
