@@ -95,7 +95,7 @@ module _ (s : List ℕ) (n : ℕ) (e : n ≡ number-end s) where
       go false q = rw q
 
   module _ (h : 1 < n) where
-    flag : is-numbered s ≡ true
+    pub flag : is-numbered s ≡ true
     flag = sym is-numbered-by ∙ lt-ltb 1 n h
 
     starts : starts-with (ascii "r") s ≡ true
@@ -119,14 +119,14 @@ module _ (s : List ℕ) (n : ℕ) (e : n ≡ number-end s) where
     pub other-numbered : (r : Register) → family-of s r ≡ numbered-family s → family-of s r ≡ rest-family s
     other-numbered r g = rw flag g
 
-  module _ (h : n ≤ 1) (v : Bool) (p : v ≡ starts-with (ascii "var_") s) where
-    no-flag : is-numbered s ≡ false
-    no-flag = sym is-numbered-by ∙ le-ltb 1 n h
+  pub no-flag : n ≤ 1 → is-numbered s ≡ false
+  no-flag h = sym is-numbered-by ∙ le-ltb 1 n h
 
-    pub other-var : v ≡ true → some (record { name = s; width = 64 }) ≡ rest-family s
-    other-var g = rw (no-flag, ← p, g)
+module _ (s : List ℕ) (f : is-numbered s ≡ false) (v : Bool) (p : v ≡ starts-with (ascii "var_") s) where
+  pub other-var : v ≡ true → some (record { name = s; width = 64 }) ≡ rest-family s
+  other-var g = rw (f, ← p, g)
 
-    pub other-none : v ≡ false → none ≡ rest-family s
-    other-none g = rw (no-flag, ← p, g)
+  pub other-none : v ≡ false → none ≡ rest-family s
+  other-none g = rw (f, ← p, g)
 
-pub ruleset digit-rules = (digits-low, digits-high, digits-next, digits-end, numbered-some, numbered-none, other-numbered, other-var, other-none)
+pub ruleset digit-rules = (digits-low, digits-high, digits-next, digits-end, numbered-some, numbered-none, no-flag, other-var, other-none)

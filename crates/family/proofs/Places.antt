@@ -1,9 +1,10 @@
 -- What the place of a text among the names says of its family.
 --   family-row, family-high    a name of the table: the family and the width by its place
 --   family-other               no name of the table
+--   family-numbered            a numbered name is none of the table
 -- Assumes nothing.
 use mathlib.Core.Path.{_≡_, refl, sym, ap, _∙_}
-use mathlib.Core.Bool.{Bool, true, false, _&&_, _||_, cond}
+use mathlib.Core.Bool.{Bool, true, false, _&&_, _||_, not, cond}
 use mathlib.Core.List.{List, [], _∷_, _++_}
 use mathlib.Core.Option.{Option, none, some, Option·map}
 use Prim.Native.Nat.{ℕ, suc, _+_, _-_, _/_, _%_, _≤_, _<_}
@@ -12,12 +13,13 @@ use lib.Dec.{eqb}
 use borrow.Author.Tests.{eqb-true, lt-ltb, le-ltb}
 use lib.ListN.{getD}
 use Rattle.definitions.specs.Lists.{_==_, all, range, up-to, position, concat, ascii, take-while, starts-with}
-use Rattle.definitions.specs.Family.{Family, legacy, widths, legacy-family, is-high, other-family, suffix-width, family}
+use Rattle.definitions.specs.Family.{Family, legacy, widths, legacy-family, is-high, other-family, suffix-width, is-numbered, numbered-family, family}
 use Rattle.text.proofs.Texts.{==-eq}
 use Rattle.family.specs.declared.Register.{Register}
 use Rattle.family.specs.declared.Register.the-variants.{Legacy}
-use Rattle.family.specs.Register.{all-names, name-at, found, family-of, rest-family}
-use Rattle.family.proofs.Table.{below, position-at}
+use Rattle.family.specs.Register.{all-names, name-at, number-end, found, family-of, rest-family}
+use Rattle.family.proofs.Table.{below, position-at, name-count}
+use Rattle.family.proofs.Digits.{flag, other-numbered}
 
 -- A name of the table
 
@@ -118,4 +120,24 @@ family-other s p e h r q =
     let y = none-append (s ==_) (concat legacy) (ascii "ah" ∷ ascii "bh" ∷ ascii "ch" ∷ ascii "dh" ∷ []) z in
     q ∙ sym (family-rest s (legacy-none s legacy (y .0)) (high-none s (y .1)))
 
-pub ruleset place-rules = (family-row, family-high, family-other)
+not-numbered : (p : ℕ) → p < 36 → is-numbered (name-at p) ≡ false
+unfolding all range _==_ concat legacy all-names starts-with take-while
+not-numbered p h = go (is-numbered (name-at p)) (below (λ p. not (is-numbered (name-at p))) 36 p refl h)
+  where
+    go : (b : Bool) → not b ≡ true → b ≡ false
+    go true e = sym e
+    go false e = refl
+
+pub family-numbered : (s : List ℕ) (n : ℕ) → n ≡ number-end s → 1 < n → (r : Register) → family-of s r ≡ numbered-family s → family-of s r ≡ family s
+family-numbered s n e h r q = family-other s 36 (go (position (s ==_) all-names) refl) (omega arith) r (other-numbered s n e h r q)
+  where
+    go : (o : Option ℕ) → position (s ==_) all-names ≡ o → none ≡ o
+    go none f = refl
+    go (some k) f =
+        let y = position-at (s ==_) [] all-names k f in
+        let same : s ≡ name-at k = ==-eq s (name-at k) (y .1) in
+        let z : true ≡ false = sym (flag s n e h) ∙ ap is-numbered same ∙ not-numbered k (omega (arith, name-count)) in
+        let x : _≡_ {A = ℕ} 0 1 = cc in
+        absurd (omega arith)
+
+pub ruleset place-rules = (family-row, family-high, family-other, family-numbered)

@@ -161,7 +161,7 @@ own-place : (p : ℕ) → p < 36 → some p ≡ position (name-at p ==_) all-nam
 unfolding all range _==_ concat legacy all-names position is-some-of
 own-place p h = some-of (position (name-at p ==_) all-names) p (below (λ p. is-some-of (position (name-at p ==_) all-names) p) 36 p refl h)
 
-name-count : length all-names ≡ 36
+pub name-count : length all-names ≡ 36
 unfolding concat legacy all-names
 name-count = refl
 

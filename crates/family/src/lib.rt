@@ -5,12 +5,13 @@
 // at most one name. Contracts cite `family`, `fam-of` and `names` of Rattle.definitions.specs.Family; `family-of` of this crate's specs/ says which family
 // an answer gives a text.
 ghost use mathlib.Core.Path.{_≡_};
+ghost use mathlib.Core.Bool.{false};
 ghost use mathlib.Core.List.{[], _∷_};
 ghost use Prim.Native.Nat.{ℕ, _+_, _<_};
 ghost use lib.ListN.{getD, drop};
 ghost use Rattle.definitions.specs.Lists.{_==_, position};
 ghost use Rattle.definitions.specs.Model.{tok};
-ghost use Rattle.definitions.specs.Family.{suffix-width, numbered-family, family, fam-of};
+ghost use Rattle.definitions.specs.Family.{suffix-width, is-numbered, numbered-family, family, fam-of};
 ghost use Rattle.family.specs.Register.{letters, all-names, name-at, hash, found, digit-count, number-end, above-zero, family-of, rest-family, row, row-name, own-name, same-name, names-family, is-rsp, is-var-family, is-wide};
 
 pub enum Register {
@@ -194,18 +195,31 @@ fn numbered(s: &[u8], n: usize) -> Register
     Register::Numbered(n, w)
 }
 
-// A name that is not in the table.
+// A name that is neither numbered nor in the table.
 fn other(s: &[u8]) -> Register
+    requires { ⌜ is-numbered (now s) ≡ false ⌝ }
     ensures { λ r. ⌜ family-of (now (s .entry)) r ≡ rest-family (now (s .entry)) ⌝ }
 {
-    let n = number_end(s);
-    if 1 < n {
-        return numbered(s, n);
-    }
     if text::starts_with(s, b"var_") {
         return Register::Var;
     }
     Register::Nothing
+}
+
+// A name that is not numbered.
+fn named(s: &[u8]) -> Register
+    requires { ⌜ is-numbered (now s) ≡ false ⌝ }
+    ensures { λ r. ⌜ family-of (now (s .entry)) r ≡ family (now (s .entry)) ⌝ }
+{
+    let p = place(s);
+    if p < 32 {
+        let w = wide(WIDTHS[p % 4]);
+        return Register::Legacy(p / 4, w);
+    }
+    if p < 36 {
+        return Register::Legacy(p - 32, 8);
+    }
+    other(s)
 }
 
 // Where the family's name stands: its row of the table; 8, in the text; 9, nowhere.
@@ -220,19 +234,15 @@ fn row(r: Register) -> usize
     }
 }
 
-// The family and the width of the register named s.
+// The family and the width of the register named s. No name of the table has a digit behind an `r`, so digits are looked for first.
 pub fn family(s: &[u8]) -> Register
     ensures { λ r. ⌜ family-of (now (s .entry)) r ≡ family (now (s .entry)) ⌝ }
 {
-    let p = place(s);
-    if p < 32 {
-        let w = wide(WIDTHS[p % 4]);
-        return Register::Legacy(p / 4, w);
+    let n = number_end(s);
+    if 1 < n {
+        return numbered(s, n);
     }
-    if p < 36 {
-        return Register::Legacy(p - 32, 8);
-    }
-    other(s)
+    named(s)
 }
 
 // The same of a register token.

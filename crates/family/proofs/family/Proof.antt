@@ -1,39 +1,26 @@
 -- `family::family` meets its contract.
 -- Assumes nothing.
+use Rattle.family.proofs.Digits.{digit-rules}
 use Rattle.family.proofs.Places.{place-rules}
 use borrow.Author.Needs.{needs}
 use Rattle.family.proofs.family.Statement.{statement}
 use Rattle.family.proofs.family.Tie as tie
 
-place-requires : tie.Need-place-requires
-place-requires c κs = search needs
+number-end-requires : tie.Need-number-end-requires
+number-end-requires c κs = search (digit-rules, place-rules, needs)
 
-array-read-wide : tie.Need-array-read-wide
-array-read-wide c = search needs
-
-wide-requires : tie.Need-wide-requires
-wide-requires c κs = search needs
+numbered-requires : tie.Need-numbered-requires
+numbered-requires c κs = search (digit-rules, place-rules, needs)
 
 returns : tie.Need-returns
-returns c = search (place-rules, needs)
+returns c = search (digit-rules, place-rules, needs)
+
+named-requires : tie.Need-named-requires
+named-requires c κs = search (digit-rules, place-rules, needs)
 
 returns-2 : tie.Need-returns-2
-returns-2 c = search (place-rules, needs)
-
-other-requires : tie.Need-other-requires
-other-requires c κs = search needs
-
-returns-3 : tie.Need-returns-3
-returns-3 c = search (place-rules, needs)
+returns-2 c = search (digit-rules, place-rules, needs)
 
 pub family-spec : {M : Type 1} → statement M
 family-spec =
-    tie.close
-    (tie.spec
-    place-requires
-    array-read-wide
-    wide-requires
-    returns
-    returns-2
-    other-requires
-    returns-3)
+    tie.close (tie.spec number-end-requires numbered-requires returns named-requires returns-2)
