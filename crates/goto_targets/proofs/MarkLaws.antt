@@ -13,7 +13,7 @@ use mathlib.Core.Option.{Option, none, some, Option·map}
 use Prim.Native.Nat.{ℕ, suc, _-_, _/_, _%_, _≤_, _<_}
 use native.Mathlib.Decide.{decLe, decLt}
 use native.Mathlib.Omega.{arith}
-use borrow.Author.Tests.{eq-eqb, ne-eqb, eqb-true}
+use borrow.Author.Tests.{eq-eqb, ne-eqb}
 use lib.Dec.{eqb, leb, ltb}
 use lib.ListN.{length, getD, take, drop, take-append-drop}
 use Rattle.definitions.specs.Lists.{or-else, require, any, all, position, take-while, first, last, part, contains, on-first, on-last, _==_, starts-with, ends-with, ascii}
@@ -189,18 +189,35 @@ module _ (l t x ms : List ℕ) (M : Marked l t x ms) (p : ℕ) where
       (here (λ us. all clean (before us) ≡ true) (unfold take-while in refl) (λ f. clean-before ts (subst (λ m. ltb m 2 ≡ true) f q))))
       (rw e)
 
-  pub quiet-clean : quiet ms p ≡ true → all clean (piece C p .tokens) ≡ true
+  abbrev m : ℕ
+  m = getD ms (p / 4) 0
+
+  quiet-marks : quiet ms p ≡ true → (p % 4 ≡ 0 → m ≡ 0) × (ltb m 2 ≡ true)
   unfolding quiet
+  quiet-marks q = go (decLe m 0)
+    where
+      rest : (m ≡ 0 → ⊥) → cond (eqb (p % 4) 0) false (ltb m 2) ≡ true
+      rest h = rw (ne-eqb m 0 h) at q
+
+      go : Dec (m ≤ 0) → (p % 4 ≡ 0 → m ≡ 0) × (ltb m 2 ≡ true)
+      go (yes h) = let z : m ≡ 0 = omega arith in (λ _. z, rw z)
+      go (no h) =
+          let n : p % 4 ≡ 0 → ⊥ = λ e. true-false (rest (λ e. h (omega arith))) (rw (eq-eqb (p % 4) 0 e)) in
+          (λ e. absurd (n e), rw (ne-eqb (p % 4) 0 n) at (rest (λ e. h (omega arith))))
+
+  pub quiet-clean : quiet ms p ≡ true → all clean (piece C p .tokens) ≡ true
   quiet-clean q = go (decLe (p % 4) 0)
     where
-      later : (p % 4 ≡ 0 → ⊥) → Dec (p % 4 ≤ 1) → Dec (p % 4 ≤ 2) → ltb (getD ms (p / 4) 0) 2 ≡ true → all clean (piece C p .tokens) ≡ true
-      later a (yes h) d q = rw (continued-piece C p (omega arith)) (cut-clean q (ascii "continue") (unfold any in refl))
-      later a (no h) (yes g) q = rw (broken-piece C p (omega arith)) (cut-clean q (ascii "break") (unfold any in refl))
-      later a (no h) (no g) q = rw (closed-piece C p a (λ e. h (omega arith)) (λ e. g (omega arith))) (unfold all in refl)
+      cut : ltb m 2 ≡ true
+      cut = quiet-marks q .1
+
+      later : (p % 4 ≡ 0 → ⊥) → Dec (p % 4 ≤ 1) → Dec (p % 4 ≤ 2) → all clean (piece C p .tokens) ≡ true
+      later a (yes h) d = rw (continued-piece C p (omega arith)) (cut-clean cut (ascii "continue") (unfold any in refl))
+      later a (no h) (yes g) = rw (broken-piece C p (omega arith)) (cut-clean cut (ascii "break") (unfold any in refl))
+      later a (no h) (no g) = rw (closed-piece C p a (λ e. h (omega arith)) (λ e. g (omega arith))) (unfold all in refl)
 
       go : Dec (p % 4 ≤ 0) → all clean (piece C p .tokens) ≡ true
       go (yes h) =
           let z : p % 4 ≡ 0 = omega arith in
-          rw (kept-piece C p z) (here (λ us. all clean us ≡ true) (all-nil clean)
-          (λ f. clean-line ts (sym f ∙ eqb-true (getD ms (p / 4) 0) 0 (rw (eq-eqb (p % 4) 0 z) at q))))
-      go (no h) = later (λ e. h (omega arith)) (decLe (p % 4) 1) (decLe (p % 4) 2) (rw (ne-eqb (p % 4) 0 (λ e. h (omega arith))) at q)
+          rw (kept-piece C p z) (here (λ us. all clean us ≡ true) (all-nil clean) (λ f. clean-line ts (sym f ∙ quiet-marks q .0 z)))
+      go (no h) = later (λ e. h (omega arith)) (decLe (p % 4) 1) (decLe (p % 4) 2)

@@ -1,25 +1,27 @@
 -- Marks of lines, as rules for `search`.
 --   contains-of, mark-none, mark-goto, mark-other    the mark of a line
 --   marks-start, marks-next, marks-end               the marks of all lines
---   silent-line, silent-while, silent-for            the answer of a mark
---   goes-silent                                      a line that is passed over
+--   silent-line, silent-while, silent-test, silent-first, silent-for    what a mark answers
+--   scan-start, scan-next, pass-start, pass-next     words that are passed over
 -- Assumes nothing.
 use mathlib.Core.Path.{_≡_, refl, sym, ap, _∙_}
 use mathlib.Core.Bool.{Bool, true, false}
-use mathlib.Core.List.{List}
+use mathlib.Core.List.{List, _∷_}
 use mathlib.Core.Option.{none, some}
 use Prim.Native.Nat.{ℕ, _+_, _%_, _≤_, _<_}
+use native.Mathlib.Nat.{le-refl}
 use native.Mathlib.Decide.{decLe, decLt}
 use native.Mathlib.Omega.{arith}
 use borrow.Author.Tests.{eq-eqb, ne-eqb, lt-ltb, le-ltb}
-use lib.ListN.{length, getD, set, length-set}
+use lib.ListN.{length, getD, set, drop, length-set}
 use lib.Seq.{getD-set-same, getD-set-other}
-use Rattle.definitions.specs.Lists.{contains, position, _==_, ascii}
+use Rattle.definitions.specs.Lists.{any, all, contains, position, _==_, ascii}
 use Rattle.definitions.specs.Model.{Token, Line, no-token, line}
 use Rattle.definitions.specs.Columns.{listing}
 use Rattle.definitions.specs.Statements.{goto-target}
 use Rattle.definitions.specs.ToFor.{popped}
 use Rattle.definitions.specs.RecoverGotoLoops.{goes-to}
+use Rattle.text.proofs.Parts.{drop-step}
 use Rattle.loop_theory.proofs.Cases.{and-split}
 use Rattle.plan.specs.Plan.{header-at, piece-at, test-at, initialiser-at, step-at, line-of}
 use Rattle.plan.specs.Changes.{is-goto}
@@ -29,9 +31,10 @@ use Rattle.pseudo_opt.specs.declared.Found.the-variants.{At, Nothing}
 use Rattle.pieces.specs.Pieces.{piece}
 use Rattle.goto_targets.specs.Seek.{Seek.looking, seek}
 use Rattle.goto_targets.specs.Targets.{over, goes-inside}
-use Rattle.goto_targets.specs.Marks.{has-g, mark-of, Marked, quiet, quiet-over, silent}
+use Rattle.goto_targets.specs.Marks.{has-g, mark-of, Marked, quiet, quiet-over, silent, Passed}
 use Rattle.goto_targets.proofs.SeekLaws.{target-is, seek-one}
 use Rattle.goto_targets.proofs.HeaderRules.{while-target, for-target, line-target}
+use Rattle.goto_targets.proofs.EnterRules.{any-next, goto-at}
 use Rattle.goto_targets.proofs.MarkLaws.{mark-place, clean-seek, clean-popped, clean-over, quiet-clean}
 
 -- The mark of a line
@@ -106,7 +109,7 @@ module _ (ms : List ℕ) (w h : ℕ) (q : h ≡ header-at w) where
 
 pub ruleset silents = (silent-line, silent-while, silent-test, silent-first, silent-for)
 
--- A line that is passed over
+-- Lines that are passed over
 
 module _ (l t x ms : List ℕ) (M : Marked l t x ms) where
   abbrev C : List Line
@@ -147,6 +150,38 @@ module _ (l t x ms : List ℕ) (M : Marked l t x ms) where
           for-target C w (header-at w) refl g n (test-at w) refl (omega arith) (omega arith) looking (initialiser-at w) refl (popped-none (initialiser-at w) (b .0))
           looking (over-none (header-at w) (test-at w) (a .0)) (step-at w) refl looking (popped-none (step-at w) (b .1))
 
-  pub goes-silent : (w : ℕ) → is-goto w ≡ true → (ls : List ℕ) (y : Bool) → y ≡ silent ms w → y ≡ true → false ≡ goes-inside C ls w
+  goes-silent : (ls : List ℕ) (w : ℕ) → is-goto w ≡ true → silent ms w ≡ true → goes-inside C ls w ≡ false
   unfolding goes-to
-  goes-silent w g ls y e f = rw (← silent-none w g (sym e ∙ f), goes-to)
+  goes-silent ls w g s = rw (← silent-none w g s, goes-to)
+
+  module _ (ls ws : List ℕ) (k r : ℕ) (p : Passed ms ws k r) where
+    pub scan-start : k ≡ 0 → any (goes-inside C ls) ws ≡ any (goes-inside C ls) (drop r ws)
+    scan-start e = rw e at (p .same (goes-inside C ls) (goes-silent ls))
+
+    pub scan-next : (j : ℕ) → k ≡ j + 1 → any (goes-inside C ls) ws ≡ any (goes-inside C ls) (drop j ws) → j < length ws
+        → (b : Bool) → b ≡ goes-inside C ls (getD ws j 0) → b ≡ false → any (goes-inside C ls) ws ≡ any (goes-inside C ls) (drop r ws)
+    scan-next j e inv lt b q f =
+        any-next (goes-inside C ls) ws j inv lt b q f ∙ ap (λ n. any (goes-inside C ls) (drop n ws)) (sym e) ∙ p .same (goes-inside C ls) (goes-silent ls)
+
+-- Words passed over
+
+module _ (ms ws : List ℕ) (k : ℕ) where
+  pub pass-start : k ≤ length ws → Passed ms ws k k
+  pass-start h = record { onward = le-refl k; within = h; same = λ P f. refl }
+
+  pub pass-next : (j : ℕ) → Passed ms ws k j → all is-goto ws ≡ true → j < length ws → (b : Bool) → b ≡ silent ms (getD ws j 0) → b ≡ true → Passed ms ws k (j + 1)
+  pass-next j p g lt b q e =
+      record {
+        onward = let z = p .onward in omega arith;
+        within = omega arith;
+        same = λ P f.
+            p .same P f
+            ∙ (ap (any P) (drop-step 0 ws j lt) ∙ passed P (f (getD ws j 0) (goto-at ws j g lt) (sym q ∙ e)));
+      }
+    where
+      passed : (P : ℕ → Bool) → P (getD ws j 0) ≡ false → any P (getD ws j 0 ∷ drop (j + 1) ws) ≡ any P (drop (j + 1) ws)
+      passed P f = unfold any in rw f
+
+pub ruleset passings = (pass-start, pass-next)
+
+pub ruleset loud = (scan-start, scan-next)

@@ -6,17 +6,19 @@
 --   quiet ms p         by its mark, the tokens of the piece p are clean
 --   quiet-over ms k t  so are those of the piece t, or a header of kind k has no test
 --   silent ms w        so are those of all pieces that the line of w is made of
+--   Passed ms ws k r   the words of ws from place k up to r are silent: a test that no silent word passes holds of one from k on, if it does of one from r on
 -- Assumes nothing.
-use Prim.Native.Nat.{ℕ, _/_, _%_, _<_}
+use Prim.Native.Nat.{ℕ, _/_, _%_, _≤_, _<_}
 use mathlib.Core.Path.{_≡_}
-use mathlib.Core.Bool.{Bool, true, _&&_, not}
+use mathlib.Core.Bool.{Bool, true, false, _&&_, not}
 use mathlib.Core.List.{List, [], _∷_}
 use lib.Dec.{eqb, ltb}
-use lib.ListN.{length, getD}
-use Rattle.definitions.specs.Lists.{if_then_else_, contains, _==_, ascii}
+use lib.ListN.{length, getD, drop}
+use Rattle.definitions.specs.Lists.{if_then_else_, any, contains, _==_, ascii}
 use Rattle.definitions.specs.Model.{Token, line, Keyword}
 use Rattle.definitions.specs.Columns.{listing}
 use Rattle.plan.specs.Plan.{header-at, piece-at, test-at, initialiser-at, step-at}
+use Rattle.plan.specs.Changes.{is-goto}
 
 -- 103 is the letter g.
 abbrev pub has-g : Token → Bool
@@ -34,7 +36,9 @@ pub record Marked (l t x ms : List ℕ) : Type 0 where
   pub marks : (i : ℕ) → i < length l → getD ms i 0 ≡ mark-of (line (listing l t x) i .tokens)
 
 unfoldable pub quiet : List ℕ → ℕ → Bool
-quiet ms p = if eqb (p % 4) 0 then eqb (getD ms (p / 4) 0) 0 else ltb (getD ms (p / 4) 0) 2
+quiet ms p =
+    let m = getD ms (p / 4) 0 in
+    if eqb m 0 then true else if eqb (p % 4) 0 then false else ltb m 2
 
 unfoldable pub quiet-over : List ℕ → ℕ → ℕ → Bool
 quiet-over ms k t = if eqb (k % 2) 1 then quiet ms t else true
@@ -44,3 +48,8 @@ silent ms w =
     if eqb (header-at w) 0 then quiet ms (piece-at w)
     else if ltb (header-at w) 4 then quiet-over ms (header-at w) (test-at w)
     else quiet-over ms (header-at w) (test-at w) && (quiet ms (initialiser-at w) && quiet ms (step-at w))
+
+pub record Passed (ms ws : List ℕ) (k r : ℕ) : Type 0 where
+  pub onward : k ≤ r
+  pub within : r ≤ length ws
+  pub same : (P : ℕ → Bool) → ((w : ℕ) → is-goto w ≡ true → silent ms w ≡ true → P w ≡ false) → any P (drop k ws) ≡ any P (drop r ws)

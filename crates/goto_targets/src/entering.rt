@@ -8,7 +8,7 @@ ghost use Rattle.plan.specs.Changes.{is-goto};
 ghost use Rattle.goto_targets.specs.Targets.{names, goes-inside};
 ghost use Rattle.goto_targets.specs.Marks.{Marked};
 use crate::headers::word_target;
-use crate::marks::silent;
+use crate::marks::next_loud;
 use crate::seeking::State;
 use model::columns::text_at;
 
@@ -36,23 +36,12 @@ fn any_names(lines: &[u32], tokens: &[u32], text: &[u8], labels: &[usize], s: &[
 }
 
 // The line of w has a goto to one of the labels.
-fn goes_inside(
-    lines: &[u32],
-    tokens: &[u32],
-    text: &[u8],
-    labels: &[usize],
-    w: usize,
-    marks: &[u8],
-) -> bool
+fn goes_inside(lines: &[u32], tokens: &[u32], text: &[u8], labels: &[usize], w: usize) -> bool
     requires { ⌜ (question-2 (now lines) (now tokens) (now text) ≡ true) × (is-goto w ≡ true) ⌝ }
-    requires { ⌜ Marked (now lines) (now tokens) (now text) (now marks) ⌝ }
     ensures { λ r.
         ⌜ (let C = listing (now (lines .entry)) (now (tokens .entry)) (now (text .entry)) in
         r ≡ goes-inside C (now (labels .entry)) w) ⌝ }
 {
-    if silent(marks, w) {
-        return false;
-    }
     match word_target(lines, tokens, text, w) {
         State::Looking => false,
         State::Waiting => false,
@@ -71,7 +60,7 @@ fn goes_inside(
     }
 }
 
-// So has the line of one of the words.
+// So has the line of one of the words. Those that can have no goto are passed over.
 pub fn any_goes_inside(
     lines: &[u32],
     tokens: &[u32],
@@ -86,12 +75,12 @@ pub fn any_goes_inside(
         ⌜ (let C = listing (now (lines .entry)) (now (tokens .entry)) (now (text .entry)) in
         r ≡ any (goes-inside C (now (labels .entry))) (now (words .entry))) ⌝ }
 {
-    let mut k = 0;
+    let mut k = next_loud(words, 0, marks);
     while k < words.len() {
-        if goes_inside(lines, tokens, text, labels, words[k], marks) {
+        if goes_inside(lines, tokens, text, labels, words[k]) {
             return true;
         }
-        k += 1;
+        k = next_loud(words, k + 1, marks);
     }
     false
 }

@@ -2,13 +2,15 @@
 //
 // Making it takes one look at the word of each token, and at the bytes of keywords; asking it constant time. Contracts cite specs/Marks.antt.
 ghost use mathlib.Core.Path.{_≡_};
+ghost use mathlib.Core.Bool.{true};
 ghost use Prim.Native.Nat.{_≤_, _<_};
 ghost use lib.ListN.{length, getD};
-ghost use Rattle.definitions.specs.Lists.{position};
+ghost use Rattle.definitions.specs.Lists.{all, position};
 ghost use Rattle.definitions.specs.Model.{line, no-token};
 ghost use Rattle.definitions.specs.Columns.{token-list, listing};
+ghost use Rattle.plan.specs.Changes.{is-goto};
 ghost use Rattle.pseudo_opt.specs.Places.{found};
-ghost use Rattle.goto_targets.specs.Marks.{has-g, mark-of, Marked, quiet, quiet-over, silent};
+ghost use Rattle.goto_targets.specs.Marks.{has-g, mark-of, Marked, quiet, quiet-over, silent, Passed};
 use crate::headers::initialiser;
 use crate::headers::step;
 use model::columns::token_kind;
@@ -77,8 +79,11 @@ fn quiet(marks: &[u8], p: usize) -> bool
     ensures { λ r. ⌜ r ≡ quiet (now (marks .entry)) p ⌝ }
 {
     let m = marks[p / 4];
+    if m == 0 {
+        return true;
+    }
     if p % 4 == 0 {
-        return m == 0;
+        return false;
     }
     m < 2
 }
@@ -95,7 +100,7 @@ fn quiet_over(marks: &[u8], h: usize, t: usize) -> bool
 }
 
 // Nor has the line of w, which therefore has no goto.
-pub fn silent(marks: &[u8], w: usize) -> bool
+fn silent(marks: &[u8], w: usize) -> bool
     requires { ⌜ length (now marks) ≡ 1024 ⌝ }
     ensures { λ r. ⌜ r ≡ silent (now (marks .entry)) w ⌝ }
 {
@@ -116,4 +121,20 @@ pub fn silent(marks: &[u8], w: usize) -> bool
     } else {
         false
     }
+}
+
+// The first place from k on of a word that is not silent, or behind the last word.
+pub fn next_loud(words: &[usize], k: usize, marks: &[u8]) -> usize
+    requires { ⌜ (k ≤ length (now words)) × (length (now marks) ≡ 1024) × (all is-goto (now words) ≡ true) ⌝ }
+    ensures { λ r. ⌜ Passed (now (marks .entry)) (now (words .entry)) k r ⌝ }
+{
+    let mut j = k;
+    while j < words.len() {
+        if silent(marks, words[j]) {
+            j += 1;
+        } else {
+            return j;
+        }
+    }
+    j
 }

@@ -1,16 +1,9 @@
 -- `goto_targets::entering::goes_inside` meets its contract. By its tests.
 -- Assumes nothing.
-use Rattle.goto_targets.proofs.MarkRules.{goes-silent}
 use Rattle.goto_targets.proofs.EnterRules.{goes}
 use borrow.Author.Needs.{needs}
 use Rattle.goto_targets.proofs.entering.goes_inside.Statement.{statement}
 use Rattle.goto_targets.proofs.entering.goes_inside.Tie as tie
-
-silent-requires : tie.Need-silent-requires
-silent-requires c κs = search needs
-
-returns : tie.Need-returns
-returns c = search (goes-silent, needs)
 
 word-target-requires : tie.Need-word-target-requires
 word-target-requires c κs = search needs
@@ -33,21 +26,19 @@ part-requires c κs = search needs
 any-names-requires : tie.Need-any-names-requires
 any-names-requires c κs = search needs
 
+returns : tie.Need-returns
+returns c = search (goes, needs)
+
 returns-2 : tie.Need-returns-2
 returns-2 c = search (goes, needs)
 
 returns-3 : tie.Need-returns-3
 returns-3 c = search (goes, needs)
 
-returns-4 : tie.Need-returns-4
-returns-4 c = search (goes, needs)
-
 pub goes-inside-spec : {M : Type 1} → statement M
 goes-inside-spec =
     tie.close
     (tie.spec
-    silent-requires
-    returns
     word-target-requires
     enum-told
     enum-told-2
@@ -55,6 +46,6 @@ goes-inside-spec =
     text-at-requires
     part-requires
     any-names-requires
+    returns
     returns-2
-    returns-3
-    returns-4)
+    returns-3)

@@ -17,5 +17,9 @@ returns-2 : tie.Need-returns-2
 unfolding quiet
 returns-2 c = search (bools, needs)
 
+returns-3 : tie.Need-returns-3
+unfolding quiet
+returns-3 c = search (bools, needs)
+
 pub quiet-spec : {M : Type 1} → statement M
-quiet-spec = tie.close (tie.spec shared-slice-read-m returns returns-2)
+quiet-spec = tie.close (tie.spec shared-slice-read-m returns returns-2 returns-3)
