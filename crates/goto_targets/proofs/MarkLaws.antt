@@ -1,7 +1,5 @@
 -- What the marks of lines say: a line of clean tokens holds no goto, and no token cut from them is one.
---   mark-place        the mark by the place of the first token that is not clean
---   clean-line        all tokens of a line of mark 0 are clean
---   clean-before      so are those before the first goto of a line of mark 1
+--   marked-none, marked-unknown, marked-goto, marked-symbol    the marks of a line
 --   clean-seek        a search through clean tokens finds no goto
 --   clean-popped, clean-over    nor does one through what a header takes from a clean piece
 --   quiet-clean       a quiet piece is clean
@@ -10,78 +8,27 @@ use mathlib.Core.Path.{_≡_, refl, sym, ap, subst, _∙_}
 use mathlib.Core.Bool.{Bool, true, false, cond, not, _&&_}
 use mathlib.Core.List.{List, [], _∷_, _++_, reverse, reverse-cons}
 use mathlib.Core.Option.{Option, none, some, Option·map}
-use Prim.Native.Nat.{ℕ, suc, _-_, _/_, _%_, _≤_, _<_}
+use Prim.Native.Nat.{ℕ, zero, suc, _+_, _-_, _/_, _%_, _≤_, _<_}
 use native.Mathlib.Decide.{decLe, decLt}
 use native.Mathlib.Omega.{arith}
 use borrow.Author.Tests.{eq-eqb, ne-eqb}
 use lib.Dec.{eqb, leb, ltb}
 use lib.ListN.{length, getD, take, drop, take-append-drop}
 use Rattle.definitions.specs.Lists.{or-else, require, any, all, position, take-while, first, last, part, contains, on-first, on-last, _==_, starts-with, ends-with, ascii}
-use Rattle.definitions.specs.Model.{Token, Line, tok, no-token, line, Keyword, Punct}
+use Rattle.definitions.specs.Model.{Token, Line, tok, no-token, token, Keyword, Punct}
 use Rattle.definitions.specs.Columns.{listing}
-use Rattle.definitions.specs.Statements.{is-kw, is-empty}
+use Rattle.definitions.specs.Statements.{is-kw, is-empty, first-symbol, goto-target}
 use Rattle.definitions.specs.Condition.{cut-front, cut-end, cut}
 use Rattle.definitions.specs.ToFor.{pop-reversed, pop, popped}
 use Rattle.definitions.specs.RecoverGotoLoops.{is-leading-test, leading-test, one}
 use Rattle.model.proofs.Decode.{line-past}
-use Rattle.loop_theory.proofs.Cases.{true-false, false-unless, and-split, some-same, if-has, IfSome, do-has, ==-true}
-use Rattle.loop_theory.proofs.AnyAll.{both, none-append, none-split, none-cons, all-cons, all-nil, all-append, all-halves, all-filter, all-on-first, all-on-last}
+use Rattle.loop_theory.proofs.Cases.{true-false, false-unless, and-split, none-some, some-same, if-has, IfSome, do-has, ==-true}
+use Rattle.loop_theory.proofs.AnyAll.{none-append, none-split, all-cons, all-nil, all-append, all-halves, all-filter, all-on-first, all-on-last}
 use Rattle.pieces.specs.Pieces.{piece, origin, cut-place}
 use Rattle.pieces.proofs.Forms.{place-before, kept-piece, continued-piece, broken-piece, closed-piece}
 use Rattle.goto_targets.specs.Seek.{Seek, Seek.looking, step, seek}
-use Rattle.goto_targets.specs.Marks.{has-g, clean, mark-of, Marked, quiet}
+use Rattle.goto_targets.specs.Marks.{has-g, clean, before, Mark, Marked, quiet}
 use Rattle.goto_targets.proofs.SeekLaws.{seek-negate, seek-one}
-
--- Marks
-
--- the mark of a line whose first token that is not clean has the text s
-abbrev pub mark-at : List ℕ → ℕ
-mark-at s = cond (s == ascii "goto") 1 2
-
-abbrev marked : List Token → Option ℕ → ℕ
-marked ts none = 0
-marked ts (some k) = mark-at (getD ts k no-token .text)
-
-pub mark-place : (ts : List Token) → mark-of ts ≡ marked ts (position has-g ts)
-unfolding mark-of position
-mark-place [] = refl
-mark-place (t ∷ ts) = go (has-g t) (position has-g ts) (mark-place ts)
-  where
-    go : (b : Bool) (o : Option ℕ) → mark-of ts ≡ marked ts o → cond b (mark-at (t .text)) (mark-of ts) ≡ marked (t ∷ ts) (cond b (some 0) (Option·map suc o))
-    go true o e = refl
-    go false none e = e
-    go false (some k) e = e
-
-never-zero : (s : List ℕ) → _≡_ {A = ℕ} (mark-at s) 0 → ⊥
-never-zero s e = go (s == ascii "goto") e
-  where
-    go : (b : Bool) → _≡_ {A = ℕ} (cond b 1 2) 0 → ⊥
-    go true e = omega arith
-    go false e = omega arith
-
-pub clean-line : (ts : List Token) → mark-of ts ≡ 0 → all clean ts ≡ true
-unfolding mark-of all
-clean-line [] e = refl
-clean-line (t ∷ ts) e = go (has-g t) (clean-line ts) e
-  where
-    go : (b : Bool) → (mark-of ts ≡ 0 → all clean ts ≡ true) → cond b (mark-at (t .text)) (mark-of ts) ≡ 0 → (not b && all clean ts) ≡ true
-    go true f e = absurd (never-zero (t .text) e)
-    go false f e = f e
-
-abbrev before : List Token → List Token
-before ts = take-while (λ t. not (is-kw (ascii "goto") t)) ts
-
-pub clean-before : (ts : List Token) → ltb (mark-of ts) 2 ≡ true → all clean (before ts) ≡ true
-unfolding mark-of all take-while
-clean-before [] e = refl
-clean-before (t ∷ ts) e = go (eqb (t .kind) Keyword) (contains 103 (t .text)) (t .text == ascii "goto") (clean-before ts) e refl refl
-  where
-    go : (k g z : Bool) → (ltb (mark-of ts) 2 ≡ true → all clean (before ts) ≡ true) → ltb (cond (k && g) (cond z 1 2) (mark-of ts)) 2 ≡ true
-        → eqb (t .kind) Keyword ≡ k → contains 103 (t .text) ≡ g → all clean (cond (not (k && z)) (t ∷ before ts) []) ≡ true
-    go true g true f e p q = refl
-    go true true false f e p q = true-false e refl
-    go true false false f e p q = rw (p, q) (f e)
-    go false g z f e p q = rw p (f e)
 
 -- Clean tokens
 
@@ -97,6 +44,100 @@ pub clean-seek : (ts : List Token) → all clean ts ≡ true → seek looking ts
 unfolding seek step
 clean-seek [] h = refl
 clean-seek (t ∷ ts) h = let s = all-cons clean t ts h in rw (clean-kw t (s .0)) (clean-seek ts (s .1))
+
+-- Marks
+
+-- 0 where the tokens ts are clean, 1 where the first that is not is goto, else 2
+unfoldable mark-of : List Token → ℕ
+mark-of [] = 0
+mark-of (t ∷ ts) = let later = mark-of ts in cond (has-g t) (cond (t .text == ascii "goto") 1 2) later
+
+abbrev marked : List Token → Option ℕ → ℕ
+marked ts none = 0
+marked ts (some k) = cond (getD ts k no-token .text == ascii "goto") 1 2
+
+mark-place : (ts : List Token) → mark-of ts ≡ marked ts (position has-g ts)
+unfolding mark-of position
+mark-place [] = refl
+mark-place (t ∷ ts) = go (has-g t) (position has-g ts) (mark-place ts)
+  where
+    go : (b : Bool) (o : Option ℕ) → mark-of ts ≡ marked ts o
+        → cond b (cond (t .text == ascii "goto") 1 2) (mark-of ts) ≡ marked (t ∷ ts) (cond b (some 0) (Option·map suc o))
+    go true o e = refl
+    go false none e = e
+    go false (some k) e = e
+
+never-zero : (s : List ℕ) → _≡_ {A = ℕ} (cond (s == ascii "goto") 1 2) 0 → ⊥
+never-zero s e = go (s == ascii "goto") e
+  where
+    go : (b : Bool) → _≡_ {A = ℕ} (cond b 1 2) 0 → ⊥
+    go true e = omega arith
+    go false e = omega arith
+
+clean-line : (ts : List Token) → mark-of ts ≡ 0 → all clean ts ≡ true
+unfolding mark-of all
+clean-line [] e = refl
+clean-line (t ∷ ts) e = go (has-g t) (clean-line ts) e
+  where
+    go : (b : Bool) → (mark-of ts ≡ 0 → all clean ts ≡ true) → cond b (cond (t .text == ascii "goto") 1 2) (mark-of ts) ≡ 0 → (not b && all clean ts) ≡ true
+    go true f e = absurd (never-zero (t .text) e)
+    go false f e = f e
+
+clean-before : (ts : List Token) → ltb (mark-of ts) 2 ≡ true → all clean (before ts) ≡ true
+unfolding mark-of all take-while
+clean-before [] e = refl
+clean-before (t ∷ ts) e = go (eqb (t .kind) Keyword) (contains 103 (t .text)) (t .text == ascii "goto") (clean-before ts) e refl refl
+  where
+    go : (k g z : Bool) → (ltb (mark-of ts) 2 ≡ true → all clean (before ts) ≡ true) → ltb (cond (k && g) (cond z 1 2) (mark-of ts)) 2 ≡ true
+        → eqb (t .kind) Keyword ≡ k → contains 103 (t .text) ≡ g → all clean (cond (not (k && z)) (t ∷ before ts) []) ≡ true
+    go true g true f e p q = refl
+    go true true false f e p q = true-false e refl
+    go true false false f e p q = rw (p, q) (f e)
+    go false g z f e p q = rw p (f e)
+
+-- the first keyword with the letter g is goto: the first goto is there
+goto-place : (ts : List Token) (g : ℕ) → position has-g ts ≡ some g → (getD ts g no-token .text == ascii "goto") ≡ true → position (is-kw (ascii "goto")) ts ≡ some g
+unfolding position
+goto-place [] g e q = none-some e
+goto-place (t ∷ ts) g e q = go (has-g t) refl (position has-g ts) (goto-place ts) refl g e q
+  where
+    go : (b : Bool) → has-g t ≡ b → (o : Option ℕ)
+        → ((g : ℕ) → position has-g ts ≡ some g → (getD ts g no-token .text == ascii "goto") ≡ true → position (is-kw (ascii "goto")) ts ≡ some g) → position has-g ts ≡ o
+        → (g : ℕ) → cond b (some 0) (Option·map suc o) ≡ some g → (getD (t ∷ ts) g no-token .text == ascii "goto") ≡ true
+        → cond (is-kw (ascii "goto") t) (some 0) (Option·map suc (position (is-kw (ascii "goto")) ts)) ≡ some g
+    go true h o f i zero e q = rw (and-split (eqb (t .kind) Keyword) (contains 103 (t .text)) h .0, q)
+    go true h o f i (suc g) e q = absurd (let z : _≡_ {A = ℕ} 0 (suc g) = some-same e in omega arith)
+    go false h none f i g e q = none-some e
+    go false h (some k) f i zero e q = absurd (let z : _≡_ {A = ℕ} (suc k) 0 = some-same e in omega arith)
+    go false h (some k) f i (suc g) e q =
+        let z : k ≡ g = let y : suc k ≡ suc g = some-same e in omega arith in
+        rw (clean-kw t (rw h), f g (i ∙ rw z) q)
+
+module _ (l : Line) where
+  pub marked-none : position has-g (l .tokens) ≡ none → Mark l 0
+  marked-none e =
+      let z : mark-of (l .tokens) ≡ 0 = mark-place (l .tokens) ∙ rw e in
+      record { none = λ _. clean-line (l .tokens) z; cut = λ _. clean-before (l .tokens) (rw z); target = λ h. absurd (omega arith) }
+
+  pub marked-unknown : Mark l 2
+  marked-unknown = record { none = λ e. absurd (omega arith); cut = λ h. absurd (h refl); target = λ h. absurd (omega arith) }
+
+  module _ (g : ℕ) (e : position has-g (l .tokens) ≡ some g) (q : (token l g .text == ascii "goto") ≡ true) where
+    clean-cut-off : all clean (before (l .tokens)) ≡ true
+    clean-cut-off = let z : mark-of (l .tokens) ≡ 1 = mark-place (l .tokens) ∙ rw (e, q) in clean-before (l .tokens) (rw z)
+
+    pub marked-goto : Mark l 1
+    marked-goto = record { none = λ e. absurd (omega arith); cut = λ _. clean-cut-off; target = λ h. absurd (omega arith) }
+
+    pub marked-symbol : (j : ℕ) → first-symbol (drop (g + 1) (l .tokens)) ≡ some (token l j .text) → Mark l (j + 3)
+    unfolding goto-target
+    marked-symbol j f =
+        let z : j + 3 - 3 ≡ j = omega arith in
+        record {
+          none = λ e. absurd (omega arith);
+          cut = λ _. clean-cut-off;
+          target = λ h. rw (goto-place (l .tokens) g e q, z) f;
+        }
 
 -- Cut tokens
 
@@ -173,51 +214,49 @@ module _ (l t x ms : List ℕ) (M : Marked l t x ms) (p : ℕ) where
   ts = origin C p .tokens
 
   -- the line of the piece, or none
-  here : (P : List Token → Type 0) → P [] → (getD ms (p / 4) 0 ≡ mark-of ts → P ts) → P ts
+  here : (P : List Token → Type 0) → P [] → (Mark (origin C p) (getD ms (p / 4) 0) → P ts) → P ts
   here P a f = go (decLt (p / 4) (length l))
     where
       go : Dec (p / 4 < length l) → P ts
       go (yes h) = f (M .marks (p / 4) h)
       go (no h) = subst (λ m. P (m .tokens)) (sym (line-past l t x (p / 4) (omega arith))) a
 
-  cut-clean : ltb (getD ms (p / 4) 0) 2 ≡ true → (kw : List ℕ) → contains 103 kw ≡ false
+  cut-clean : (getD ms (p / 4) 0 ≡ 2 → ⊥) → (kw : List ℕ) → contains 103 kw ≡ false
       → all clean (take (cut-place (origin C p)) ts ++ (tok kw Keyword ∷ tok (ascii ";") Punct ∷ [])) ≡ true
   unfolding cut-place all
   cut-clean q kw e =
       all-append clean (take (cut-place (origin C p)) ts) (tok kw Keyword ∷ tok (ascii ";") Punct ∷ [])
       (subst (λ us. all clean us ≡ true) (place-before (is-kw (ascii "goto")) ts)
-      (here (λ us. all clean (before us) ≡ true) (unfold take-while in refl) (λ f. clean-before ts (subst (λ m. ltb m 2 ≡ true) f q))))
+      (here (λ us. all clean (before us) ≡ true) (unfold take-while in refl) (λ f. f .cut q)))
       (rw e)
 
   abbrev m : ℕ
   m = getD ms (p / 4) 0
 
-  quiet-marks : quiet ms p ≡ true → (p % 4 ≡ 0 → m ≡ 0) × (ltb m 2 ≡ true)
+  quiet-marks : quiet ms p ≡ true → (p % 4 ≡ 0 → m ≡ 0) × (m ≡ 2 → ⊥)
   unfolding quiet
   quiet-marks q = go (decLe m 0)
     where
-      rest : (m ≡ 0 → ⊥) → cond (eqb (p % 4) 0) false (ltb m 2) ≡ true
+      rest : (m ≡ 0 → ⊥) → cond (eqb (p % 4) 0) false (not (eqb m 2)) ≡ true
       rest h = rw (ne-eqb m 0 h) at q
 
-      go : Dec (m ≤ 0) → (p % 4 ≡ 0 → m ≡ 0) × (ltb m 2 ≡ true)
-      go (yes h) = let z : m ≡ 0 = omega arith in (λ _. z, rw z)
+      go : Dec (m ≤ 0) → (p % 4 ≡ 0 → m ≡ 0) × (m ≡ 2 → ⊥)
+      go (yes h) = let z : m ≡ 0 = omega arith in (λ _. z, λ e. omega arith)
       go (no h) =
-          let n : p % 4 ≡ 0 → ⊥ = λ e. true-false (rest (λ e. h (omega arith))) (rw (eq-eqb (p % 4) 0 e)) in
-          (λ e. absurd (n e), rw (ne-eqb (p % 4) 0 n) at (rest (λ e. h (omega arith))))
+          let r = rest (λ e. h (omega arith)) in
+          let n : p % 4 ≡ 0 → ⊥ = λ e. true-false r (rw (eq-eqb (p % 4) 0 e)) in
+          (λ e. absurd (n e), λ e. true-false (rw (ne-eqb (p % 4) 0 n) at r) (rw (eq-eqb m 2 e)))
 
   pub quiet-clean : quiet ms p ≡ true → all clean (piece C p .tokens) ≡ true
   quiet-clean q = go (decLe (p % 4) 0)
     where
-      cut : ltb m 2 ≡ true
-      cut = quiet-marks q .1
-
       later : (p % 4 ≡ 0 → ⊥) → Dec (p % 4 ≤ 1) → Dec (p % 4 ≤ 2) → all clean (piece C p .tokens) ≡ true
-      later a (yes h) d = rw (continued-piece C p (omega arith)) (cut-clean cut (ascii "continue") (unfold any in refl))
-      later a (no h) (yes g) = rw (broken-piece C p (omega arith)) (cut-clean cut (ascii "break") (unfold any in refl))
+      later a (yes h) d = rw (continued-piece C p (omega arith)) (cut-clean (quiet-marks q .1) (ascii "continue") (unfold any in refl))
+      later a (no h) (yes g) = rw (broken-piece C p (omega arith)) (cut-clean (quiet-marks q .1) (ascii "break") (unfold any in refl))
       later a (no h) (no g) = rw (closed-piece C p a (λ e. h (omega arith)) (λ e. g (omega arith))) (unfold all in refl)
 
       go : Dec (p % 4 ≤ 0) → all clean (piece C p .tokens) ≡ true
       go (yes h) =
           let z : p % 4 ≡ 0 = omega arith in
-          rw (kept-piece C p z) (here (λ us. all clean us ≡ true) (all-nil clean) (λ f. clean-line ts (sym f ∙ quiet-marks q .0 z)))
+          rw (kept-piece C p z) (here (λ us. all clean us ≡ true) (all-nil clean) (λ f. f .none (quiet-marks q .0 z)))
       go (no h) = later (λ e. h (omega arith)) (decLe (p % 4) 1) (decLe (p % 4) 2)

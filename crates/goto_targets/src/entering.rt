@@ -9,6 +9,7 @@ ghost use Rattle.goto_targets.specs.Targets.{names, goes-inside};
 ghost use Rattle.goto_targets.specs.Marks.{Marked};
 use crate::headers::word_target;
 use crate::marks::next_loud;
+use crate::marks::own_mark;
 use crate::seeking::State;
 use model::columns::text_at;
 
@@ -35,8 +36,8 @@ fn any_names(lines: &[u32], tokens: &[u32], text: &[u8], labels: &[usize], s: &[
     false
 }
 
-// The line of w has a goto to one of the labels.
-fn goes_inside(lines: &[u32], tokens: &[u32], text: &[u8], labels: &[usize], w: usize) -> bool
+// The line of w has a goto to one of the labels, by its tokens.
+fn goes_to(lines: &[u32], tokens: &[u32], text: &[u8], labels: &[usize], w: usize) -> bool
     requires { ⌜ (question-2 (now lines) (now tokens) (now text) ≡ true) × (is-goto w ≡ true) ⌝ }
     ensures { λ r.
         ⌜ (let C = listing (now (lines .entry)) (now (tokens .entry)) (now (text .entry)) in
@@ -60,6 +61,29 @@ fn goes_inside(lines: &[u32], tokens: &[u32], text: &[u8], labels: &[usize], w: 
     }
 }
 
+// The line of w has a goto to one of the labels. Where its mark says which symbol the goto leads to, its tokens are not read.
+fn goes_inside(
+    lines: &[u32],
+    tokens: &[u32],
+    text: &[u8],
+    labels: &[usize],
+    w: usize,
+    marks: &[u16],
+) -> bool
+    requires { ⌜ (question-2 (now lines) (now tokens) (now text) ≡ true) × (is-goto w ≡ true) ⌝ }
+    requires { ⌜ Marked (now lines) (now tokens) (now text) (now marks) ⌝ }
+    ensures { λ r.
+        ⌜ (let C = listing (now (lines .entry)) (now (tokens .entry)) (now (text .entry)) in
+        r ≡ goes-inside C (now (labels .entry)) w) ⌝ }
+{
+    let m = own_mark(lines, w, marks);
+    if 2 < m {
+        let s = text_at(lines, tokens, text, plan::source(w), m - 3);
+        return any_names(lines, tokens, text, labels, s);
+    }
+    goes_to(lines, tokens, text, labels, w)
+}
+
 // So has the line of one of the words. Those that can have no goto are passed over.
 pub fn any_goes_inside(
     lines: &[u32],
@@ -67,7 +91,7 @@ pub fn any_goes_inside(
     text: &[u8],
     labels: &[usize],
     words: &[usize],
-    marks: &[u8],
+    marks: &[u16],
 ) -> bool
     requires { ⌜ (question-2 (now lines) (now tokens) (now text) ≡ true) × (all is-goto (now words) ≡ true) ⌝ }
     requires { ⌜ Marked (now lines) (now tokens) (now text) (now marks) ⌝ }
@@ -77,7 +101,7 @@ pub fn any_goes_inside(
 {
     let mut k = next_loud(words, 0, marks);
     while k < words.len() {
-        if goes_inside(lines, tokens, text, labels, words[k]) {
+        if goes_inside(lines, tokens, text, labels, words[k], marks) {
             return true;
         }
         k = next_loud(words, k + 1, marks);

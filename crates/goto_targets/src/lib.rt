@@ -33,7 +33,7 @@ pub fn enters(
     n: usize,
     h: usize,
     b: usize,
-    marks: &[u8],
+    marks: &[u16],
 ) -> bool
     requires { ⌜ (h < b) × (b < n) × (n ≤ 1024) × (n ≤ length (now plan)) × (question-2 (now lines) (now tokens) (now text) ≡ true) × (all is-goto (take n (now plan)) ≡ true) ⌝ }
     requires { ⌜ is-label (line-of (listing (now lines) (now tokens) (now text)) (getD (now plan) h 0)) ≡ true ⌝ }

@@ -10,15 +10,17 @@ ghost use Rattle.definitions.specs.Model.{line, no-token};
 ghost use Rattle.definitions.specs.Columns.{token-list, listing};
 ghost use Rattle.plan.specs.Changes.{is-goto};
 ghost use Rattle.pseudo_opt.specs.Places.{found};
-ghost use Rattle.goto_targets.specs.Marks.{has-g, mark-of, Marked, quiet, quiet-over, silent, Passed};
+ghost use Rattle.goto_targets.specs.Marks.{has-g, place-mark, Mark, Marked, quiet, quiet-over, own-mark, silent, Passed};
 use crate::headers::initialiser;
 use crate::headers::step;
+use model::columns::text_at;
 use model::columns::token_kind;
 use model::columns::token_text;
 use plan::header;
 use plan::piece;
 use plan::test;
 use pseudo_opt::Found;
+use pseudo_opt::labels::first_symbol;
 
 // Token k of all is a keyword with the letter g.
 fn has_g(tokens: &[u32], text: &[u8], k: usize) -> bool
@@ -48,21 +50,34 @@ fn first_g(lines: &[u32], tokens: &[u32], text: &[u8], i: usize) -> Found
     Found::Nothing
 }
 
-// The mark of line i.
-fn mark(lines: &[u32], tokens: &[u32], text: &[u8], i: usize) -> u8
-    ensures { λ r. ⌜ r ≡ mark-of (line (listing (now (lines .entry)) (now (tokens .entry)) (now (text .entry))) i .tokens) ⌝ }
+// The mark of a line whose goto leads to the symbol at place j.
+fn place_mark(j: usize) -> u16
+    ensures { λ r. ⌜ r ≡ place-mark j ⌝ }
 {
-    let Found::At(j) = first_g(lines, tokens, text, i) else {
+    if j < 65533 {
+        return (j + 3) as u16;
+    }
+    2
+}
+
+// The mark of line i.
+fn mark(lines: &[u32], tokens: &[u32], text: &[u8], i: usize) -> u16
+    ensures { λ r. ⌜ Mark (line (listing (now (lines .entry)) (now (tokens .entry)) (now (text .entry))) i) r ⌝ }
+{
+    let Found::At(g) = first_g(lines, tokens, text, i) else {
         return 0;
     };
-    if text::equal(model::columns::text_at(lines, tokens, text, i, j), b"goto") {
-        return 1;
+    if text::equal(text_at(lines, tokens, text, i, g), b"goto") {
+        let Found::At(j) = first_symbol(lines, tokens, text, i, g) else {
+            return 1;
+        };
+        return place_mark(j);
     }
     2
 }
 
 // Marks every line.
-pub fn mark_lines(lines: &[u32], tokens: &[u32], text: &[u8], marks: &mut [u8])
+pub fn mark_lines(lines: &[u32], tokens: &[u32], text: &[u8], marks: &mut [u16])
     requires { ⌜ (length (now lines) ≤ 1024) × (length (now marks) ≡ 1024) ⌝ }
     ensures { λ _. ⌜ Marked (now (lines .entry)) (now (tokens .entry)) (now (text .entry)) (now (marks .exit)) ⌝ }
 {
@@ -74,7 +89,7 @@ pub fn mark_lines(lines: &[u32], tokens: &[u32], text: &[u8], marks: &mut [u8])
 }
 
 // By the mark of its line, the piece p has no keyword with the letter g.
-fn quiet(marks: &[u8], p: usize) -> bool
+fn quiet(marks: &[u16], p: usize) -> bool
     requires { ⌜ (p < 4096) × (length (now marks) ≡ 1024) ⌝ }
     ensures { λ r. ⌜ r ≡ quiet (now (marks .entry)) p ⌝ }
 {
@@ -85,11 +100,36 @@ fn quiet(marks: &[u8], p: usize) -> bool
     if p % 4 == 0 {
         return false;
     }
-    m < 2
+    m != 2
+}
+
+fn wide(m: u16) -> usize
+    ensures { λ r. ⌜ r ≡ m ⌝ }
+{
+    m as usize
+}
+
+// The mark of the line that w keeps as it is, else 0.
+pub fn own_mark(lines: &[u32], w: usize, marks: &[u16]) -> usize
+    requires { ⌜ length (now marks) ≡ 1024 ⌝ }
+    ensures { λ r. ⌜ r ≡ own-mark (now (lines .entry)) (now (marks .entry)) w ⌝ }
+{
+    if header(w) != 0 {
+        return 0;
+    }
+    let p = piece(w);
+    if p % 4 != 0 {
+        return 0;
+    }
+    let i = p / 4;
+    if i < lines.len() {
+        return wide(marks[i]);
+    }
+    0
 }
 
 // Nor has the condition of a header of kind h, of which the piece t is the leading test.
-fn quiet_over(marks: &[u8], h: usize, t: usize) -> bool
+fn quiet_over(marks: &[u16], h: usize, t: usize) -> bool
     requires { ⌜ (t < 4096) × (length (now marks) ≡ 1024) ⌝ }
     ensures { λ r. ⌜ r ≡ quiet-over (now (marks .entry)) h t ⌝ }
 {
@@ -100,7 +140,7 @@ fn quiet_over(marks: &[u8], h: usize, t: usize) -> bool
 }
 
 // Nor has the line of w, which therefore has no goto.
-fn silent(marks: &[u8], w: usize) -> bool
+fn silent(marks: &[u16], w: usize) -> bool
     requires { ⌜ length (now marks) ≡ 1024 ⌝ }
     ensures { λ r. ⌜ r ≡ silent (now (marks .entry)) w ⌝ }
 {
@@ -124,7 +164,7 @@ fn silent(marks: &[u8], w: usize) -> bool
 }
 
 // The first place from k on of a word that is not silent, or behind the last word.
-pub fn next_loud(words: &[usize], k: usize, marks: &[u8]) -> usize
+pub fn next_loud(words: &[usize], k: usize, marks: &[u16]) -> usize
     requires { ⌜ (k ≤ length (now words)) × (length (now marks) ≡ 1024) × (all is-goto (now words) ≡ true) ⌝ }
     ensures { λ r. ⌜ Passed (now (marks .entry)) (now (words .entry)) k r ⌝ }
 {

@@ -52,7 +52,7 @@ fn loop_at(
     n: usize,
     h: usize,
     b: usize,
-    marks: &[u8],
+    marks: &[u16],
 ) -> Turn
     requires { ⌜ Labelled (now lines) (now tokens) (now text) n h (now plan) ⌝ }
     requires { ⌜ (h < b) × (b < n) × (indent-at (getD (now plan) h 0) < 255) ⌝ }
@@ -79,7 +79,7 @@ pub fn find_loop(
     plan: &mut [usize],
     n: usize,
     h: usize,
-    marks: &[u8],
+    marks: &[u16],
 ) -> Turn
     requires { ⌜ Labelled (now lines) (now tokens) (now text) n h (now plan) ⌝ }
     requires { ⌜ indent-at (getD (now plan) h 0) < 255 ⌝ }

@@ -32,7 +32,7 @@ fn goto_turn(
     plan: &mut [usize],
     n: usize,
     h: usize,
-    marks: &[u8],
+    marks: &[u16],
 ) -> Turn
     requires { ⌜ (h < n) × (n ≤ 1024) × (n ≤ length (now plan)) × (question-2 (now lines) (now tokens) (now text) ≡ true) ⌝ }
     requires { ⌜ Ahead h (take n (now plan)) ⌝ }
@@ -51,7 +51,7 @@ fn goto_turn(
 }
 
 // The pass, turn by turn, while two lines stand behind the line.
-fn run(lines: &[u32], tokens: &[u32], text: &[u8], plan: &mut [usize], marks: &[u8]) -> Planned
+fn run(lines: &[u32], tokens: &[u32], text: &[u8], plan: &mut [usize], marks: &[u16]) -> Planned
     requires { ⌜ (length (now lines) ≤ 1024) × (length (now lines) ≤ length (now plan)) × (question-2 (now lines) (now tokens) (now text) ≡ true) ⌝ }
     requires { ⌜ Marked (now lines) (now tokens) (now text) (now marks) ⌝ }
     ensures { λ r.
@@ -80,7 +80,7 @@ pub fn plan_goto_loops(lines: &[u32], tokens: &[u32], text: &[u8], plan: &mut [u
         ⌜ ((S : List Line) → Source S (now (lines .entry)) (now (tokens .entry)) (now (text .entry)) → planned S (now (plan .exit)) r ≡ recover-goto-loops S) ⌝ }
     ensures { λ r. ⌜ Emitted (length (now (lines .entry))) (now (plan .exit)) r ⌝ }
 {
-    let mut marks = [0u8; 1024];
+    let mut marks = [0u16; 1024];
     mark_lines(lines, tokens, text, &mut marks);
     run(lines, tokens, text, plan, &marks)
 }

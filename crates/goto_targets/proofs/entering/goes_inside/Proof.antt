@@ -1,51 +1,43 @@
--- `goto_targets::entering::goes_inside` meets its contract. By its tests.
+-- `goto_targets::entering::goes_inside` meets its contract. By its mark, or by its tokens.
 -- Assumes nothing.
-use Rattle.goto_targets.proofs.EnterRules.{goes}
+use Rattle.goto_targets.proofs.MarkRules.{goes-marked}
 use borrow.Author.Needs.{needs}
 use Rattle.goto_targets.proofs.entering.goes_inside.Statement.{statement}
 use Rattle.goto_targets.proofs.entering.goes_inside.Tie as tie
 
-word-target-requires : tie.Need-word-target-requires
-word-target-requires c κs = search needs
+own-mark-requires : tie.Need-own-mark-requires
+own-mark-requires c κs = search needs
 
-enum-told : tie.Need-enum-told
-enum-told c = search needs
+source-requires : tie.Need-source-requires
+source-requires c κs = search needs
 
-enum-told-2 : tie.Need-enum-told-2
-enum-told-2 c = search needs
-
-enum-known-line : tie.Need-enum-known-line
-enum-known-line c = search needs
+sub-text-at : tie.Need-sub-text-at
+sub-text-at c = search needs
 
 text-at-requires : tie.Need-text-at-requires
 text-at-requires c κs = search needs
-
-part-requires : tie.Need-part-requires
-part-requires c κs = search needs
 
 any-names-requires : tie.Need-any-names-requires
 any-names-requires c κs = search needs
 
 returns : tie.Need-returns
-returns c = search (goes, needs)
+returns c = search (goes-marked, needs)
+
+goes-to-requires : tie.Need-goes-to-requires
+goes-to-requires c κs = search needs
 
 returns-2 : tie.Need-returns-2
-returns-2 c = search (goes, needs)
-
-returns-3 : tie.Need-returns-3
-returns-3 c = search (goes, needs)
+returns-2 c = search needs
 
 pub goes-inside-spec : {M : Type 1} → statement M
 goes-inside-spec =
     tie.close
     (tie.spec
-    word-target-requires
-    enum-told
-    enum-told-2
-    enum-known-line
+    own-mark-requires
+    source-requires
+    sub-text-at
     text-at-requires
-    part-requires
     any-names-requires
     returns
-    returns-2
-    returns-3)
+    goes-to-requires
+    returns-2)

@@ -20,6 +20,9 @@ loop-holds c = search (markings, needs)
 mark-requires : tie.Need-mark-requires Inv-loop μ-loop
 mark-requires c κs = search (markings, needs)
 
+mul-marks : tie.Need-mul-marks Inv-loop μ-loop
+mul-marks c = search (markings, needs)
+
 slice-write-marks : tie.Need-slice-write-marks Inv-loop μ-loop
 slice-write-marks c = search (markings, needs)
 
@@ -46,6 +49,7 @@ mark-lines-spec =
     μ-loop
     loop-holds
     mark-requires
+    mul-marks
     slice-write-marks
     add-i
     loop-less

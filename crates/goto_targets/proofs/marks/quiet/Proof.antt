@@ -6,6 +6,9 @@ use borrow.Author.Needs.{needs}
 use Rattle.goto_targets.proofs.marks.quiet.Statement.{statement}
 use Rattle.goto_targets.proofs.marks.quiet.Tie as tie
 
+mul-m : tie.Need-mul-m
+mul-m c = search needs
+
 shared-slice-read-m : tie.Need-shared-slice-read-m
 shared-slice-read-m c = search needs
 
@@ -22,4 +25,4 @@ unfolding quiet
 returns-3 c = search (bools, needs)
 
 pub quiet-spec : {M : Type 1} → statement M
-quiet-spec = tie.close (tie.spec shared-slice-read-m returns returns-2 returns-3)
+quiet-spec = tie.close (tie.spec mul-m shared-slice-read-m returns returns-2 returns-3)
