@@ -36,11 +36,11 @@ use Rattle.model.proofs.Decode.{length-listing}
 use Rattle.line_keywords.proofs.NoGotos.{no-jumps}
 use Rattle.theory.proofs.Bools.{clash, same-test, and-both, and-split, or-left, or-right, or-cases, not-so, lt-or-ge}
 use Rattle.theory.proofs.ListLaws.{any-found, any-here, member-range, range-member, getD-range, length-range}
-use Rattle.flow.specs.Gotos.{jump, goto-line}
-use Rattle.flow.specs.Buckets.{line-of}
-use Rattle.flow.specs.declared.labels.Label.{Label}
-use Rattle.flow.specs.declared.labels.Label.the-variants.{At, Missing}
-use Rattle.flow.proofs.Leads.{leads-from}
+use Rattle.labels.specs.Gotos.{jump, goto-line}
+use Rattle.labels.specs.Buckets.{line-of}
+use Rattle.labels.specs.declared.Label.{Label}
+use Rattle.labels.specs.declared.Label.the-variants.{At, Missing}
+use Rattle.labels.proofs.Leads.{leads-from}
 use Rattle.flow.proofs.Edges.{jumps-from, jumps-start, jumps-end}
 use Rattle.crossings.specs.Crossed.{goto, gotos, line-gotos, crossed, Marked, Marking}
 

@@ -31,16 +31,16 @@ use Rattle.line_keywords.proofs.NoGotos.{no-jumps}
 use Rattle.theory.proofs.Bools.{same-test}
 use Rattle.theory.proofs.ListLaws.{any-found, any-here, member-filter, range-member}
 use Rattle.bits.specs.Edges.{Added}
-use Rattle.flow.specs.Entries.{place, linked}
-use Rattle.flow.specs.Structure.{Ended, Enclosed}
-use Rattle.flow.specs.Buckets.{line-of}
-use Rattle.flow.specs.Gotos.{jump, goto-line}
-use Rattle.flow.specs.declared.labels.Label.{Label}
-use Rattle.flow.specs.declared.labels.Label.the-variants.{At, Missing}
+use Rattle.blocks.specs.Entries.{place, linked}
+use Rattle.blocks.specs.Structure.{Ended, Enclosed}
+use Rattle.labels.specs.Buckets.{line-of}
+use Rattle.labels.specs.Gotos.{jump, goto-line}
+use Rattle.labels.specs.declared.Label.{Label}
+use Rattle.labels.specs.declared.Label.the-variants.{At, Missing}
 use Rattle.flow.specs.Drawing.{Drawing, Drawn, from, after, left, lefts, back}
-use Rattle.flow.proofs.Links.{place-some, linked-fuel, linked-below}
+use Rattle.blocks.proofs.Links.{place-some, linked-fuel, linked-below}
 use Rattle.flow.proofs.Drawings.{drawn-none, drawn-as, drawn-both, drawn-step, drawing-start, drawing-next, drawing-end, member-append}
-use Rattle.flow.proofs.Leads.{leads-from}
+use Rattle.labels.proofs.Leads.{leads-from}
 
 -- Lists of steps
 

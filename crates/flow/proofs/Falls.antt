@@ -16,9 +16,9 @@ use Rattle.definitions.specs.Model.{Line, line, no-line}
 use Rattle.definitions.specs.Statements.{has-kw}
 use Rattle.definitions.specs.Blocks.{Blocks}
 use Rattle.definitions.specs.FlowGraph.{is-else-close, end-of, else-end, chain-end, falls}
-use Rattle.flow.specs.Entries.{place}
-use Rattle.flow.specs.Structure.{Ended}
-use Rattle.flow.proofs.Links.{place-some}
+use Rattle.blocks.specs.Entries.{place}
+use Rattle.blocks.specs.Structure.{Ended}
+use Rattle.blocks.proofs.Links.{place-some}
 
 module _ (L : List Line) (b : Blocks) (es : List ℕ) (E : Ended L b es) where
   -- e is the entry that `else_end` answers of line c

@@ -25,7 +25,7 @@ use Rattle.theory.proofs.Bools.{or-left, or-right}
 use Rattle.theory.proofs.ListLaws.{member-filter, member-range, getD-map-up-to}
 use Rattle.theory.proofs.Graph.{flow-length, predecessor-lists}
 use Rattle.bits.specs.Edges.{edges, preds-of, NoEdges}
-use Rattle.flow.specs.Structure.{blocks-of}
+use Rattle.blocks.specs.Structure.{blocks-of}
 use Rattle.flow.specs.Drawing.{Drawn, from, back, own, line-edges, rest}
 use Rattle.flow.specs.Graph.{Graph, flow-refusal}
 use Rattle.flow.proofs.Drawings.{member-append}

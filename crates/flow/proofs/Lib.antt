@@ -1,8 +1,3 @@
-pub mod Links
-pub mod Stacks
-pub mod Reading
-pub mod Buckets
-pub mod Leads
 pub mod Tests
 pub mod Drawings
 pub mod Falls

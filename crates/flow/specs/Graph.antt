@@ -17,8 +17,8 @@ use Rattle.definitions.specs.Blocks.{blocks}
 use Rattle.definitions.specs.FlowGraph.{gotos-lead, flow-graph, steps}
 use Rattle.bits.specs.Edges.{edges, Agree}
 use Rattle.line_keywords.specs.Masks.{Masks}
-use Rattle.flow.specs.Structure.{blocks-of, Ended, Enclosed}
-use Rattle.flow.specs.Buckets.{Indexed}
+use Rattle.blocks.specs.Structure.{blocks-of, Ended, Enclosed}
+use Rattle.labels.specs.Buckets.{Indexed}
 use Rattle.flow.specs.declared.graph.Flow.{Flow}
 use Rattle.flow.specs.declared.graph.Flow.the-variants.{Drawn, UnmatchedBrace, UnknownLabel}
 

@@ -1,7 +1,7 @@
 // The flow graph of a listing, drawn into the two matrices of Rattle.bits, with questions 8 and 9.
 //
-// Blocks and labels stand in local arrays of 1,024 entries. Beside the steps, which are drawn line by line, the time is linear in the tokens
-// and bytes. Contracts cite `flow-graph` of Rattle.definitions.specs.FlowGraph.
+// Masks, blocks and labels stand in local arrays, of 64 entries for at most 64 lines, else of 1,024. Beside the steps, which are drawn line by
+// line, the time is linear in the tokens and bytes. Contracts cite `flow-graph` of Rattle.definitions.specs.FlowGraph.
 ghost use mathlib.Core.Path.{_≡_};
 ghost use mathlib.Core.Bool.{true};
 ghost use mathlib.Core.Option.{none};
@@ -12,13 +12,13 @@ ghost use Rattle.definitions.specs.Columns.{listing};
 ghost use Rattle.definitions.specs.FlowGraph.{successors};
 ghost use Rattle.bits.specs.Edges.{Matrices};
 ghost use Rattle.line_keywords.specs.Masks.{Masks};
-ghost use Rattle.flow.specs.Structure.{blocks-of, Matched};
+ghost use Rattle.blocks.specs.Structure.{blocks-of, Matched};
 ghost use Rattle.flow.specs.Drawing.{Drawn};
 ghost use Rattle.flow.specs.Graph.{Read, Graph, flow-refusal, refused};
-use crate::blocks::blocks;
-use crate::gotos::gotos_lead;
-use crate::labels::index;
 use crate::steps::line_steps;
+use blocks::blocks;
+use labels::gotos::gotos_lead;
+use labels::index;
 
 // What `flow_graph` answers: the graph is drawn, or question 8 or question 9 is answered no.
 pub enum Flow {
@@ -154,9 +154,8 @@ fn flow_graph_in(
     }
 }
 
-// Draws the flow graph, unless a brace does not match or a goto leads to no label. The space has room for the two matrices; what it holds
-// after a refusal is left open.
-pub fn flow_graph(lines: &[u32], tokens: &[u32], text: &[u8], space: &mut [u64], r: usize) -> Flow
+// The same as `flow_graph`.
+fn flow_graph_long(lines: &[u32], tokens: &[u32], text: &[u8], space: &mut [u64], r: usize) -> Flow
     requires { ⌜ (length (now lines) ≤ 1024) × Matrices (length (now lines)) r (now space) ⌝ }
     ensures { λ f. ⌜ refused f ≡ flow-refusal (listing (now (lines .entry)) (now (tokens .entry)) (now (text .entry))) ⌝ }
     ensures { λ f.
@@ -183,4 +182,50 @@ pub fn flow_graph(lines: &[u32], tokens: &[u32], text: &[u8], space: &mut [u64],
         space,
         r,
     )
+}
+
+// The same as `flow_graph`, for a listing so short that shorter columns do: to zero them is most of what they cost.
+fn flow_graph_short(lines: &[u32], tokens: &[u32], text: &[u8], space: &mut [u64], r: usize) -> Flow
+    requires { ⌜ (length (now lines) ≤ 64) × Matrices (length (now lines)) r (now space) ⌝ }
+    ensures { λ f. ⌜ refused f ≡ flow-refusal (listing (now (lines .entry)) (now (tokens .entry)) (now (text .entry))) ⌝ }
+    ensures { λ f.
+        ⌜ (let L = listing (now (lines .entry)) (now (tokens .entry)) (now (text .entry)) in
+        (refused f ≡ none → Graph L (length (now (lines .entry))) r (now (space .entry)) (now (space .exit)))) ⌝ }
+{
+    let mut masks = [0u8; 64];
+    let mut ends = [0u16; 64];
+    let mut parents = [0u16; 64];
+    let mut counts = [0usize; 64];
+    let mut heads = [0u16; 256];
+    let mut nexts = [0u16; 64];
+    line_keywords::masks(lines, tokens, text, &mut masks);
+    flow_graph_in(
+        lines,
+        tokens,
+        text,
+        &masks,
+        &mut ends,
+        &mut parents,
+        &mut counts,
+        &mut heads,
+        &mut nexts,
+        space,
+        r,
+    )
+}
+
+// Draws the flow graph, unless a brace does not match or a goto leads to no label. The space has room for the two matrices; what it holds
+// after a refusal is left open.
+pub fn flow_graph(lines: &[u32], tokens: &[u32], text: &[u8], space: &mut [u64], r: usize) -> Flow
+    requires { ⌜ (length (now lines) ≤ 1024) × Matrices (length (now lines)) r (now space) ⌝ }
+    ensures { λ f. ⌜ refused f ≡ flow-refusal (listing (now (lines .entry)) (now (tokens .entry)) (now (text .entry))) ⌝ }
+    ensures { λ f.
+        ⌜ (let L = listing (now (lines .entry)) (now (tokens .entry)) (now (text .entry)) in
+        (refused f ≡ none → Graph L (length (now (lines .entry))) r (now (space .entry)) (now (space .exit)))) ⌝ }
+{
+    if lines.len() <= 64 {
+        flow_graph_short(lines, tokens, text, space, r)
+    } else {
+        flow_graph_long(lines, tokens, text, space, r)
+    }
 }

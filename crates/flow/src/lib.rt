@@ -1,9 +1,6 @@
-// The flow graph of a listing: its blocks, its labels, and the steps from line to line.
+// The flow graph of a listing: the steps from line to line, over its blocks and its labels.
 //
-// Contracts cite Rattle.definitions.specs.Blocks and FlowGraph.
-pub mod blocks;
-pub mod gotos;
+// Contracts cite Rattle.definitions.specs.FlowGraph.
 pub mod graph;
 pub mod keywords;
-pub mod labels;
 pub mod steps;

@@ -10,7 +10,7 @@ use lib.Dec.{eqb}
 use lib.ListN.{getD}
 use Rattle.definitions.specs.Lists.{any, fold, _==_, ascii}
 use Rattle.definitions.specs.Model.{Token, Line, line, Keyword}
-use Rattle.definitions.specs.Statements.{is-kw, has-kw}
+use Rattle.definitions.specs.Statements.{has-kw}
 use Rattle.definitions.specs.FlowGraph.{is-loop, is-switch}
 use Rattle.bits.specs.Rows.{word-bit}
 use Rattle.bits.proofs.Words.{or-bit}

@@ -10,7 +10,7 @@ use Rattle.definitions.specs.Lists.{member}
 use Rattle.definitions.specs.Columns.{listing}
 use Rattle.model.proofs.Decode.{length-listing}
 use Rattle.flow.specs.Drawing.{Drawing, rest, line-edges}
-use Rattle.flow.specs.Structure.{blocks-of}
+use Rattle.blocks.specs.Structure.{blocks-of}
 use Rattle.flow.proofs.Graphs.{rest-next, rest-end, rest-all}
 use Rattle.flow.proofs.Drawings.{matrices-kept, drawn-as, drawing-start, drawing-next, drawing-end}
 use Rattle.flow.proofs.graph.draw.Statement.{statement}

@@ -8,7 +8,7 @@ use lib.ListN.{length, getD}
 use Rattle.definitions.specs.FlowGraph.{falls, past-end, cases}
 use Rattle.definitions.specs.Columns.{listing}
 use Rattle.model.proofs.Decode.{length-listing}
-use Rattle.flow.specs.Structure.{blocks-of}
+use Rattle.blocks.specs.Structure.{blocks-of}
 use Rattle.flow.specs.Drawing.{after}
 use Rattle.flow.proofs.Edges.{steps-as, steps-append, past-end-entry}
 use Rattle.flow.proofs.Drawings.{matrices-kept}

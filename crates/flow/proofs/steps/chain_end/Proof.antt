@@ -10,7 +10,7 @@ use Rattle.definitions.specs.FlowGraph.{is-else-close, chain-end}
 use Rattle.definitions.specs.Columns.{listing}
 use Rattle.definitions.specs.Model.{line}
 use Rattle.model.proofs.Decode.{length-listing}
-use Rattle.flow.specs.Structure.{blocks-of}
+use Rattle.blocks.specs.Structure.{blocks-of}
 use Rattle.flow.proofs.Falls.{else-later, chain-stop, chain-next}
 use Rattle.flow.proofs.steps.chain_end.Statement.{statement}
 use Rattle.flow.proofs.steps.chain_end.Tie as tie

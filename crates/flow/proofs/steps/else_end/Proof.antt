@@ -1,7 +1,7 @@
 -- `flow::steps::else_end` meets its contract. Assumes nothing.
 use borrow.Author.Needs.{needs}
 use Rattle.text.proofs.Bools.{bools}
-use Rattle.flow.proofs.Links.{wider}
+use Rattle.blocks.proofs.Links.{wider}
 use Rattle.flow.proofs.steps.else_end.Statement.{statement}
 use Rattle.flow.proofs.steps.else_end.Tie as tie
 

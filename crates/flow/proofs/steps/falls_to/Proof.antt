@@ -5,7 +5,7 @@ use borrow.Author.Needs.{needs}
 use denote.Ref.{now}
 use Rattle.definitions.specs.Columns.{listing}
 use Rattle.model.proofs.Decode.{length-listing}
-use Rattle.flow.specs.Structure.{blocks-of}
+use Rattle.blocks.specs.Structure.{blocks-of}
 use Rattle.flow.proofs.Falls.{else-later, falls-past, falls-next, falls-chain}
 use Rattle.flow.proofs.steps.falls_to.Statement.{statement}
 use Rattle.flow.proofs.steps.falls_to.Tie as tie

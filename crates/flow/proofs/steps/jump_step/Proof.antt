@@ -4,7 +4,7 @@ use denote.Ref.{now}
 use lib.ListN.{length}
 use Rattle.definitions.specs.Columns.{listing}
 use Rattle.definitions.specs.Model.{line}
-use Rattle.flow.specs.Gotos.{jump}
+use Rattle.labels.specs.Gotos.{jump}
 use Rattle.flow.proofs.Edges.{jump-some, jump-none}
 use Rattle.flow.proofs.steps.jump_step.Statement.{statement}
 use Rattle.flow.proofs.steps.jump_step.Tie as tie

@@ -8,10 +8,10 @@ use lib.ListN.{length, getD}
 use Rattle.definitions.specs.Columns.{listing}
 use Rattle.model.proofs.Decode.{length-listing}
 use Rattle.flow.specs.Drawing.{left, Drawing, from, lefts}
-use Rattle.flow.specs.Entries.{linked}
+use Rattle.blocks.specs.Entries.{linked}
 use Rattle.flow.proofs.Edges.{steps-next, steps-end, left-start, left-next, left-end}
 use Rattle.flow.proofs.Drawings.{matrices-kept}
-use Rattle.flow.proofs.Links.{wider}
+use Rattle.blocks.proofs.Links.{wider}
 use Rattle.flow.proofs.steps.leave_all.Statement.{statement}
 use Rattle.flow.proofs.steps.leave_all.Tie as tie
 

@@ -5,7 +5,7 @@ use denote.Ref.{now}
 use lib.ListN.{length}
 use Rattle.definitions.specs.Columns.{listing}
 use Rattle.model.proofs.Decode.{length-listing}
-use Rattle.flow.specs.Structure.{blocks-of}
+use Rattle.blocks.specs.Structure.{blocks-of}
 use Rattle.flow.proofs.Edges.{leaves-yes, leaves-no}
 use Rattle.flow.proofs.steps.leaves.Statement.{statement}
 use Rattle.flow.proofs.steps.leaves.Tie as tie

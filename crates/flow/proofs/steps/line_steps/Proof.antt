@@ -7,7 +7,7 @@ use lib.ListN.{length}
 use Rattle.definitions.specs.FlowGraph.{falls, past-end, cases, jumps, leaves}
 use Rattle.definitions.specs.Columns.{listing}
 use Rattle.flow.specs.Drawing.{from, back, own}
-use Rattle.flow.specs.Structure.{blocks-of}
+use Rattle.blocks.specs.Structure.{blocks-of}
 use Rattle.flow.proofs.Edges.{steps-append}
 use Rattle.flow.proofs.Drawings.{drawn-both, matrices-kept}
 use Rattle.flow.proofs.steps.line_steps.Statement.{statement}

@@ -5,9 +5,9 @@ use denote.Ref.{now}
 use lib.ListN.{length}
 use Rattle.definitions.specs.Columns.{listing}
 use Rattle.model.proofs.Decode.{length-listing}
-use Rattle.flow.specs.Structure.{blocks-of}
+use Rattle.blocks.specs.Structure.{blocks-of}
 use Rattle.flow.proofs.Edges.{end-inside, back-some, back-other, back-none}
-use Rattle.flow.proofs.Links.{wider}
+use Rattle.blocks.proofs.Links.{wider}
 use Rattle.flow.proofs.steps.loops_back.Statement.{statement}
 use Rattle.flow.proofs.steps.loops_back.Tie as tie
 

@@ -3,7 +3,7 @@ use borrow.Author.Needs.{needs}
 use denote.Ref.{now}
 use lib.ListN.{getD}
 use Rattle.flow.proofs.Edges.{after-some, after-none}
-use Rattle.flow.proofs.Links.{wider}
+use Rattle.blocks.proofs.Links.{wider}
 use Rattle.flow.proofs.steps.past_end.Statement.{statement}
 use Rattle.flow.proofs.steps.past_end.Tie as tie
 

@@ -9,7 +9,7 @@ use Rattle.definitions.specs.Lists.{to-list}
 use Rattle.definitions.specs.FlowGraph.{jumps}
 use Rattle.definitions.specs.Columns.{listing}
 use Rattle.definitions.specs.Model.{line}
-use Rattle.flow.specs.Gotos.{jump}
+use Rattle.labels.specs.Gotos.{jump}
 use Rattle.flow.specs.Drawing.{Drawing, from}
 use Rattle.flow.proofs.Edges.{jumps-from, steps-next, steps-end, jumps-start, jumps-next, jumps-end}
 use Rattle.flow.proofs.Drawings.{matrices-kept, drawing-start}

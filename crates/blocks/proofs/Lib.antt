@@ -1,0 +1,3 @@
+pub mod Links
+pub mod Stacks
+pub mod Reading

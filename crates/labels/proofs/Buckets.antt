@@ -1,0 +1,143 @@
+-- Labels in buckets.
+--   bucket-start, bucket-next, bucket-end       the loop of `bucket`
+--   indexed-start, indexed-label, indexed-other            the buckets before the first line, after a label, after another line
+--   lookup-start, lookup-found, lookup-next, lookup-end    the loop of `label_line`
+-- Assumes nothing.
+use Prim.Native.Nat.{ℕ, suc, _+_, _-_, _*_, _%_, _<_, _≤_}
+use mathlib.Core.Path.{_≡_, refl, sym, ap, _∙_}
+use mathlib.Core.Bool.{Bool, true, false, cond, _&&_}
+use mathlib.Core.List.{List}
+use mathlib.Core.Option.{Option, none, some}
+use native.Mathlib.Numerals.{add-one}
+use native.Mathlib.Decide.{ℕ-discrete}
+use native.Mathlib.Omega.{arith}
+use lib.ListN.{length, getD, set, take, drop}
+use lib.Seq.{getD-set-same, getD-set-other, take-all}
+use Rattle.definitions.specs.Lists.{find, fold, last-position, _==_}
+use Rattle.definitions.specs.Model.{Line, line, no-line, token}
+use Rattle.definitions.specs.Statements.{is-label, label}
+use Rattle.definitions.specs.FlowGraph.{label-line}
+use Rattle.text.proofs.Parts.{drop-step, drop-end}
+use Rattle.text.proofs.Texts.{ne-==}
+use Rattle.text.proofs.Loops.{last-found, last-next}
+use Rattle.labels.specs.Buckets.{mix, bucket, lookup, Indexed}
+use Rattle.blocks.specs.Entries.{linked}
+use Rattle.blocks.proofs.Links.{get-set, linked-set, linked-fuel}
+
+-- The bucket of a name
+
+pub bucket-start : (s : List ℕ) → bucket s ≡ fold mix 0 (drop 0 s)
+unfolding bucket
+bucket-start s = refl
+
+module _ (s : List ℕ) (h k : ℕ) (inv : bucket s ≡ fold mix h (drop k s)) where
+  pub bucket-next : (v : ℕ) → v ≡ getD s k 0 → k < length s → bucket s ≡ fold mix ((h * 31 + v) % 256) (drop (k + 1) s)
+  unfolding fold
+  bucket-next v e g = inv ∙ rw (drop-step 0 s k, e)
+
+  pub bucket-end : length s ≤ k → h ≡ bucket s
+  unfolding fold
+  bucket-end g = sym (inv ∙ rw (drop-end s k))
+
+-- The last of equal labels
+
+abbrev named : List ℕ → Line → Bool
+named s l = is-label l && (label l == s)
+
+label-at : (L : List Line) (i : ℕ) (s : List ℕ) → i < length L
+    → label-line (take (i + 1) L) s ≡ cond (named s (line L i)) (some i) (label-line (take i L) s)
+unfolding label-line
+label-at L i s h = go (named s (line L i)) refl
+  where
+    z : i + 1 - 1 ≡ i
+    z = omega arith
+
+    go : (b : Bool) → named s (line L i) ≡ b → last-position (named s) (take (i + 1) L) ≡ cond b (some i) (last-position (named s) (take i L))
+    go true e = sym (last-found (named s) L (i + 1) (last-position (named s) (take (i + 1) L)) refl no-line true (omega arith) (omega arith) (rw z (sym e)) refl) ∙ rw z
+    go false e = last-next (named s) L (i + 1) (last-position (named s) (take (i + 1) L)) refl no-line false (omega arith) (omega arith) (rw z (sym e)) refl ∙ rw z
+
+-- The labels of a bucket
+
+module _ (L : List Line) (s : List ℕ) where
+  module _ (ns : List ℕ) (p n : ℕ) (r : Option ℕ) (inv : r ≡ lookup L ns p p s) (low : (j : ℕ) → j < n → getD ns j 0 ≤ j) (le : p ≤ n) (z : p ≡ 0 → ⊥)
+      (b : Bool) (t : List ℕ) (eb : b ≡ (t == s)) (et : t ≡ token (line L (p - 1)) 0 .text) where
+    lookup-step : r ≡ cond b (some (p - 1)) (lookup L ns (getD ns (p - 1) 0) (getD ns (p - 1) 0) s)
+    unfolding lookup linked find
+    lookup-step =
+        let e : p ≡ suc (p - 1) = omega arith in
+        let q = low (p - 1) (omega arith) in
+        inv ∙ ap (λ (x : ℕ). lookup L ns x x s) e
+        ∙ rw (eb, et) (ap (λ (hs : List ℕ). cond (label (line L (p - 1)) == s) (some (p - 1)) (find (λ h. label (line L h) == s) hs))
+        (linked-fuel ns (p - 1) (getD ns (p - 1) 0) (getD ns (p - 1) 0) q (omega arith) (λ j g. low j (omega arith))))
+
+    pub lookup-found : b ≡ true → some (p - 1) ≡ r
+    lookup-found e = sym (lookup-step ∙ rw e)
+
+    pub lookup-next : b ≡ false → r ≡ lookup L ns (getD ns (p - 1) 0) (getD ns (p - 1) 0) s
+    lookup-next e = lookup-step ∙ rw e
+
+pub lookup-end : (L : List Line) (s ns : List ℕ) (p : ℕ) (r : Option ℕ) → r ≡ lookup L ns p p s → p ≡ 0 → none ≡ r
+unfolding lookup linked find
+lookup-end L s ns p r inv e = sym (inv ∙ rw e)
+
+-- The buckets, line by line
+
+module _ (L : List Line) (hs ns : List ℕ) where
+  pub indexed-start : ((b : ℕ) → getD hs b 0 ≡ 0) → Indexed L hs ns 0
+  unfolding lookup linked find label-line last-position
+  indexed-start e = record { below = λ b. rw (e b) (omega arith); back = λ j g. absurd (omega arith); found = λ s. refl }
+
+  pub lookup-start : (n : ℕ) → Indexed L hs ns n → n ≡ length L → (s : List ℕ) (p : ℕ) → p ≡ getD hs (bucket s) 0
+      → (p ≤ n) × (label-line L s ≡ lookup L ns p p s)
+  unfolding lookup
+  lookup-start n I e s p q =
+      let b : p ≤ n = rw q (I .below (bucket s)) in (
+        b,
+        ap (λ (M : List Line). label-line M s) (sym (take-all n L (omega arith))) ∙ sym (I .found s)
+            ∙ rw (← q) (ap (find (λ h. label (line L h) == s)) (linked-fuel ns n p p b (omega arith) (λ j g. I .back j (omega arith)))),
+      )
+
+  module _ (i : ℕ) (I : Indexed L hs ns i) (h : i < length L) (g : i < length ns) where
+    walk : (v k p : ℕ) → p ≤ i → p ≤ k → linked (set ns i v) k p ≡ linked ns i p
+    walk v k p b c =
+        linked-set ns i v k p b (λ j q. I .back j (omega arith)) ∙ linked-fuel ns k i p c b (λ j q. I .back j (omega arith))
+
+    -- a bucket that is left alone holds what it held
+    kept : (v : ℕ) (s : List ℕ) → lookup L (set ns i v) (i + 1) (getD hs (bucket s) 0) s ≡ label-line (take i L) s
+    unfolding lookup
+    kept v s =
+        let b = I .below (bucket s) in
+        ap (find (λ h. label (line L h) == s)) (walk v (i + 1) (getD hs (bucket s) 0) b (omega arith)) ∙ I .found s
+
+    pub indexed-other : (t : Bool) → t ≡ is-label (line L i) → t ≡ false → Indexed L hs (set ns i 0) (i + 1)
+    indexed-other t u v = record {
+      below = λ b. omega (arith, I .below b);
+      back = λ j q. get-set ns i j 0 g (λ v. v ≤ j) (λ z. omega arith) (λ z. I .back j (omega arith));
+      found = λ s. kept 0 s ∙ sym (label-at L i s h ∙ rw (← u, v));
+    }
+
+    pub indexed-label : (t : Bool) → t ≡ is-label (line L i) → t ≡ true → (b : ℕ) (x : List ℕ) → b ≡ bucket x → x ≡ label (line L i) → b < length hs
+        → Indexed L (set hs b (i + 1)) (set ns i (getD hs b 0)) (i + 1)
+    unfolding lookup linked find
+    indexed-label t u v b x q y m = record {
+      below = λ x. get-set hs b x (i + 1) m (λ v. v ≤ i + 1) (λ z. omega arith) (λ z. omega (arith, I .below x));
+      back = λ j a. get-set ns i j (getD hs b 0) g (λ v. v ≤ j) (λ z. omega (arith, I .below b)) (λ z. I .back j (omega arith));
+      found = λ s. go s (ℕ-discrete (bucket s) b);
+    }
+      where
+        go : (s : List ℕ) → Dec (bucket s ≡ b)
+            → lookup L (set ns i (getD hs b 0)) (i + 1) (getD (set hs b (i + 1)) (bucket s) 0) s ≡ label-line (take (i + 1) L) s
+        go s (yes z) =
+            let w = I .below b in
+            let f : lookup L (set ns i (getD hs b 0)) i (getD hs b 0) s ≡ label-line (take i L) s =
+            ap (find (λ h. label (line L h) == s)) (walk (getD hs b 0) i (getD hs b 0) w w)
+            ∙ ap (λ (x : ℕ). lookup L ns i (getD hs x 0) s) (sym z) ∙ I .found s in
+            let last : label-line (take (suc i) L) s ≡ cond (named s (line L i)) (some i) (label-line (take i L) s) = rw (add-one i) at (label-at L i s h) in
+            rw (z, getD-set-same hs b (i + 1) 0 m, add-one i, getD-set-same ns i (getD hs b 0) 0 g)
+            (ap (cond (label (line L i) == s) (some i)) f
+            ∙ sym (last ∙ rw (← u, v)))
+        go s (no z) =
+            rw (getD-set-other hs b (bucket s) (i + 1) 0 z)
+            (kept (getD hs b 0) s ∙ sym (label-at L i s h ∙ rw (← u, v, ne-== (label (line L i)) s (λ e. z (sym (q ∙ ap bucket (y ∙ e)))))))
+
+pub ruleset buckets = (bucket-start, bucket-next, bucket-end, lookup-found, lookup-next, lookup-end)

@@ -1,0 +1,95 @@
+-- `labels::index_line` meets its contract. By the test for a label. Assumes nothing.
+use native.Mathlib.Omega.{arith}
+use borrow.Author.Needs.{needs}
+use denote.Ref.{now}
+use Rattle.definitions.specs.Columns.{listing}
+use Rattle.model.proofs.Decode.{length-listing}
+use Rattle.labels.specs.Buckets.{bucket}
+use Rattle.labels.proofs.Buckets.{indexed-label, indexed-other}
+use Rattle.labels.proofs.index_line.Statement.{statement}
+use Rattle.labels.proofs.index_line.Tie as tie
+
+is-label-requires : tie.Need-is-label-requires
+is-label-requires c κs = search needs
+
+text-at-requires : tie.Need-text-at-requires
+text-at-requires c κs = search needs
+
+bucket-requires : tie.Need-bucket-requires
+bucket-requires c κs = search needs
+
+mul-nexts : tie.Need-mul-nexts
+mul-nexts c = search needs
+
+slice-read-nexts : tie.Need-slice-read-nexts
+slice-read-nexts c = search needs
+
+mul-nexts-2 : tie.Need-mul-nexts-2
+mul-nexts-2 c = search needs
+
+slice-write-nexts : tie.Need-slice-write-nexts
+slice-write-nexts c = search needs
+
+add-heads : tie.Need-add-heads
+add-heads c = search needs
+
+cast-heads : tie.Need-cast-heads
+cast-heads c = search needs
+
+mul-heads : tie.Need-mul-heads
+mul-heads c = search needs
+
+slice-write-heads : tie.Need-slice-write-heads
+slice-write-heads c = search needs
+
+mul-nexts-3 : tie.Need-mul-nexts-3
+mul-nexts-3 c = search needs
+
+slice-write-nexts-2 : tie.Need-slice-write-nexts-2
+slice-write-nexts-2 c = search needs
+
+same-length : tie.Need-same-length
+same-length c = search needs
+
+same-length-2 : tie.Need-same-length-2
+same-length-2 c = search needs
+
+returns : tie.Need-returns
+returns c =
+    let a = c .before .before .before .before .before .before .before .before .before .before .args in
+    indexed-label (listing (now (a .lines)) (now (a .tokens)) (now (a .text))) (now (a .heads)) (now (a .nexts)) (a .i) (c .before .before .before .before .before .before .before .before .before .before .pre .1)
+    (omega (arith, c .before .before .before .before .before .before .before .before .before .before .pre .0 .0, length-listing (now (a .lines)) (now (a .tokens)) (now (a .text)))) (omega arith)
+    (c .before .before .before .before .is-label .result) (c .before .before .before .before .is-label .ensures) (c .before .before .before .if1 .taken) (c .before .bucket .result) _ (c .before .bucket .ensures .0) (c .before .before .text-at .ensures) (omega arith)
+
+same-length-3 : tie.Need-same-length-3
+same-length-3 c = search needs
+
+returns-2 : tie.Need-returns-2
+returns-2 c =
+    let a = c .before .before .before .before .before .before .before .args in
+    indexed-other (listing (now (a .lines)) (now (a .tokens)) (now (a .text))) (now (a .heads)) (now (a .nexts)) (a .i) (c .before .before .before .before .before .before .before .pre .1)
+    (omega (arith, c .before .before .before .before .before .before .before .pre .0 .0, length-listing (now (a .lines)) (now (a .tokens)) (now (a .text)))) (omega arith)
+    (c .before .is-label .result) (c .before .is-label .ensures) (c .if1 .left)
+
+pub index-line-spec : {M : Type 1} → statement M
+index-line-spec =
+    tie.close
+    (tie.spec
+    is-label-requires
+    text-at-requires
+    bucket-requires
+    mul-nexts
+    slice-read-nexts
+    mul-nexts-2
+    slice-write-nexts
+    add-heads
+    cast-heads
+    mul-heads
+    slice-write-heads
+    mul-nexts-3
+    slice-write-nexts-2
+    same-length
+    same-length-2
+    returns
+    same-length-3
+    returns-2)
