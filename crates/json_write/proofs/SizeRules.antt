@@ -20,10 +20,10 @@ use Rattle.model.specs.declared.columns.Address.{Address}
 use Rattle.model.specs.declared.columns.Address.the-variants.{At, Missing}
 use Rattle.model.proofs.Decode.{length-tokens}
 use Rattle.json_definitions.specs.Writer.{decimal, kind-text, address-text}
-use Rattle.json_append.proofs.ValueRules.{one-digit, more-digits, no-kind}
-use Rattle.json_write.specs.Answers.{lines-of, head-text}
 use Rattle.json_append.specs.Sizes.{total, Sized}
 use Rattle.json_append.proofs.Sums.{Counted, counted-next, counted-end}
+use Rattle.json_append.proofs.ValueRules.{one-digit, more-digits, no-kind}
+use Rattle.json_write.specs.Answers.{lines-of, head-text}
 use Rattle.json_write.specs.Sizes.{ends, token-size, head-size}
 use Rattle.json_write.proofs.LineRules.{length-lines}
 
