@@ -1,11 +1,9 @@
 -- The picture of columns is that of their listing; rules for the needs of the functions of lib.rt.
---   start-is         where a line starts
---   nodes-same       the lines
---   edges-same       the edges
---   picture-is       the pieces of the picture
---   nodes-are        what is written of the lines
---   dot-drawn        the flow graph is drawn
---   dot-none         there is none
+--   start-is, line-same, cells-same, width-is    where a line starts, its text, its width, and the greatest width
+--   nodes-same, edges-same                       the lines, the edges
+--   picture-is, nodes-are                        the pieces of the picture
+--   dot-drawn                                    the flow graph is drawn
+--   no-flow, dot-brace, dot-label                there is none
 -- Assumes nothing.
 use Prim.Native.Nat.{ℕ, _+_, _*_, _-_, _<_}
 use mathlib.Core.Path.{_≡_, refl, sym, ap, _∙_}
@@ -118,7 +116,7 @@ module _ (l t x N : List ℕ) (space ranks out out′ : List ℕ) (e : ℕ) (a :
       let step = edges-same (succs (length l) 16 s) (steps (g .graph)) (length l) (λ i j a b. g .agree i j a b ∙ g .edge i j a b) in
       rw (g .flow, nodes-same l t x N (ready .cover), length-listing l t x, ← step) f
 
-  pub dot-none : (n : ℕ) → refused a ≡ flow-refusal (listing l t x) → refused a ≡ some n → Appended out 0 [] out′ e → Appended out 0 (dot-text (listing l t x) N) out′ e
+  dot-none : (n : ℕ) → refused a ≡ flow-refusal (listing l t x) → refused a ≡ some n → Appended out 0 [] out′ e → Appended out 0 (dot-text (listing l t x) N) out′ e
   unfolding dot-text drawn
   dot-none n q h f = rw (no-flow (listing l t x) n (sym q ∙ h)) f
 

@@ -1,8 +1,7 @@
 -- Texts of places one after the other: `rows` of Rattle.rows.specs.Rows, and a loop that writes them.
---   rows-same      the same text of each place
---   rows-moved     the same places, said otherwise
---   rows-list      the places of a list
---   going-end      a loop over the places has come to the end
+--   map-range, rows-same    the same of each place
+--   rows-list               the places of a list
+--   going-end               a loop over the places has come to the end
 -- Assumes nothing.
 use Prim.Native.Nat.{ℕ, zero, suc, _+_, _-_, _≤_, _<_}
 use mathlib.Core.Path.{_≡_, refl, sym, ap, _∙_}

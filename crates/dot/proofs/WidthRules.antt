@@ -2,7 +2,6 @@
 --   cells-web, cells-plain, web-most, plain-most     a token
 --   Summing, summing-start, -next, -end, -most       a loop over the tokens of a line
 --   line-is, indent-most                             a line
---   greater-yes, greater-no                          the greater of two numbers
 --   Measuring, measuring-start, -next, -end          a loop over the lines
 -- Assumes nothing.
 use Prim.Native.Nat.{ℕ, suc, _+_, _*_, _-_, _/_, _≤_, _<_, max}
@@ -84,12 +83,6 @@ pub line-is : (l t x N : List ℕ) (i d s : ℕ) → d ≡ line (listing l t x) 
     → s ≡ sum (map (token-cells (token-list t x) N) (range (line-start l i) (line-end l t i - line-start l i))) → 4 * d + s ≡ line-cells l t x N i
 unfolding line-cells cells
 line-is l t x N i d s p q = rw (p, q)
-
-pub greater-yes : (a b : ℕ) → a < b → b ≡ max a b
-greater-yes a b h = omega arith
-
-pub greater-no : (a b : ℕ) → b ≤ a → a ≡ max a b
-greater-no a b h = omega arith
 
 pub record Measuring (f : ℕ → ℕ) (n m i : ℕ) : Type 0 where
   pub rest : max m (greatest (map f (range i (n - i)))) ≡ greatest (map f (range 0 n))
