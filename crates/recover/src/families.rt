@@ -187,7 +187,7 @@ fn keep_row(table: &mut [u16], r: Register, c: usize)
     }
 }
 
-// The same of token 0 of line i, whose answer is r.
+// The same as `search`, of token 0 of line i, whose answer is r: its text is read only where the table has no row for it.
 fn search_line(
     lines: &[u32],
     tokens: &[u32],
@@ -200,15 +200,19 @@ fn search_line(
     requires { ⌜ Ready (listing (now lines) (now tokens) (now text)) i count (now table) ⌝ }
     ensures { λ c. ⌜ (let L = listing (now (lines .entry)) (now (tokens .entry)) (now (text .entry)) in c ≡ place-of (take count (defined-families L)) (family-of (token (line L i) 0 .text) r)) ⌝ }
 {
-    search(
-        lines,
-        tokens,
-        text,
-        table,
-        count,
-        model::columns::text_at(lines, tokens, text, i, 0),
-        r,
-    )
+    let c = row_word(table, r);
+    if c == 0 {
+        return search_chain(
+            lines,
+            tokens,
+            text,
+            table,
+            count,
+            model::columns::text_at(lines, tokens, text, i, 0),
+            r,
+        );
+    }
+    c
 }
 
 // The family of token 0 of line i, whose answer is r, put into the table.

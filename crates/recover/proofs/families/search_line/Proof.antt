@@ -1,18 +1,26 @@
--- `recover::families::search_line` meets its contract. By its calls.
+-- `recover::families::search_line` meets its contract.
 -- Assumes nothing.
+use Rattle.recover.proofs.Finding.{row-rules}
 use Rattle.recover.proofs.Numbered.{place-rules}
 use borrow.Author.Needs.{needs}
 use Rattle.recover.proofs.families.search_line.Statement.{statement}
 use Rattle.recover.proofs.families.search_line.Tie as tie
 
-text-at-requires : tie.Need-text-at-requires
-text-at-requires c κs = search (place-rules, needs)
+row-word-requires : tie.Need-row-word-requires
+row-word-requires c κs = search (place-rules, row-rules, needs)
 
-search-requires : tie.Need-search-requires
-search-requires c κs = search (place-rules, needs)
+text-at-requires : tie.Need-text-at-requires
+text-at-requires c κs = search (place-rules, row-rules, needs)
+
+search-chain-requires : tie.Need-search-chain-requires
+search-chain-requires c κs = search (place-rules, row-rules, needs)
 
 returns : tie.Need-returns
-returns c = search (place-rules, needs)
+returns c = search (place-rules, row-rules, needs)
+
+returns-2 : tie.Need-returns-2
+returns-2 c = search (place-rules, row-rules, needs)
 
 pub search-line-spec : {M : Type 1} → statement M
-search-line-spec = tie.close (tie.spec text-at-requires search-requires returns)
+search-line-spec =
+    tie.close (tie.spec row-word-requires text-at-requires search-chain-requires returns returns-2)
