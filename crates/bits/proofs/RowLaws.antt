@@ -2,6 +2,8 @@
 --   bit-in-word, filled-off    a bit by its word; a bit that a filled row does not have is as it was
 --   set-one                    a word with one bit set
 --   fill-*                     a row filled so far: at first, by one word more, in the end
+--   *-one                      the same of a row of one word
+--   zero-*                     the words of a cleared row
 --   differ-*                   so for the comparison of two rows
 --   none-*, found, past        so for the search of a set bit
 --   low-last                   the last word of the low bits of a row
@@ -24,8 +26,8 @@ use mir.Syntax.{w64}
 use mir.Val.{Fits}
 use borrow.Author.Tests.{eq-eqb, ne-eqb, eqb-true, eqb-false, le-leb, lt-leb}
 use Rattle.theory.proofs.Bools.{clash, lt-or-ge}
-use Rattle.bits.specs.Rows.{word-bit, bit, Away, Filled, WithBit, joined, joined-low, copied, Differs, First}
-use Rattle.bits.proofs.Words.{zero-bit, or-bit, shr-bit, one-bit, above-bit, word-other, low-none, low-there, keep-low}
+use Rattle.bits.specs.Rows.{word-bit, bit, Away, Filled, Zero, WithBit, joined, joined-low, copied, Differs, First}
+use Rattle.bits.proofs.Words.{zero-bit, or-bit, shr-bit, one-bit, all-bits, above-bit, word-other, low-none, low-there, keep-low}
 
 pub bit-in-word : (l : List ℕ) (w k : ℕ) → k < 64 → bit l (w * 64 + k) ≡ word-bit (getD l w 0) k
 unfolding bit
@@ -112,6 +114,43 @@ module _ (l₀ l : List ℕ) (w u i r : ℕ) (hi : i < r) (el : length l ≡ len
   fill-copy l′ e F hu h = rw e (fill-next l₀ l w i (getD l (u + i) 0) (copied l₀ u) F (omega arith)
       (λ k hk. word-left l₀ l w i u i k (copied l₀ u) F hk (λ a b. omega arith)))
 
+  pub fill-all : Filled l₀ l w i (λ k. true) → w + r ≤ length l₀ → Filled l₀ (set l (w + i) 18446744073709551615) w (i + 1) (λ k. true)
+  fill-all F h = fill-next l₀ l w i 18446744073709551615 (λ k. true) F (omega arith) (λ k q. all-bits k q)
+
+  pub zero-next : Zero l w i → w + r ≤ length l₀ → Zero (set l (w + i) 0) w (i + 1)
+  zero-next Z h v x y = elim (ℕ-discrete v (w + i)) [
+    | yes e ↦ rw e (getD-set-same l (w + i) 0 0 (omega arith))
+    | no e ↦ getD-set-other l (w + i) v 0 0 e ∙ Z v x (omega arith)
+  ]
+
+pub zero-none : (l : List ℕ) (w : ℕ) → Zero l w 0
+zero-none l w v x y = absurd (omega arith)
+
+pub zero-end : (l : List ℕ) (w i r : ℕ) → Zero l w i → r ≤ i → Zero l w r
+zero-end l w i r Z h v x y = Z v x (omega arith)
+
+-- A row of one word
+
+module _ (l : List ℕ) (w r : ℕ) (one : r ≡ 1) (h : w + r ≤ length l) where
+  fill-one : (v : ℕ) (f : ℕ → Bool) → ((k : ℕ) → k < 64 → word-bit v k ≡ f k) → Filled l (set l w v) w r f
+  fill-one v f e = record {
+    inside = λ k q. store-at l w v k (omega arith) (omega arith) ∙ e k (omega arith);
+    outside = λ u q. getD-set-other l w u v 0 (λ z. q (omega arith) (omega arith));
+  }
+
+  pub clear-one : Filled l (set l w 0) w r (λ k. false)
+  clear-one = fill-one 0 (λ k. false) (λ k q. zero-bit k)
+
+  pub zero-one : Zero (set l w 0) w r
+  zero-one v x y = let e : v ≡ w = omega arith in rw e (getD-set-same l w 0 0 (omega arith))
+
+  pub or-one : (u : ℕ) → Filled l (set l w (bitOr (getD l w 0) (getD l u 0))) w r (joined l w u)
+  or-one u = fill-one (bitOr (getD l w 0) (getD l u 0)) (joined l w u)
+      (λ k q. or-bit (getD l w 0) (getD l u 0) k ∙ ap₂ _||_ (sym (bit-in-word l w k q)) (sym (bit-in-word l u k q)))
+
+pub copy-one : (l : List ℕ) (w u r : ℕ) (l′ : List ℕ) → r ≡ 1 → w + r ≤ u → u + r ≤ length l → l′ ≡ set l w (getD l u 0) → Filled l l′ w r (copied l u)
+copy-one l w u r l′ one g h e = rw e (fill-one l w r one (omega arith) (getD l u 0) (copied l u) (λ k q. sym (bit-in-word l u k q)))
+
 pub low-last : (l₀ l : List ℕ) (w u k : ℕ) → Filled l₀ l w (k / 64) (joined l₀ w u) → u + (k / 64 + 1) ≤ w → w + (k / 64 + 1) ≤ length l
     → Filled l₀ (set l (w + k / 64) (bitOr (getD l (w + k / 64) 0) (getD l (u + k / 64) 0 * 2 ^ (63 - k % 64) % 18446744073709551616 / 2 ^ (63 - k % 64)))) w (k / 64 + 1) (joined-low l₀ w u k)
 low-last l₀ l w u k F hu h =
@@ -173,6 +212,12 @@ differ-next l₀ l w u i r t b z F hi hu kn D eb ez = go (eqb (getD l (w + i) 0)
           same = λ f. clash zt f;
           other = λ f. (i * 64 + s .0, omega (arith, s .1), λ q. s .2 (old (s .0) (s .1) ∙ q ∙ sym (new (s .0) (s .1))));
         }
+
+pub differ-one : (l : List ℕ) (w u r : ℕ) (t : Bool) → r ≡ 1 → w + r ≤ u → ((k : ℕ) → Fits w64 (getD l k 0)) → t ≡ not (eqb (getD l w 0) (getD l u 0)) → Differs l w u r t
+differ-one l w u r t one h kn e =
+    let a : w + 0 ≡ w = omega arith in
+    let b : u + 0 ≡ u = omega arith in
+    rw one (differ-next l l w u 0 1 false t t (fill-none l w (copied l u)) (omega arith) (omega arith) kn (differ-none l w u) (rw (a, b) e) (sym (or-false t)))
 
 -- The search for a set bit: none from a on below p
 

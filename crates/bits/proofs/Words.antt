@@ -1,5 +1,6 @@
 -- Bit k of a word.
 --   zero-bit, or-bit, shr-bit, one-bit    the bits of 0, of a | b, of a word shifted down, of a power of two
+--   all-bits                              the bits of the greatest word
 --   above-bit                             a word below 2 ^ k has no bit k
 --   word-other                            two words that differ do so in some bit
 --   low-none, low-there                   the lowest set bit
@@ -57,6 +58,14 @@ one-bit zero zero = low-bit 1
 one-bit zero (suc k) = half-bit 1 k ∙ zero-bit k ∙ sym (eqb·suc-zero k)
 one-bit (suc m) zero = low-bit (2 ^ suc m) ∙ rw (pow-suc 2 m, mul-mod-left (2 ^ m) 2) (sym (eqb·zero-suc m))
 one-bit (suc m) (suc k) = half-bit (2 ^ suc m) k ∙ rw (pow-suc 2 m, mul-div-cancel (2 ^ m) (zero-lt-suc 1)) (one-bit m k) ∙ sym (eqb·suc-suc k m)
+
+ones : (m k : ℕ) → k < m → word-bit (2 ^ m - 1) k ≡ true
+ones zero k h = absurd (omega arith)
+ones (suc m) zero h = low-bit (2 ^ suc m - 1) ∙ (let e : (2 ^ suc m - 1) % 2 ≡ 1 = rw (pow-suc 2 m) (omega (arith, pow-pos m)) in rw e)
+ones (suc m) (suc k) h = half-bit (2 ^ suc m - 1) k ∙ (let e : (2 ^ suc m - 1) / 2 ≡ 2 ^ m - 1 = rw (pow-suc 2 m) (omega (arith, pow-pos m)) in rw e (ones m k (omega arith)))
+
+pub all-bits : (k : ℕ) → k < 64 → word-bit 18446744073709551615 k ≡ true
+all-bits k h = ones 64 k h
 
 half-lt : (k w : ℕ) → w < 2 ^ suc k → w / 2 < 2 ^ k
 half-lt k w h = div-lt-iff-lt-mul (zero-lt-suc 1) .1 (subst (λ (x : ℕ). w < x) (pow-suc 2 k) h)

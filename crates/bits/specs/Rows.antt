@@ -3,6 +3,7 @@
 --   bit l a                 bit a of the words l: bit a % 64 of word a / 64
 --   Away v w i              word v is none of the words w, w + 1, .., i of them
 --   Filled l₀ l w i f       l is l₀ with the bits f in the words w, w + 1, .., i of them
+--   Zero l w i              the words w, w + 1, .., i of them, are 0
 --   WithBit l₀ l a          l is l₀ with bit a set
 --   joined, joined-low      the bits of two rows together; of the second only those up to k
 --   copied                  the bits of one row
@@ -29,6 +30,9 @@ Away v w i = w ≤ v → v < w + i → ⊥
 pub record Filled (l₀ l : List ℕ) (w i : ℕ) (f : ℕ → Bool) : Type 0 where
   pub inside : (k : ℕ) → k < i * 64 → bit l (w * 64 + k) ≡ f k
   pub outside : (v : ℕ) → Away v w i → getD l v 0 ≡ getD l₀ v 0
+
+abbrev pub Zero : List ℕ → ℕ → ℕ → Type 0
+Zero l w i = (v : ℕ) → w ≤ v → v < w + i → getD l v 0 ≡ 0
 
 pub record WithBit (l₀ l : List ℕ) (a : ℕ) : Type 0 where
   pub bits : (b : ℕ) → bit l b ≡ (bit l₀ b || eqb b a)

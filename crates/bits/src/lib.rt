@@ -1,28 +1,23 @@
 // Bit rows in one lent slice of 64-bit words, and the edges of a flow graph as two matrices of such rows.
 //
 // Bit a of a slice is bit a % 64 of its word a / 64. A row is given by its first word and its number of words; the functions on rows
-// take a step a word. `find_bit` takes a step a word that it looks at.
+// take a step a word, and one word without a loop, since most rows have one. `find_bit` takes a step a word that it looks at.
 //
-// For n lines and rows of r words, n <= 64 r:
+// For n lines and rows of r words, n + 64 <= 64 r:
 //   words [0, n r)         predecessors: bit i of row j says that line i steps to line j
 //   words [n r, 2 n r)     successors: bit j of row i says the same
-// `add_edge` sets two bits. The contracts cite `bit`, `Filled`, `edges`, `succs` and `Agree` of specs/; `preds-of` gives the predecessor
-// lists that the sweeps of Rattle.definitions.specs.Sweeps are over.
+// The last word of a row has no line's bit. It is the row's span: the row's first bit is span % 65536, and its bits lie below span / 65536;
+// the span of an empty row is 0.
+// `add_edge` sets two bits and widens two spans; `row_span` answers where a row's bits lie. The contracts cite `bit`, `Filled`, `edges`,
+// `succs`, `Spanned` and `Agree` of specs/; `preds-of` gives the predecessor lists that the sweeps of Rattle.definitions.specs.Sweeps are over.
 ghost use mathlib.Core.Path.{_≡_};
-ghost use mathlib.Core.Bool.{false, _||_, not};
+ghost use mathlib.Core.Bool.{true, false, _||_, not};
 ghost use Prim.Native.Nat.{_+_, _*_, _/_, _<_, _≤_};
 ghost use lib.ListN.{length, getD, set};
 ghost use lib.Dec.{eqb};
 ghost use lib.Count.{trailingZeros};
-ghost use Rattle.bits.specs.Rows.{bit, Filled, WithBit, joined, joined-low, copied, Differs, First};
-ghost use Rattle.bits.specs.Edges.{Matrices, NoEdges, Added};
-
-pub fn get_bit(s: &[u64], a: usize) -> bool
-    requires { ⌜ a / 64 < length (now s) ⌝ }
-    ensures { λ b. ⌜ b ≡ bit (now (s .entry)) a ⌝ }
-{
-    (s[a / 64] >> (a % 64)) % 2 == 1
-}
+ghost use Rattle.bits.specs.Rows.{Filled, Zero, WithBit, joined, joined-low, copied, Differs, First};
+ghost use Rattle.bits.specs.Edges.{Matrices, Spanned, Widened, Widen, Noted, Between, NoEdges, Added};
 
 pub fn set_bit(s: &mut [u64], a: usize)
     requires { ⌜ a / 64 < length (now s) ⌝ }
@@ -35,10 +30,27 @@ pub fn set_bit(s: &mut [u64], a: usize)
 pub fn clear_row(s: &mut [u64], w: usize, r: usize)
     requires { ⌜ w + r ≤ length (now s) ⌝ }
     ensures { λ z. ⌜ Filled (now (s .entry)) (now (s .exit)) w r (λ k. false) ⌝ }
+    ensures { λ z. ⌜ Zero (now (s .exit)) w r ⌝ }
 {
+    if r == 1 {
+        s[w] = 0;
+        return;
+    }
     let mut i = 0;
     while i < r {
         s[w + i] = 0;
+        i += 1;
+    }
+}
+
+// Sets every bit of a row.
+pub fn fill_row(s: &mut [u64], w: usize, r: usize)
+    requires { ⌜ w + r ≤ length (now s) ⌝ }
+    ensures { λ z. ⌜ Filled (now (s .entry)) (now (s .exit)) w r (λ k. true) ⌝ }
+{
+    let mut i = 0;
+    while i < r {
+        s[w + i] = 18446744073709551615;
         i += 1;
     }
 }
@@ -48,6 +60,10 @@ pub fn or_row(s: &mut [u64], w: usize, u: usize, r: usize)
     requires { ⌜ (u + r ≤ w) × (w + r ≤ length (now s)) ⌝ }
     ensures { λ z. ⌜ Filled (now (s .entry)) (now (s .exit)) w r (joined (now (s .entry)) w u) ⌝ }
 {
+    if r == 1 {
+        s[w] = s[w] | s[u];
+        return;
+    }
     let mut k = 0;
     while k < r {
         s[w + k] = s[w + k] | s[u + k];
@@ -90,6 +106,10 @@ pub fn store_row(s: &mut [u64], w: usize, u: usize, r: usize) -> bool
     ensures { λ t. ⌜ Differs (now (s .entry)) w u r t ⌝ }
     ensures { λ t. ⌜ Filled (now (s .entry)) (now (s .exit)) w r (copied (now (s .entry)) u) ⌝ }
 {
+    if r == 1 {
+        let y = s[u];
+        return put(s, w, y);
+    }
     let mut changed = false;
     let mut i = 0;
     while i < r {
@@ -144,13 +164,74 @@ pub fn no_edges(space: &mut [u64], n: usize, r: usize)
     clear_row(space, 0, n * r + n * r);
 }
 
+// The span with bit p.
+fn widened(span: u64, p: u64) -> u64
+    requires { ⌜ p < 65536 ⌝ }
+    ensures { λ s. ⌜ Widened span p s ⌝ }
+{
+    let low = span % 65536;
+    let end = span / 65536;
+    if end == 0 {
+        return (p + 1) * 65536 + p;
+    }
+    if p < low {
+        return end * 65536 + p;
+    }
+    if end <= p {
+        return (p + 1) * 65536 + low;
+    }
+    span
+}
+
+// The span at word v, with bit p.
+fn widen(s: &mut [u64], v: usize, p: usize)
+    requires { ⌜ (v < length (now s)) × (p < 65536) ⌝ }
+    ensures { λ z. ⌜ Widen (now (s .entry)) (now (s .exit)) v p ⌝ }
+{
+    let x = widened(s[v], p as u64);
+    s[v] = x;
+}
+
+// Bit p of the row of lines at word u, and the row's span.
+fn note(s: &mut [u64], n: usize, r: usize, u: usize, p: usize)
+    requires { ⌜ (n + 64 ≤ r * 64) × (u + r ≤ length (now s)) × (p < n) × (p < 65536) × (u + r < 200000) ⌝ }
+    ensures { λ z. ⌜ Noted n r u p (now (s .entry)) (now (s .exit)) ⌝ }
+{
+    set_bit(s, u * 64 + p);
+    widen(s, u + r - 1, p);
+}
+
+// Where the bits of a row of lines lie: from bit `from`, the first, on, below bit `end`.
+pub struct Span {
+    pub from: usize,
+    pub end: usize,
+}
+
+fn wide(x: u64) -> usize
+    ensures { λ y. ⌜ y ≡ x ⌝ }
+{
+    x as usize
+}
+
+// Where the bits of the row of lines at word u lie.
+pub fn row_span(s: &[u64], n: usize, r: usize, u: usize) -> Span
+    requires { ⌜ (n + 64 ≤ r * 64) × (u + r ≤ length (now s)) × (u + r < 200000) × Spanned n r (now s) u ⌝ }
+    ensures { λ x. ⌜ Between n (now (s .entry)) u x ⌝ }
+{
+    let x = wide(s[u + r - 1]);
+    Span {
+        from: u * 64 + x % 65536,
+        end: u * 64 + x / 65536,
+    }
+}
+
 // The edge from line p to line q, in both matrices.
 pub fn add_edge(space: &mut [u64], n: usize, r: usize, p: usize, q: usize)
     requires { ⌜ Matrices n r (now space) × (p < n) × (q < n) ⌝ }
     ensures { λ z. ⌜ Added n r p q (now (space .entry)) (now (space .exit)) ⌝ }
 {
     let before = row(n, r, q);
-    set_bit(space, before * 64 + p);
+    note(space, n, r, before, p);
     let after = n * r + row(n, r, p);
-    set_bit(space, after * 64 + q);
+    note(space, n, r, after, q);
 }

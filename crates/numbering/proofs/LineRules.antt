@@ -24,7 +24,7 @@ use Rattle.theory.proofs.ListLaws.{replicate-default}
 use Rattle.text.specs.Zeroed.{zeroed}
 use Rattle.definitions.specs.Questions.{space-words}
 use Rattle.definitions.specs.Sweeps.{sweeps}
-use Rattle.bits.specs.Edges.{Agree, preds-of}
+use Rattle.bits.specs.Edges.{row-words, Agree, preds-of}
 use Rattle.sweep.specs.Layout.{Room}
 use Rattle.sweep.specs.Numbers.{defining-lines, Numbered, Counted}
 use Rattle.sweep.specs.Solved.{Solved, answer}
@@ -159,7 +159,7 @@ module _ (n r w budget : ℕ) (nums l₀ l₁ : List ℕ) (a : Sweeps) (S : Solv
     holds = rw (kept-preds n r w l₀ l₁ (R .wide) (S .kept)) (S .holds (solved-count s e));
   }
 
-  pub solved-done : (s : ℕ) → a ≡ Done s → n ≤ r * 64 → (is l own read : List ℕ) → LineNumbers n r w nums l₁ l is own read → SolvedLines n r w nums budget l₀ l is own read (Done s)
+  pub solved-done : (s : ℕ) → a ≡ Done s → n + 64 ≤ r * 64 → (is l own read : List ℕ) → LineNumbers n r w nums l₁ l is own read → SolvedLines n r w nums budget l₀ l is own read (Done s)
   solved-done s e k is l own read M = record {
     answers = sym e ∙ S .answers;
     done = λ h. lines-from n r w nums l₀ l₁ l is own read (kept-preds n r w l₀ l₁ k (S .kept)) M;
@@ -177,7 +177,7 @@ module _ (n c f : ℕ) (ds nums : List ℕ) (C : Counted n ds f nums c) (pos : 0
   pub family-numbered : Numbered n (c / 64 + 1) nums
   family-numbered = C .numbered (c / 64 + 1) (omega arith)
 
-  pub family-room : (r : ℕ) (l₀ : List ℕ) → r ≡ (n + 63) / 64 → space-words n ≤ length l₀ → Room n r (c / 64 + 1) l₀
+  pub family-room : (r : ℕ) (l₀ : List ℕ) → r ≡ row-words n → space-words n ≤ length l₀ → Room n r (c / 64 + 1) l₀
   family-room r l₀ e h = rw e (room n (c / 64 + 1) l₀ pos few (omega arith) (omega (arith, C .below)) h)
 
   pub family-sized : (rep set : List ℕ) → n ≤ length rep → n ≤ length set → Sized n nums (take (c + 1) rep) set

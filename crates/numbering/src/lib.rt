@@ -6,7 +6,7 @@ ghost use mathlib.Core.Path.{_≡_};
 ghost use Prim.Native.Nat.{_+_, _/_, _<_, _≤_};
 ghost use lib.ListN.{length};
 ghost use Rattle.definitions.specs.Questions.{space-words};
-ghost use Rattle.bits.specs.Edges.{Agree};
+ghost use Rattle.bits.specs.Edges.{row-words, Agree};
 ghost use Rattle.sweep.specs.Layout.{Room};
 ghost use Rattle.sweep.specs.Numbers.{Numbered};
 ghost use Rattle.recover.specs.Numbers.{Ranked};
@@ -130,7 +130,7 @@ pub fn family_lines(
     own: &mut [u16],
     read: &mut [u16],
 ) -> Sweeps
-    requires { ⌜ (0 < n) × (n ≤ 1024) × (r ≡ (n + 63) / 64) × (space-words n ≤ length (now space)) × Agree n r (now space) × Below n (now reads) ⌝ }
+    requires { ⌜ (0 < n) × (n ≤ 1024) × (r ≡ row-words n) × (space-words n ≤ length (now space)) × Agree n r (now space) × Below n (now reads) ⌝ }
     requires { ⌜ (k < 1024) × (n ≤ length (now defs)) × Scratch n (now nums) (now rep) (now rank) (now set) (now seen) (now own) (now read) ⌝ }
     ensures { λ a. ⌜ FamilyLines n r k (now (defs .entry)) budget (now (space .entry)) (now (space .exit)) (now (reads .entry)) (now (own .exit)) (now (read .exit)) a ⌝ }
 {

@@ -8,7 +8,7 @@
 --   space-swapped            what the working space held at first does not matter
 --   within-answered, within-refused    questions 1 to 5
 -- Assumes nothing.
-use Prim.Native.Nat.{ℕ, zero, suc, _+_, _-_, _/_, _≤_, _<_}
+use Prim.Native.Nat.{ℕ, zero, suc, _+_, _-_, _≤_, _<_}
 use mathlib.Core.Path.{_≡_, refl, sym, ap, ap₂, _∙_}
 use mathlib.Core.Logic.{_≢_}
 use mathlib.Core.Bool.{Bool, true, false}
@@ -27,6 +27,7 @@ use Rattle.definitions.specs.Questions.{Limits}
 use Rattle.definitions.specs.Recover.{recover}
 use Rattle.definitions.specs.Answers.{Answer, refused, accepted, Numbered, numbered-webs, webs-refusal, webs}
 use Rattle.definitions.specs.Calls.{Lent, Called, zeros, filled, webs-written}
+use Rattle.bits.specs.Edges.{row-words}
 use Rattle.text.specs.Zeroed.{zeroed}
 use Rattle.model.specs.Refusals.{refused as asked-refused}
 use Rattle.model.proofs.Decode.{length-listing}
@@ -154,7 +155,7 @@ module _ (l t x ns ms ws ws₀ ns₁ ms₁ ws₁ : List ℕ) (b : ℕ) (lw : len
 
 -- The flow graph is drawn
 
-pub ready : (l t x ns ms ws ws₀ : List ℕ) (r : ℕ) (f : Flow) → Asked l t x ns ms ws → length ws₀ ≡ length ws → 2 ≤ length l → r ≡ (length l + 63) / 64
+pub ready : (l t x ns ms ws ws₀ : List ℕ) (r : ℕ) (f : Flow) → Asked l t x ns ms ws → length ws₀ ≡ length ws → 2 ≤ length l → r ≡ row-words (length l)
     → flow-refused f ≡ flow-refusal (listing l t x) → flow-refused f ≡ none → Graph (listing l t x) (length l) r ws ws₀
     → Ready l t x ns ms ws₀ r
 ready l t x ns ms ws ws₀ r f A lw two row e g G = record {

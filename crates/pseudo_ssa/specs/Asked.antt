@@ -2,7 +2,7 @@
 --   Asked    questions 1 to 5 are answered yes
 --   Ready    questions 7 to 9 too, and the flow graph is drawn
 -- Assumes nothing.
-use Prim.Native.Nat.{ℕ, _+_, _/_, _≤_}
+use Prim.Native.Nat.{ℕ, _≤_}
 use mathlib.Core.Path.{_≡_}
 use mathlib.Core.Bool.{true}
 use mathlib.Core.List.{List}
@@ -11,6 +11,7 @@ use lib.ListN.{length}
 use Rattle.definitions.specs.Columns.{listing}
 use Rattle.definitions.specs.Questions.{question-2, space-words}
 use Rattle.definitions.specs.Answers.{webs-refusal}
+use Rattle.bits.specs.Edges.{row-words}
 use Rattle.webs.specs.Progress.{Drawn}
 
 pub record Asked (l t x numbers marks space : List ℕ) : Type 0 where
@@ -23,7 +24,7 @@ pub record Asked (l t x numbers marks space : List ℕ) : Type 0 where
 
 pub record Ready (l t x numbers marks space : List ℕ) (r : ℕ) : Type 0 where
   pub asked : Asked l t x numbers marks space
-  pub row : r ≡ (length l + 63) / 64
+  pub row : r ≡ row-words (length l)
   pub two : 2 ≤ length l
   pub accepted : webs-refusal (listing l t x) ≡ none
   pub drawn : Drawn (listing l t x) (length l) r space

@@ -145,7 +145,7 @@ fn answered(
         zero(numbers, marks, space, 0);
         return Webs::Refused(7);
     }
-    let r = (n + 63) / 64;
+    let r = (n + 63) / 64 + 1;
     match flow::graph::flow_graph(lines, tokens, text, space, r) {
         Flow::Drawn => numbered(lines, tokens, text, numbers, marks, space, r, budget),
         Flow::UnmatchedBrace => {

@@ -5,7 +5,7 @@
 --   marks-start, marks-next, marks-end    the loop of `mark_all`
 --   merged-yes, merged-no, merged-past    one representative
 --   merge-next                            the loop of `merge`
---   link-none, link-some                  `link`
+--   link-few, link-some                  `link`
 --   starts-yes, starts-no, ranks-start, ranks-next, ranks-count     `starts` and the loop of `ranks`
 -- Assumes nothing.
 use Prim.Native.Nat.{ℕ, zero, suc, _+_, _-_, _<_, _≤_, min}
@@ -154,10 +154,11 @@ marked-at rep (d ∷ ds) marks r h w =
     go false e true = refl
     go false e false = getD-set-other marks (getD rep d 0) r 1 0 (eqb-false r (getD rep d 0) e)
 
-pub link-none : (rep ds : List ℕ) → length ds ≡ 0 → rep ≡ link rep ds
+pub link-few : (rep ds : List ℕ) → length ds < 2 → rep ≡ link rep ds
 unfolding link
-link-none rep [] h = refl
-link-none rep (d ∷ ds) h = absurd (omega arith)
+link-few rep [] h = refl
+link-few rep (d ∷ []) h = refl
+link-few rep (d ∷ (e ∷ ds)) h = absurd (omega arith)
 
 module _ (rep ds marks : List ℕ) (w : Within (length marks) rep) where
   pub link-some : (zeros now last : List ℕ) (m : ℕ) → zeros ≡ zeroed 0 marks → now ≡ marked rep zeros ds → Least rep ds m → last ≡ map (merged m now) rep → last ≡ link rep ds
@@ -212,4 +213,4 @@ module _ (rep d o : List ℕ) (i count : ℕ) (same : length d ≡ length rep) w
   unfolding ranked
   ranks-end inv h s = fill-end (earlier rep) (up-to (length rep)) d o i (length rep) (sym (length-range 0 (length rep))) inv same (omega arith)
 
-pub ruleset representative-rules = (alone-start, alone-next, alone-end, rep-of, least-one, least-next, least-end, mark-at, mark-past, marks-start, marks-next, marks-end, merged-yes, merged-no, merged-past, fill-start, merge-next, merge-end, link-none, link-some, starts-yes, starts-no, ranks-start, ranks-none, ranks-next, ranks-count, ranks-end)
+pub ruleset representative-rules = (alone-start, alone-next, alone-end, rep-of, least-one, least-next, least-end, mark-at, mark-past, marks-start, marks-next, marks-end, merged-yes, merged-no, merged-past, fill-start, merge-next, merge-end, link-few, link-some, starts-yes, starts-no, ranks-start, ranks-none, ranks-next, ranks-count, ranks-end)

@@ -1,10 +1,10 @@
 -- Rules for the needs of `sets`.
 --   filter-snoc                                        a filtered list with one more at its end
 --   put-yes, put-no                                    `put`
---   members-start, members-next, members-end           the loop of `members`
+--   Listing, members-start, members-next, members-few, members-end  the loop of `members`
 --   row-room, reached-by                               `reaching`
 -- Assumes nothing.
-use Prim.Native.Nat.{ℕ, zero, suc, _+_, _*_, _<_, _≤_}
+use Prim.Native.Nat.{ℕ, zero, suc, _+_, _-_, _*_, _<_, _≤_}
 use mathlib.Core.Path.{_≡_, refl, sym, ap, _∙_}
 use mathlib.Core.Bool.{Bool, true, false, cond}
 use mathlib.Core.List.{List, [], _∷_, _++_, append-nil}
@@ -14,7 +14,7 @@ use native.Mathlib.Numerals.{add-one}
 use lib.ListN.{length, set, take}
 use lib.Seq.{take-suc-set}
 use Rattle.definitions.specs.Lists.{filter, range, up-to}
-use Rattle.bits.specs.Rows.{bit}
+use Rattle.bits.specs.Rows.{bit, First}
 use Rattle.sweep.specs.Layout.{making, Room}
 use Rattle.sweep.specs.Solved.{Incoming}
 use Rattle.recover.specs.Reaching.{bits-from, Put, Reached}
@@ -41,21 +41,64 @@ filter-snoc p (y ∷ xs) x = go (p y) (filter-snoc p xs x)
     go true e = ap (y ∷_) e
     go false e = e
 
-pub members-start : (l s : List ℕ) (a : ℕ) → take 0 s ≡ bits-from l a 0
+-- The bits below b are listed so far, in the first m words; bit q, b places behind a, is the next that is set, or e
+
+bits-none : (l : List ℕ) (a : ℕ) → bits-from l a 0 ≡ []
 unfolding bits-from filter range
-members-start l s a = refl
+bits-none l a = refl
 
-module _ (l : List ℕ) (a m b : ℕ) (s₀ : List ℕ) (inv : take m s₀ ≡ bits-from l a b) where
-  pub members-next : (y : Bool) (s : List ℕ) (k : ℕ) → y ≡ bit l (a + b) → Put s₀ s m b y k → take k s ≡ bits-from l a (b + 1)
-  unfolding bits-from
-  members-next y s k e P =
-      P .front ∙ ap (_++ cond y (b ∷ []) []) inv
-      ∙ ap (λ (c : Bool). filter (λ b. bit l (a + b)) (up-to b) ++ cond c (b ∷ []) []) e
-      ∙ sym (filter-snoc (λ b. bit l (a + b)) (up-to b) b)
-      ∙ ap (filter (λ b. bit l (a + b))) (ap (λ (x : ℕ). up-to b ++ (x ∷ [])) (sym (zero-add b)) ∙ sym (range-snoc 0 b) ∙ ap up-to (sym (add-one b)))
+bits-more : (l : List ℕ) (a b : ℕ) → bits-from l a (suc b) ≡ bits-from l a b ++ cond (bit l (a + b)) (b ∷ []) []
+unfolding bits-from
+bits-more l a b =
+    ap (filter (λ b. bit l (a + b))) (range-snoc 0 b ∙ ap (λ (x : ℕ). up-to b ++ (x ∷ [])) (zero-add b)) ∙ filter-snoc (λ b. bit l (a + b)) (up-to b) b
 
-  pub members-end : (n : ℕ) → b ≤ n → n ≤ b → take m s₀ ≡ bits-from l a n
-  members-end n g h = let z : b ≡ n = omega arith in rw z at inv
+bits-skip : (l : List ℕ) (a b k : ℕ) → ((j : ℕ) → b ≤ j → j < b + k → bit l (a + j) ≡ false) → bits-from l a (b + k) ≡ bits-from l a b
+bits-skip l a b zero h = let e : b + 0 ≡ b = omega arith in rw e
+bits-skip l a b (suc k) h =
+    let e : b + suc k ≡ suc (b + k) = omega arith in
+    rw (e, bits-more l a (b + k), h (b + k) (omega arith) (omega arith)) (append-nil (bits-from l a (b + k)) ∙ bits-skip l a b k (λ j x y. h j x (omega arith)))
+
+pub record Listing (l : List ℕ) (a e : ℕ) (s : List ℕ) (m q : ℕ) : Type 0 where
+  pub low : a ≤ q
+  pub high : q ≤ e
+  pub few : a + m ≤ q
+  pub there : q < e → bit l q ≡ true
+  pub front : take m s ≡ bits-from l a (q - a)
+
+pub members-start : (l s : List ℕ) (a n q : ℕ) → First l a (a + n) q → Listing l a (a + n) s 0 q
+members-start l s a n q F = record {
+  low = F .from;
+  high = F .upto;
+  few = omega (arith, F .from);
+  there = F .there;
+  front = sym (ap (bits-from l a) (sym (zero-add (q - a))) ∙ bits-skip l a 0 (q - a) (λ j x y. F .none (a + j) (omega arith) (omega (arith, F .from))) ∙ bits-none l a);
+}
+
+pub members-next : (l s₀ s : List ℕ) (a n m q q′ v : ℕ) → length s ≡ length s₀ → n ≤ length s₀ → Listing l a (a + n) s m q → q < a + n → v ≡ q - a → First l (q + 1) (a + n) q′
+    → Listing l a (a + n) (set s m v) (m + 1) q′
+members-next l s₀ s a n m q q′ v es g L h ev F = record {
+  low = omega (arith, L .low, F .from);
+  high = F .upto;
+  few = omega (arith, L .few, F .from);
+  there = F .there;
+  front = rw (add-one m, ev) (take-suc-set s m (q - a) (omega (arith, L .few)) ∙ ap (_++ ((q - a) ∷ [])) (L .front) ∙ sym more);
+}
+  where
+    here : bit l (a + (q - a)) ≡ true
+    here = let p : a + (q - a) ≡ q = omega (arith, L .low) in rw p (L .there h)
+
+    more : bits-from l a (q′ - a) ≡ bits-from l a (q - a) ++ ((q - a) ∷ [])
+    more =
+        let p : q′ - a ≡ suc (q - a) + (q′ - q - 1) = omega (arith, L .low, F .from) in
+        ap (bits-from l a) p ∙ bits-skip l a (suc (q - a)) (q′ - q - 1) (λ j x y. F .none (a + j) (omega (arith, L .low)) (omega (arith, L .low, F .from)))
+        ∙ bits-more l a (q - a) ∙ ap (λ (c : Bool). bits-from l a (q - a) ++ cond c ((q - a) ∷ []) []) here
+
+module _ (l s : List ℕ) (a n m q : ℕ) (L : Listing l a (a + n) s m q) where
+  pub members-few : m ≤ n
+  members-few = omega (arith, L .few, L .high)
+
+  pub members-end : a + n ≤ q → take m s ≡ bits-from l a n
+  members-end h = let p : q - a ≡ n = omega (arith, L .high) in L .front ∙ ap (bits-from l a) p
 
 pub row-room : (n r w nd a : ℕ) (l l′ : List ℕ) → Room n r w l → length l′ ≡ length l → a ≡ making n r w * 64 → nd ≤ w * 64 → a + nd ≤ length l′ * 64
 row-room n r w nd a l l′ R s e h = omega (arith, R .room)
@@ -66,4 +109,4 @@ row-low n r w a l R e = omega (arith, R .small)
 pub reached-by : (n r w i nd a m : ℕ) (l₀ l s : List ℕ) → a ≡ making n r w * 64 → m ≤ nd → take m s ≡ bits-from l a nd → Incoming n r w i l₀ l → Reached n r w i nd l₀ l s m
 reached-by n r w i nd a m l₀ l s e h q I = record { few = h; set = rw e at q; row = I }
 
-pub ruleset set-rules = (put-yes, put-no, members-start, members-next, members-end, row-room, row-low, reached-by)
+pub ruleset set-rules = (put-yes, put-no, row-room, row-low, reached-by)

@@ -105,7 +105,7 @@ pub fn link(rep: &mut [u16], ds: &[u16], marks: &mut [u8])
     requires { ⌜ Within (length (now marks)) (now rep) ⌝ }
     ensures { λ _. ⌜ now (rep .exit) ≡ link (now (rep .entry)) (now (ds .entry)) ⌝ }
 {
-    if ds.len() == 0 {
+    if ds.len() < 2 {
         return;
     }
     text::zero_bytes(marks, 0);

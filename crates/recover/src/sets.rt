@@ -1,11 +1,12 @@
-// The definitions that reach a line, listed by number, and the representatives after the reads of one family. A line takes one step a
-// definition of the family, and the steps of `sweep::incoming_row`.
+// The definitions that reach a line, listed by number, and the representatives after the reads of one family. A line takes a step for each
+// definition that reaches it and each word of a row, and the steps of `sweep::incoming_row`.
 //
 // Contracts cite `incoming` and `sweeps` of Rattle.definitions.specs.Sweeps and `link` of Rattle.definitions.specs.Recover.
 ghost use mathlib.Core.Path.{_≡_};
 ghost use mathlib.Core.List.{[], _∷_};
 ghost use Prim.Native.Nat.{ℕ, _+_, _*_, _≤_, _<_};
 ghost use lib.ListN.{length, getD, take};
+ghost use Rattle.bits.specs.Edges.{Agree};
 ghost use Rattle.sweep.specs.Layout.{Room};
 ghost use Rattle.recover.specs.Reaching.{bits-from, Put, Reached, Swept, Slices, Links};
 use crate::representatives::link;
@@ -30,12 +31,14 @@ fn members(space: &[u64], a: usize, n: usize, set: &mut [u16]) -> usize
     requires { ⌜ (a + n ≤ length (now space) * 64) × (n ≤ length (now set)) × (n ≤ 65536) × (a ≤ 4194304) ⌝ }
     ensures { λ m. ⌜ (m ≤ n) × (take m (now (set .exit)) ≡ bits-from (now (space .entry)) a n) ⌝ }
 {
+    let e = a + n;
     let mut m = 0;
-    let mut b = 0;
-    while b < n {
-        let y = bits::get_bit(space, a + b);
-        m = put(set, m, b, y);
-        b += 1;
+    let mut q = bits::find_bit(space, a, e);
+    while q < e {
+        let v = narrow(q - a);
+        set[m] = v;
+        m += 1;
+        q = bits::find_bit(space, q + 1, e);
     }
     m
 }
@@ -50,7 +53,7 @@ pub fn reaching(
     nd: usize,
     set: &mut [u16],
 ) -> usize
-    requires { ⌜ Room n r w (now space) × (i < n) × (nd ≤ w * 64) × (nd ≤ length (now set)) × (nd ≤ 65536) ⌝ }
+    requires { ⌜ Room n r w (now space) × (i < n) × Agree n r (now space) × (nd ≤ w * 64) × (nd ≤ length (now set)) × (nd ≤ 65536) ⌝ }
     ensures { λ m. ⌜ Reached n r w i nd (now (space .entry)) (now (space .exit)) (now (set .exit)) m ⌝ }
 {
     let a = sweep::incoming_row(space, n, r, w, i);

@@ -141,10 +141,10 @@ module _ (n r w : ℕ) (nums : List ℕ) where
   unfolding Listed
   solve-start l₀ l S = record { cols = S .empty; moving = λ u h. absurd (omega arith); kept = kept-none n r w l; listed = λ j h e. clash (S .all j h) e }
 
-  pub agree-still : (lₑ l₀ l : List ℕ) (t : ℕ) → n ≤ r * 64 → Started n r w lₑ l₀ → Solving l₀ l t → Agree n r lₑ → Agree n r l
+  pub agree-still : (lₑ l₀ l : List ℕ) (t : ℕ) → n + 64 ≤ r * 64 → Started n r w lₑ l₀ → Solving l₀ l t → Agree n r lₑ → Agree n r l
   agree-still lₑ l₀ l t wide S P A = kept-both n r w lₑ l wide (kept-then n r w lₑ l₀ l (S .kept) (P .kept)) A
 
-  module _ (l₀ l l′ : List ℕ) (t : ℕ) (z : Bool) (pos : 0 < n) (wide : n ≤ r * 64) (N : Numbered n w nums) (P : Solving l₀ l t) (Q : Sweep n r w nums l l′ z) where
+  module _ (l₀ l l′ : List ℕ) (t : ℕ) (z : Bool) (pos : 0 < n) (wide : n + 64 ≤ r * 64) (N : Numbered n w nums) (P : Solving l₀ l t) (Q : Sweep n r w nums l l′ z) where
     swept-cols : (b : ℕ) → b < w * 64 → outs n r w l′ b ≡ col l₀ b (suc t)
     swept-cols b h =
         Q .cols b h ∙ ap₂ (λ (ps : List (List ℕ)) (f : ℕ → Bool). visited ps nums b n f) (kept-preds n r w l₀ l wide (P .kept)) (P .cols b h)
@@ -187,7 +187,7 @@ module _ (n r w : ℕ) (nums : List ℕ) where
           kept = kept-then n r w lₑ l l′ (kept-then n r w lₑ l₀ l (S .kept) (P .kept)) (Q .kept);
         }
 
-  pub solve-over : (lₑ l₀ l : List ℕ) (t budget : ℕ) → n ≤ r * 64 → Started n r w lₑ l₀ → Solving l₀ l t → budget ≤ t → Solved n r w nums budget lₑ l OverBudget
+  pub solve-over : (lₑ l₀ l : List ℕ) (t budget : ℕ) → n + 64 ≤ r * 64 → Started n r w lₑ l₀ → Solving l₀ l t → budget ≤ t → Solved n r w nums budget lₑ l OverBudget
   solve-over lₑ l₀ l t budget wide S P h =
       let c : t < (sweeps (preds-of n r lₑ) (defining-lines n nums)) .count =
       rw (← kept-preds n r w lₑ l₀ wide (S .kept)) (sweeps-more (preds-of n r l₀) (defining-lines n nums) t (P .moving)) in

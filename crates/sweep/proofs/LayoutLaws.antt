@@ -11,22 +11,23 @@ use mathlib.Core.Logic.{_⊎_, inl, inr}
 use mathlib.Core.Bool.{false}
 use mathlib.Core.List.{List}
 use native.Mathlib.Omega.{arith}
-use native.Mathlib.Nat.{mul-le-mul-left}
+use native.Mathlib.Nat.{mul-le-mul-left, mul-add}
 use lib.ListN.{length, getD}
 use borrow.Author.Tests.{lt-ltb, le-ltb}
 use Rattle.definitions.specs.Questions.{space-words}
 use Rattle.theory.proofs.Bools.{lt-or-ge}
 use Rattle.bits.specs.Rows.{bit}
-use Rattle.bits.specs.Edges.{Agree, preds-of}
+use Rattle.bits.specs.Edges.{row-words, Agree, preds-of}
 use Rattle.bits.proofs.RowLaws.{same-bit}
 use Rattle.bits.proofs.EdgeLaws.{row-in, kept-edges, kept-agree, preds-of-kept}
 use Rattle.sweep.specs.Layout.{base, Room, outs, Kept}
 
-pub room : (n w : ℕ) (l : List ℕ) → 0 < n → n ≤ 1024 → 0 < w → w ≤ (n + 63) / 64 → space-words n ≤ length l → Room n ((n + 63) / 64) w l
+pub room : (n w : ℕ) (l : List ℕ) → 0 < n → n ≤ 1024 → 0 < w → w ≤ (n + 63) / 64 → space-words n ≤ length l → Room n (row-words n) w l
 room n w l p h q s e =
     let r = (n + 63) / 64 in
     let a : n * r ≤ n * 16 = mul-le-mul-left n (omega arith) in
     let b : n * w ≤ n * r = mul-le-mul-left n s in
+    let c : n * (r + 1) ≡ n * r + n * 1 = mul-add n r 1 in
     record { lines = p; some = q; wide = omega arith; room = omega arith; small = omega arith }
 
 pub room-same : (n r w : ℕ) (l l′ : List ℕ) → length l′ ≡ length l → Room n r w l → Room n r w l′
@@ -51,7 +52,7 @@ same-outs n r w l₀ l kept b h = fun-ext (λ j. go j (lt-or-ge j n))
         ∙ sym (outs-at n r w l₀ b j q)
     go j (inr q) = outs-past n r w l b j q ∙ sym (outs-past n r w l₀ b j q)
 
-pub same-preds : (n r : ℕ) (l₀ l : List ℕ) → n ≤ r * 64 → ((v : ℕ) → v < n * r + n * r → getD l v 0 ≡ getD l₀ v 0) → preds-of n r l ≡ preds-of n r l₀
+pub same-preds : (n r : ℕ) (l₀ l : List ℕ) → n + 64 ≤ r * 64 → ((v : ℕ) → v < n * r + n * r → getD l v 0 ≡ getD l₀ v 0) → preds-of n r l ≡ preds-of n r l₀
 same-preds n r l₀ l wide kept = preds-of-kept n r l₀ l (kept-edges n r l₀ l wide kept)
 
 pub kept-none : (n r w : ℕ) (l : List ℕ) → Kept n r w l l
@@ -62,10 +63,10 @@ pub kept-then : (n r w : ℕ) (l₀ l₁ l : List ℕ) → Kept n r w l₀ l₁ 
 unfolding Kept
 kept-then n r w l₀ l₁ l A B v h = B v h ∙ A v h
 
-pub kept-preds : (n r w : ℕ) (l₀ l : List ℕ) → n ≤ r * 64 → Kept n r w l₀ l → preds-of n r l ≡ preds-of n r l₀
+pub kept-preds : (n r w : ℕ) (l₀ l : List ℕ) → n + 64 ≤ r * 64 → Kept n r w l₀ l → preds-of n r l ≡ preds-of n r l₀
 unfolding Kept
 kept-preds n r w l₀ l wide K = same-preds n r l₀ l wide (λ v h. K v (λ x y. omega arith))
 
-pub kept-both : (n r w : ℕ) (l₀ l : List ℕ) → n ≤ r * 64 → Kept n r w l₀ l → Agree n r l₀ → Agree n r l
+pub kept-both : (n r w : ℕ) (l₀ l : List ℕ) → n + 64 ≤ r * 64 → Kept n r w l₀ l → Agree n r l₀ → Agree n r l
 unfolding Kept
 kept-both n r w l₀ l wide K A = kept-agree n r l₀ l wide (λ v h. K v (λ x y. omega arith)) A

@@ -4,9 +4,12 @@
 --   come-entry, come-later             line 0, and any other line
 --   own-below, make-own, make-coming   a line that defines, and one that does not
 --   visit-made                         the row in the making becomes the outgoing row
---   mark-both                          the successors on both lists
+--   ahead-by, back-none, back-by       the successors on one list
+--   mark-both                          on both
+--   preds-row, succs-row               the span of a row
+--   visit-agree, ahead-agree           the graph stays
 --   step-changed, step-same            a visit with its marks
---   start-*, turn-lists                the lists between sweeps
+--   start-lists, turn-lists            the lists before and between sweeps
 -- Assumes nothing.
 use Prim.Native.Nat.{ℕ, zero, suc, _+_, _-_, _*_, _/_, _<_, _≤_}
 use mathlib.Core.Path.{_≡_, refl, sym, ap, ap₂, _∙_, fun-ext}
@@ -21,12 +24,13 @@ use borrow.Author.Tests.{eq-eqb, ne-eqb, eqb-true, eqb-false, le-leb}
 use Rattle.definitions.specs.Lists.{any, filter, range}
 use Rattle.theory.proofs.Bools.{clash, not-so, or-left, or-right, lt-or-ge}
 use Rattle.bits.specs.Rows.{bit, Away, Filled, WithBit, joined, joined-low, copied, Differs, First}
-use Rattle.bits.specs.Edges.{edges, succs, preds-of}
+use Rattle.bits.specs.Edges.{edges, succs, Spanned, Agree, preds-of, Between}
+use Rattle.bits.specs.declared.Span.{Span}
 use Rattle.bits.proofs.RowLaws.{same-bit, filled-off}
-use Rattle.bits.proofs.EdgeLaws.{row-in, rows-apart, kept-succs, preds-of-at}
+use Rattle.bits.proofs.EdgeLaws.{row-in, rows-apart, kept-succs, kept-agree, preds-of-at}
 use Rattle.sweep.specs.Layout.{base, making, outs, todo, next, Kept}
 use Rattle.sweep.specs.Numbers.{Numbered}
-use Rattle.sweep.specs.Steps.{coming, given, Visit, Marked, Step, Started, Turned}
+use Rattle.sweep.specs.Steps.{coming, given, Visit, Ahead, Back, Marked, Step, Started, Turned}
 use Rattle.sweep.proofs.LayoutLaws.{outs-at, outs-past, same-outs, same-preds}
 
 -- One bit
@@ -60,13 +64,14 @@ any-next p f k m s e h = rw (e, filter-skip p (suc k) m s h)
 pub record Gathering (n r w i : ℕ) (l₀ l : List ℕ) (a e q : ℕ) : Type 0 where
   pub low : a ≤ q
   pub high : q ≤ e
+  pub end : e ≤ a + n
   pub there : q < e → bit l₀ q ≡ true
   pub left : (b : ℕ) → b < w * 64
-      → (bit l (making n r w * 64 + b) || any (outs n r w l₀ b) (filter (λ p. edges n r l₀ p i) (range (q - a) (e - q)))) ≡ any (outs n r w l₀ b) (getD (preds-of n r l₀) i [])
+      → (bit l (making n r w * 64 + b) || any (outs n r w l₀ b) (filter (λ p. edges n r l₀ p i) (range (q - a) (a + n - q)))) ≡ any (outs n r w l₀ b) (getD (preds-of n r l₀) i [])
   pub kept : (v : ℕ) → Away v (making n r w) w → getD l v 0 ≡ getD l₀ v 0
 
 -- t is row i of the predecessors
-module _ (n r w i t : ℕ) (l₀ l : List ℕ) (et : t ≡ i * r) (hi : i < n) (wide : n ≤ r * 64) where
+module _ (n r w i t : ℕ) (l₀ l : List ℕ) (et : t ≡ i * r) (hi : i < n) (wide : n + 64 ≤ r * 64) where
   edge-bit : (p : ℕ) → edges n r l₀ p i ≡ bit l₀ (t * 64 + p)
   unfolding edges
   edge-bit p = ap (bit l₀) (omega arith)
@@ -74,33 +79,41 @@ module _ (n r w i t : ℕ) (l₀ l : List ℕ) (et : t ≡ i * r) (hi : i < n) (
   off : (q : ℕ) → q < t * 64 + n → Away (q / 64) (making n r w) w
   off q g x y = omega (arith, row-in i n r hi)
 
-  pub gather-start : (q : ℕ) → Filled l₀ l (making n r w) w (λ k. false) → First l (t * 64) (t * 64 + n) q → Gathering n r w i l l (t * 64) (t * 64 + n) q
+  pub gather-start : (x : Span) → Between n l₀ t x → Filled l₀ l (making n r w) w (λ k. false) → Gathering n r w i l l (t * 64) (x .end) (x .from)
   unfolding edges
-  gather-start q F S = record {
-    low = S .from;
-    high = S .upto;
-    there = S .there;
+  gather-start x B F = record {
+    low = B .low;
+    high = B .order;
+    end = B .high;
+    there = λ h. same (x .from) (omega (arith, B .high)) ∙ B .first h;
     kept = λ v h. refl;
     left = λ b h. rw (F .inside b h) (ap (any (outs n r w l b)) (sym skip));
   }
     where
-      none : (j : ℕ) → 0 ≤ j → j < 0 + (q - t * 64) → edges n r l j i ≡ false
-      none j x y = ap (bit l) (omega arith) ∙ S .none (t * 64 + j) (omega arith) (omega arith)
+      same : (q : ℕ) → q < t * 64 + n → bit l q ≡ bit l₀ q
+      same q h = same-bit l l₀ q (F .outside (q / 64) (off q h))
 
-      skip : getD (preds-of n r l) i [] ≡ filter (λ p. edges n r l p i) (range (q - t * 64) (t * 64 + n - q))
+      here : (j : ℕ) → edges n r l j i ≡ bit l (t * 64 + j)
+      here j = ap (bit l) (omega arith)
+
+      none : (j : ℕ) → 0 ≤ j → j < 0 + (x .from - t * 64) → edges n r l j i ≡ false
+      none j y z = let h : j < n = omega (arith, B .order, B .high) in here j ∙ same (t * 64 + j) (omega arith) ∙ B .below j h (omega (arith, B .low))
+
+      skip : getD (preds-of n r l) i [] ≡ filter (λ p. edges n r l p i) (range (x .from - t * 64) (t * 64 + n - x .from))
       skip =
-          let e : n ≡ (q - t * 64) + (t * 64 + n - q) = omega (arith, S .from, S .upto) in
-          let f : 0 + (q - t * 64) ≡ q - t * 64 = omega arith in
+          let e : n ≡ (x .from - t * 64) + (t * 64 + n - x .from) = omega (arith, B .low, B .order, B .high) in
+          let f : 0 + (x .from - t * 64) ≡ x .from - t * 64 = omega arith in
           preds-of-at n r l i hi ∙ ap (λ (m : ℕ). filter (λ p. edges n r l p i) (range 0 m)) e
-          ∙ filter-skip (λ p. edges n r l p i) 0 (q - t * 64) (t * 64 + n - q) none ∙ rw f
+          ∙ filter-skip (λ p. edges n r l p i) 0 (x .from - t * 64) (t * 64 + n - x .from) none ∙ rw f
 
-  pub gather-next : (q q′ u : ℕ) (l′ : List ℕ) → Gathering n r w i l₀ l (t * 64) (t * 64 + n) q → q < t * 64 + n → u ≡ (q - t * 64) * w
-      → Filled l l′ (making n r w) w (joined l (making n r w) (base n r + u)) → First l′ (q + 1) (t * 64 + n) q′ → Gathering n r w i l₀ l′ (t * 64) (t * 64 + n) q′
-  gather-next q q′ u l′ G hq eu F S = record {
+  pub gather-next : (e q q′ u : ℕ) (l′ : List ℕ) → Gathering n r w i l₀ l (t * 64) e q → q < e → u ≡ (q - t * 64) * w
+      → Filled l l′ (making n r w) w (joined l (making n r w) (base n r + u)) → First l′ (q + 1) e q′ → Gathering n r w i l₀ l′ (t * 64) e q′
+  gather-next e q q′ u l′ G hq eu F S = record {
     low = omega (arith, S .from, G .low);
     high = S .upto;
+    end = G .end;
     kept = kept;
-    there = λ h. sym (same-bit l′ l₀ q′ (kept (q′ / 64) (off q′ h))) ∙ S .there h;
+    there = λ h. sym (same-bit l′ l₀ q′ (kept (q′ / 64) (off q′ (omega (arith, G .end))))) ∙ S .there h;
     left = left;
   }
     where
@@ -111,11 +124,11 @@ module _ (n r w i t : ℕ) (l₀ l : List ℕ) (et : t ≡ i * r) (hi : i < n) (
       p = q - t * 64
 
       hp : p < n
-      hp = omega (arith, G .low)
+      hp = omega (arith, G .low, G .end)
 
       none : (j : ℕ) → suc p ≤ j → j < suc p + (q′ - q - 1) → edges n r l₀ j i ≡ false
       none j x y =
-          edge-bit j ∙ sym (same-bit l′ l₀ (t * 64 + j) (kept ((t * 64 + j) / 64) (off (t * 64 + j) (omega (arith, S .upto, S .from, G .low)))))
+          edge-bit j ∙ sym (same-bit l′ l₀ (t * 64 + j) (kept ((t * 64 + j) / 64) (off (t * 64 + j) (omega (arith, S .upto, S .from, G .low, G .end)))))
           ∙ S .none (t * 64 + j) (omega (arith, G .low)) (omega (arith, S .from, G .low))
 
       here : edges n r l₀ p i ≡ true
@@ -131,7 +144,7 @@ module _ (n r w i t : ℕ) (l₀ l : List ℕ) (et : t ≡ i * r) (hi : i < n) (
           let f = outs n r w l₀ b in
           let E : ℕ → Bool = λ p. edges n r l₀ p i in
           let s : suc p + (q′ - q - 1) ≡ q′ - t * 64 = omega (arith, S .from, G .low) in
-          let c : suc ((q′ - q - 1) + (t * 64 + n - q′)) ≡ t * 64 + n - q = omega (arith, S .from, S .upto, G .low) in
+          let c : suc ((q′ - q - 1) + (t * 64 + n - q′)) ≡ t * 64 + n - q = omega (arith, S .from, S .upto, G .low, G .end) in
           let R = any f (filter E (range (q′ - t * 64) (t * 64 + n - q′))) in
           let rest : any f (filter E (range p (t * 64 + n - q))) ≡ (f p || R) =
           ap (λ (m : ℕ). any f (filter E (range p m))) (sym c) ∙ any-next E f p (q′ - q - 1) (t * 64 + n - q′) here none ∙ ap (λ (m : ℕ). f p || any f (filter E (range m (t * 64 + n - q′)))) s in
@@ -139,19 +152,24 @@ module _ (n r w i t : ℕ) (l₀ l : List ℕ) (et : t ≡ i * r) (hi : i < n) (
           ∙ or-assoc (bit l (making n r w * 64 + b)) (f p) R
           ∙ ap (bit l (making n r w * 64 + b) ||_) (sym rest) ∙ G .left b hb
 
-pub gather-end : (n r w i a : ℕ) (l₀ l₁ l : List ℕ) (q : ℕ) → n ≤ r * 64 → Filled l₀ l₁ (making n r w) w (λ k. false) → Gathering n r w i l₁ l a (a + n) q → a + n ≤ q
-    → Filled l₀ l (making n r w) w (λ b. any (outs n r w l₀ b) (getD (preds-of n r l₀) i []))
-unfolding any filter range
-gather-end n r w i a l₀ l₁ l q wide F G h = record {
+pub gather-end : (n r w i t : ℕ) (l₀ l₁ l : List ℕ) (x : Span) (q : ℕ) → t ≡ i * r → i < n → n + 64 ≤ r * 64 → Between n l₀ t x → Filled l₀ l₁ (making n r w) w (λ k. false)
+    → Gathering n r w i l₁ l (t * 64) (x .end) q → x .end ≤ q → Filled l₀ l (making n r w) w (λ b. any (outs n r w l₀ b) (getD (preds-of n r l₀) i []))
+unfolding any filter range edges
+gather-end n r w i t l₀ l₁ l x q et hi wide B F G h = record {
   inside = λ b hb. sym (or-false (bit l (making n r w * 64 + b))) ∙ none b ∙ G .left b hb
       ∙ ap₂ (λ (f : ℕ → Bool) (ps : List (List ℕ)). any f (getD ps i [])) (same-outs n r w l₀ l₁ (λ v x y. F .outside v (λ a b. omega arith)) b hb)
       (same-preds n r l₀ l₁ wide (λ v x. F .outside v (λ a b. omega arith)));
   outside = λ v x. G .kept v x ∙ F .outside v x;
 }
   where
+    off : (j : ℕ) → q - t * 64 ≤ j → j < q - t * 64 + (t * 64 + n - q) → edges n r l₁ j i ≡ false
+    off j y z = ap (bit l₁) (omega arith) ∙ filled-off l₀ l₁ (making n r w) w (λ k. false) F (t * 64 + j) (λ a b. omega (arith, row-in i n r hi, G .low)) ∙ B .above j (omega (arith, G .low)) (omega (arith, G .low))
+
     none : (b : ℕ) → (bit l (making n r w * 64 + b) || false)
-        ≡ (bit l (making n r w * 64 + b) || any (outs n r w l₁ b) (filter (λ p. edges n r l₁ p i) (range (q - a) (a + n - q))))
-    none b = let z : a + n - q ≡ 0 = omega arith in rw z
+        ≡ (bit l (making n r w * 64 + b) || any (outs n r w l₁ b) (filter (λ p. edges n r l₁ p i) (range (q - t * 64) (t * 64 + n - q))))
+    none b = let z : t * 64 + n - q ≡ (t * 64 + n - q) + 0 = omega arith in
+        ap (bit l (making n r w * 64 + b) ||_) (sym (ap (λ (m : ℕ). any (outs n r w l₁ b) (filter (λ p. edges n r l₁ p i) (range (q - t * 64) m))) z
+        ∙ ap (any (outs n r w l₁ b)) (filter-skip (λ p. edges n r l₁ p i) (q - t * 64) (t * 64 + n - q) 0 off)))
 
 -- What comes to a line, and what it is given
 
@@ -229,38 +247,111 @@ module _ (n r w i u : ℕ) (nums l₀ l₁ l : List ℕ) (z : Bool) (hi : i < n)
 or-none : (a b : Bool) → (a || b) ≡ false → (a ≡ false) × (b ≡ false)
 or-none a b e = (not-so a (λ q. clash (or-left a b q) e), not-so b (λ q. clash (or-right a b q) e))
 
--- u is row i of the successors
-pub mark-both : (n r i u : ℕ) (l₀ l₁ l : List ℕ) → n ≤ r * 64 → i < n → u ≡ i * r
-    → Filled l₀ l₁ (n * r + n * r) r (joined l₀ (n * r + n * r) (n * r + u))
-    → Filled l₁ l (n * r + n * r + r) (i / 64 + 1) (joined-low l₁ (n * r + n * r + r) (n * r + u) i) → Marked n r i l₀ l
-unfolding todo next succs
-mark-both n r i u l₀ l₁ l wide hi eu F G = record {
-  kept = λ v h. G .outside v (λ x y. h (omega arith) (omega arith)) ∙ F .outside v (λ x y. h (omega arith) (omega arith));
-  todo-old = λ j h e. or-none (bit l₀ ((n * r + n * r) * 64 + j)) (bit l₀ ((n * r + u) * 64 + j)) (sym (F .inside j (omega arith)) ∙ sym (later j (omega arith)) ∙ e) .0;
-  next-old = λ j h e. old j e (lt-or-ge j ((i / 64 + 1) * 64));
-  todo-new = λ j g h e. row j ∙ or-none (bit l₀ ((n * r + n * r) * 64 + j)) (bit l₀ ((n * r + u) * 64 + j)) (sym (F .inside j (omega arith)) ∙ sym (later j (omega arith)) ∙ e) .1;
-  next-new = λ j h e. row j ∙ sym (filled-off l₀ l₁ (n * r + n * r) r (joined l₀ (n * r + n * r) (n * r + u)) F ((n * r + u) * 64 + j) (λ x y. omega (arith, row-in i n r hi, eu)))
-      ∙ ap (_&& bit l₁ ((n * r + u) * 64 + j)) (sym (le-leb j i h))
-      ∙ or-none (bit l₁ ((n * r + n * r + r) * 64 + j)) (leb j i && bit l₁ ((n * r + u) * 64 + j)) (sym (G .inside j (omega arith)) ∙ e) .1;
-}
-  where
-    row : (j : ℕ) → bit l₀ ((n * r + i * r) * 64 + j) ≡ bit l₀ ((n * r + u) * 64 + j)
-    row j = ap (λ (x : ℕ). bit l₀ ((n * r + x) * 64 + j)) (sym eu)
+-- u is row i of the successors, and x has its bits
+module _ (n r i u : ℕ) (l₀ l : List ℕ) (x : Span) (wide : n + 64 ≤ r * 64) (hi : i < n) (eu : u ≡ i * r) (B : Between n l₀ (n * r + u) x) where
+  abbrev row : ℕ
+  row = n * r + u
 
-    later : (j : ℕ) → j < r * 64 → bit l ((n * r + n * r) * 64 + j) ≡ bit l₁ ((n * r + n * r) * 64 + j)
-    later j h = filled-off l₁ l (n * r + n * r + r) (i / 64 + 1) (joined-low l₁ (n * r + n * r + r) (n * r + u) i) G ((n * r + n * r) * 64 + j) (λ x y. omega arith)
+  abbrev word : ℕ
+  word = x .from / 64
 
-    before : (j : ℕ) → bit l₁ ((n * r + n * r + r) * 64 + j) ≡ bit l₀ ((n * r + n * r + r) * 64 + j)
-    before j = filled-off l₀ l₁ (n * r + n * r) r (joined l₀ (n * r + n * r) (n * r + u)) F ((n * r + n * r + r) * 64 + j) (λ x y. omega arith)
+  succ-bit : (j : ℕ) → succs n r l₀ i j ≡ bit l₀ (row * 64 + j)
+  unfolding succs
+  succ-bit j = ap (λ (v : ℕ). bit l₀ ((n * r + v) * 64 + j)) (sym eu)
 
-    old : (j : ℕ) → bit l ((n * r + n * r + r) * 64 + j) ≡ false → (j < (i / 64 + 1) * 64) ⊎ ((i / 64 + 1) * 64 ≤ j) → bit l₀ ((n * r + n * r + r) * 64 + j) ≡ false
-    old j e (inl h) = sym (before j) ∙ or-none (bit l₁ ((n * r + n * r + r) * 64 + j)) (leb j i && bit l₁ ((n * r + u) * 64 + j)) (sym (G .inside j h) ∙ e) .0
-    old j e (inr h) =
-        sym (before j)
-        ∙ sym (filled-off l₁ l (n * r + n * r + r) (i / 64 + 1) (joined-low l₁ (n * r + n * r + r) (n * r + u) i) G ((n * r + n * r + r) * 64 + j) (λ x y. omega arith)) ∙ e
+  pub ahead-by : Filled l₀ l (n * r + n * r + (word - row)) ((x .end + 63) / 64 - word) (joined l₀ (n * r + n * r + (word - row)) word) → Ahead n r i l₀ l
+  unfolding todo
+  ahead-by F = record {
+    kept = λ v h. F .outside v (λ a b. h (omega arith) (omega (arith, B .low, B .order, B .high)));
+    old = old;
+    new = λ j h e. succ-bit j ∙ (elim (lt-or-ge (row * 64 + j) (x .from)) [
+      | inl a ↦ B .below j h a
+      | inr a ↦ elim (lt-or-ge (row * 64 + j) (x .end)) [
+        | inl b ↦ ap (bit l₀) (omega (arith, B .low)) ∙ both j (omega (arith, B .low)) (omega (arith, B .low)) e .1
+        | inr b ↦ B .above j h b
+      ]
+    ]);
+  }
+    where
+      both : (j : ℕ) → word * 64 ≤ row * 64 + j → row * 64 + j - word * 64 < ((x .end + 63) / 64 - word) * 64 → bit l ((n * r + n * r) * 64 + j) ≡ false
+          → (bit l₀ ((n * r + n * r + (word - row)) * 64 + (row * 64 + j - word * 64)) ≡ false) × (bit l₀ (word * 64 + (row * 64 + j - word * 64)) ≡ false)
+      both j a b e =
+          let k = row * 64 + j - word * 64 in
+          let p : (n * r + n * r + (word - row)) * 64 + k ≡ (n * r + n * r) * 64 + j = omega (arith, B .low) in
+          or-none (bit l₀ ((n * r + n * r + (word - row)) * 64 + k)) (bit l₀ (word * 64 + k)) (sym (F .inside k b) ∙ ap (bit l) p ∙ e)
+
+      old : (j : ℕ) → j < n → bit l ((n * r + n * r) * 64 + j) ≡ false → bit l₀ ((n * r + n * r) * 64 + j) ≡ false
+      old j h e = elim (lt-or-ge (row * 64 + j) (word * 64)) [
+        | inl a ↦ sym (filled-off l₀ l _ _ _ F ((n * r + n * r) * 64 + j) (λ y z. omega (arith, B .low))) ∙ e
+        | inr a ↦ elim (lt-or-ge (row * 64 + j - word * 64) (((x .end + 63) / 64 - word) * 64)) [
+          | inl b ↦ ap (bit l₀) (omega (arith, B .low)) ∙ both j a b e .0
+          | inr b ↦ sym (filled-off l₀ l _ _ _ F ((n * r + n * r) * 64 + j) (λ y z. omega (arith, B .low))) ∙ e
+        ]
+      ]
+
+  pub back-none : row * 64 + i < x .from → Back n r i l₀ l₀
+  back-none g = record { kept = λ v h. refl; old = λ j h e. e; new = λ j h e. succ-bit j ∙ B .below j (omega arith) (omega arith) }
+
+  pub back-by : x .from ≤ row * 64 + i
+      → Filled l₀ l (n * r + n * r + r + (word - row)) ((row * 64 + i - word * 64) / 64 + 1) (joined-low l₀ (n * r + n * r + r + (word - row)) word (row * 64 + i - word * 64)) → Back n r i l₀ l
+  unfolding next
+  back-by g F = record {
+    kept = λ v h. F .outside v (λ a b. h (omega arith) (omega (arith, B .low)));
+    old = old;
+    new = λ j h e. succ-bit j ∙ (elim (lt-or-ge (row * 64 + j) (x .from)) [
+      | inl a ↦ B .below j (omega arith) a
+      | inr a ↦ (let k = row * 64 + j - word * 64 in
+          ap (bit l₀) (omega (arith, B .low))
+          ∙ ap (_&& bit l₀ (word * 64 + k)) (sym (le-leb k (row * 64 + i - word * 64) (omega (arith, B .low))))
+          ∙ both j (omega (arith, B .low)) (omega (arith, B .low)) e .1)
+    ]);
+  }
+    where
+      both : (j : ℕ) → word * 64 ≤ row * 64 + j → row * 64 + j - word * 64 < ((row * 64 + i - word * 64) / 64 + 1) * 64 → bit l ((n * r + n * r + r) * 64 + j) ≡ false
+          → (bit l₀ ((n * r + n * r + r + (word - row)) * 64 + (row * 64 + j - word * 64)) ≡ false)
+          × ((leb (row * 64 + j - word * 64) (row * 64 + i - word * 64) && bit l₀ (word * 64 + (row * 64 + j - word * 64))) ≡ false)
+      both j a b e =
+          let k = row * 64 + j - word * 64 in
+          let p : (n * r + n * r + r + (word - row)) * 64 + k ≡ (n * r + n * r + r) * 64 + j = omega (arith, B .low) in
+          or-none (bit l₀ ((n * r + n * r + r + (word - row)) * 64 + k)) (leb k (row * 64 + i - word * 64) && bit l₀ (word * 64 + k)) (sym (F .inside k b) ∙ ap (bit l) p ∙ e)
+
+      old : (j : ℕ) → j < n → bit l ((n * r + n * r + r) * 64 + j) ≡ false → bit l₀ ((n * r + n * r + r) * 64 + j) ≡ false
+      old j h e = elim (lt-or-ge (row * 64 + j) (word * 64)) [
+        | inl a ↦ sym (filled-off l₀ l _ _ _ F ((n * r + n * r + r) * 64 + j) (λ y z. omega (arith, B .low))) ∙ e
+        | inr a ↦ elim (lt-or-ge (row * 64 + j - word * 64) (((row * 64 + i - word * 64) / 64 + 1) * 64)) [
+          | inl b ↦ ap (bit l₀) (omega (arith, B .low)) ∙ both j a b e .0
+          | inr b ↦ sym (filled-off l₀ l _ _ _ F ((n * r + n * r + r) * 64 + j) (λ y z. omega (arith, B .low))) ∙ e
+        ]
+      ]
+
+module _ (n r i : ℕ) (l₀ l₁ : List ℕ) (wide : n + 64 ≤ r * 64) (hi : i < n) (P : Ahead n r i l₀ l₁) where
+  pub ahead-agree : Agree n r l₀ → Agree n r l₁
+  ahead-agree A = kept-agree n r l₀ l₁ wide (λ v h. P .kept v (λ x y. omega arith)) A
+
+  pub mark-both : (l : List ℕ) → Back n r i l₁ l → Marked n r i l₀ l
+  unfolding todo next
+  mark-both l Q = record {
+    kept = λ v h. Q .kept v (λ x y. h (omega arith) (omega arith)) ∙ P .kept v (λ x y. h (omega arith) (omega arith));
+    todo-old = λ j h e. P .old j h (sym (later j h) ∙ e);
+    next-old = λ j h e. sym (before j h) ∙ Q .old j h e;
+    todo-new = λ j g h e. P .new j h (sym (later j h) ∙ e);
+    next-new = λ j h e. sym (kept-succs n r l₀ l₁ wide (λ v x. P .kept v (λ a b. omega arith)) i j hi (omega arith)) ∙ Q .new j h e;
+  }
+    where
+      later : (j : ℕ) → j < n → bit l ((n * r + n * r) * 64 + j) ≡ bit l₁ ((n * r + n * r) * 64 + j)
+      later j h = same-bit l l₁ ((n * r + n * r) * 64 + j) (Q .kept (((n * r + n * r) * 64 + j) / 64) (λ x y. omega arith))
+
+      before : (j : ℕ) → j < n → bit l₁ ((n * r + n * r + r) * 64 + j) ≡ bit l₀ ((n * r + n * r + r) * 64 + j)
+      before j h = same-bit l₁ l₀ ((n * r + n * r + r) * 64 + j) (P .kept (((n * r + n * r + r) * 64 + j) / 64) (λ x y. omega arith))
+
+pub preds-row : (n r i u : ℕ) (l : List ℕ) → Agree n r l → i < n → u ≡ i * r → Spanned n r l u
+preds-row n r i u l A hi e = rw e (A .preds-in i hi)
+
+pub succs-row : (n r i u : ℕ) (l : List ℕ) → Agree n r l → i < n → u ≡ i * r → Spanned n r l (n * r + u)
+succs-row n r i u l A hi e = rw e (A .succs-in i hi)
 
 -- the lists are not where a visit writes
-module _ (n r w i : ℕ) (nums l₀ l : List ℕ) (z : Bool) (wide : n ≤ r * 64) (Q : Visit n r w i nums l₀ l z) where
+module _ (n r w i : ℕ) (nums l₀ l : List ℕ) (z : Bool) (wide : n + 64 ≤ r * 64) (Q : Visit n r w i nums l₀ l z) where
   visit-todo : (j : ℕ) → j < n → todo n r l j ≡ todo n r l₀ j
   unfolding todo
   visit-todo j h = same-bit l l₀ ((n * r + n * r) * 64 + j) (Q .kept (((n * r + n * r) * 64 + j) / 64) (λ x y. omega arith))
@@ -268,6 +359,9 @@ module _ (n r w i : ℕ) (nums l₀ l : List ℕ) (z : Bool) (wide : n ≤ r * 6
   visit-next : (j : ℕ) → j < n → next n r l j ≡ next n r l₀ j
   unfolding next
   visit-next j h = same-bit l l₀ ((n * r + n * r + r) * 64 + j) (Q .kept (((n * r + n * r + r) * 64 + j) / 64) (λ x y. omega arith))
+
+  pub visit-agree : Agree n r l₀ → Agree n r l
+  visit-agree A = kept-agree n r l₀ l wide (λ v h. Q .kept v (λ x y. omega arith)) A
 
   pub step-same : z ≡ false → Step n r w i nums l₀ l false
   unfolding Kept
@@ -301,38 +395,21 @@ module _ (n r w i : ℕ) (nums l₀ l : List ℕ) (z : Bool) (wide : n ≤ r * 6
       succs-kept : (j : ℕ) → j < n → succs n r l i j ≡ succs n r l₀ i j
       succs-kept j h = kept-succs n r l₀ l wide (λ v x. Q .kept v (λ a b. omega arith)) i j hi h
 
--- Before the first sweep: the first k lines are on the list
+-- Before the first sweep, and between sweeps
 
-pub record Starting (n r w : ℕ) (l₀ l : List ℕ) (k : ℕ) : Type 0 where
-  pub kept : (v : ℕ) → Away v (n * r + n * r) r → getD l v 0 ≡ getD l₀ v 0
-  pub all : (j : ℕ) → j < k → todo n r l j ≡ true
-
-pub start-none : (n r w : ℕ) (l : List ℕ) → Starting n r w l l 0
-start-none n r w l = record { kept = λ v h. refl; all = λ j h. absurd (omega arith) }
-
-pub start-next : (n r w : ℕ) (l₀ l₁ l : List ℕ) (k : ℕ) → n ≤ r * 64 → k < n → Starting n r w l₀ l₁ k → WithBit l₁ l ((n * r + n * r) * 64 + k) → Starting n r w l₀ l (k + 1)
-unfolding todo
-start-next n r w l₀ l₁ l k wide hk S B = record {
-  kept = λ v q. B .words v (λ e. q (omega arith) (omega arith)) ∙ S .kept v q;
-  all = λ j q. B .bits ((n * r + n * r) * 64 + j) ∙ (elim (lt-or-ge j k) [
-    | inl g ↦ or-left (bit l₁ ((n * r + n * r) * 64 + j)) (eqb ((n * r + n * r) * 64 + j) ((n * r + n * r) * 64 + k)) (S .all j g)
-    | inr g ↦ or-right (bit l₁ ((n * r + n * r) * 64 + j)) (eqb ((n * r + n * r) * 64 + j) ((n * r + n * r) * 64 + k)) (eq-eqb ((n * r + n * r) * 64 + j) ((n * r + n * r) * 64 + k) (omega arith))
-  ]);
-}
-
-pub start-end : (n r w : ℕ) (l₀ l₁ l : List ℕ) (k : ℕ) → Filled l₀ l₁ (n * r + n * r) (r + r + n * w) (λ k. false) → Starting n r w l₁ l k → n ≤ k → Started n r w l₀ l
-unfolding Kept
-start-end n r w l₀ l₁ l k F S h = record {
-  kept = λ v q. S .kept v (λ x y. q x (omega arith)) ∙ F .outside v (λ x y. q x (omega arith));
-  empty = λ b q. same-outs n r w l₁ l (λ v x y. S .kept v (λ a b. omega arith)) b q ∙ fun-ext (λ j. none b q j (lt-or-ge j n));
-  all = λ j q. S .all j (omega arith);
+pub start-lists : (n r w : ℕ) (l₀ l₁ l : List ℕ) → n + 64 ≤ r * 64 → Filled l₀ l₁ (n * r + n * r + r) (r + n * w) (λ k. false) → Filled l₁ l (n * r + n * r) r (λ k. true) → Started n r w l₀ l
+unfolding Kept todo
+start-lists n r w l₀ l₁ l wide F G = record {
+  kept = λ v q. G .outside v (λ x y. q x (omega arith)) ∙ F .outside v (λ x y. q (omega arith) (omega arith));
+  empty = λ b q. same-outs n r w l₁ l (λ v x y. G .outside v (λ a b. omega arith)) b q ∙ fun-ext (λ j. none b q j (lt-or-ge j n));
+  all = λ j q. G .inside j (omega arith);
 }
   where
     none : (b : ℕ) → b < w * 64 → (j : ℕ) → (j < n) ⊎ (n ≤ j) → outs n r w l₁ b j ≡ false
-    none b q j (inl x) = outs-at n r w l₁ b j x ∙ ap (bit l₁) (omega arith) ∙ F .inside ((r + r + j * w) * 64 + b) (omega (arith, row-in j n w x))
+    none b q j (inl x) = outs-at n r w l₁ b j x ∙ ap (bit l₁) (omega arith) ∙ F .inside ((r + j * w) * 64 + b) (omega (arith, row-in j n w x))
     none b q j (inr x) = outs-past n r w l₁ b j x
 
-pub turn-lists : (n r : ℕ) (l₀ l₁ l : List ℕ) → n ≤ r * 64 → Filled l₀ l₁ (n * r + n * r) r (copied l₀ (n * r + n * r + r)) → Filled l₁ l (n * r + n * r + r) r (λ k. false) → Turned n r l₀ l
+pub turn-lists : (n r : ℕ) (l₀ l₁ l : List ℕ) → n + 64 ≤ r * 64 → Filled l₀ l₁ (n * r + n * r) r (copied l₀ (n * r + n * r + r)) → Filled l₁ l (n * r + n * r + r) r (λ k. false) → Turned n r l₀ l
 unfolding todo next
 turn-lists n r l₀ l₁ l wide F G = record {
   kept = λ v h. G .outside v (λ x y. h (omega arith) (omega arith)) ∙ F .outside v (λ x y. h (omega arith) (omega arith));

@@ -3,7 +3,7 @@
 --   Sweeping                  a sweep before line k: the columns, whether they changed, and the lists
 --   sweep-pass, sweep-skip    lines that are not on the list
 --   sweep-visit               a line that is visited
---   work-start, work-next, work-end    the loop of `sweep`
+--   work-start, work-next, work-end, work-agree    the loop of `sweep`
 -- Assumes nothing.
 use Prim.Native.Nat.{ℕ, zero, suc, _+_, _-_, _*_, _<_, _≤_}
 use mathlib.Core.Path.{_≡_, refl, sym, ap, _∙_, fun-ext, subst}
@@ -182,13 +182,12 @@ module _ (n r w : ℕ) (nums : List ℕ) where
   }
 
   -- no edge leads from k to j
-  no-edge : (l₀ l : List ℕ) (k j : ℕ) → n ≤ r * 64 → Agree n r l₀ → Kept n r w l₀ l → k < n → j < n → succs n r l k j ≡ false → member k (getD (preds-of n r l₀) j []) ≡ false
-  unfolding Agree
+  no-edge : (l₀ l : List ℕ) (k j : ℕ) → n + 64 ≤ r * 64 → Agree n r l₀ → Kept n r w l₀ l → k < n → j < n → succs n r l k j ≡ false → member k (getD (preds-of n r l₀) j []) ≡ false
   no-edge l₀ l k j wide A K hk hj e =
       ap (λ (ps : List (List ℕ)). member k (getD ps j [])) (sym (kept-preds n r w l₀ l wide K)) ∙ ap (member k) (preds-of-at n r l j hj)
-      ∙ member-filter (λ i. edges n r l i j) (up-to n) k ∙ ap (member k (up-to n) &&_) (sym (kept-both n r w l₀ l wide K A k j hk hj) ∙ e) ∙ and-false (member k (up-to n))
+      ∙ member-filter (λ i. edges n r l i j) (up-to n) k ∙ ap (member k (up-to n) &&_) (sym (kept-both n r w l₀ l wide K A .both k j hk hj) ∙ e) ∙ and-false (member k (up-to n))
 
-  pub work-next : (l₀ l l′ : List ℕ) (q q′ : ℕ) (t y z : Bool) → n ≤ r * 64 → Agree n r l₀
+  pub work-next : (l₀ l l′ : List ℕ) (q q′ : ℕ) (t y z : Bool) → n + 64 ≤ r * 64 → Agree n r l₀
       → Working l₀ l ((n * r + n * r) * 64) ((n * r + n * r) * 64 + n) q t → q < (n * r + n * r) * 64 + n
       → Step n r w (q - (n * r + n * r) * 64) nums l l′ y → z ≡ (y || t) → First l′ (q + 1) ((n * r + n * r) * 64 + n) q′
       → Working l₀ l′ ((n * r + n * r) * 64) ((n * r + n * r) * 64 + n) q′ z
@@ -208,7 +207,10 @@ module _ (n r w : ℕ) (nums : List ℕ) where
         sweeping = skip-to l₀ l′ a (suc k) (q′ - a) z refl (omega (arith, F .from, W .low)) (omega (arith, F .upto)) (λ j x y. F .none j (omega (arith, W .low)) (omega (arith, F .from, W .low))) one;
       }
 
-  pub work-end : (l₀ l : List ℕ) (a q : ℕ) (z : Bool) → n ≤ r * 64 → Working l₀ l a (a + n) q z → a + n ≤ q → Sweep n r w nums l₀ l z
+  pub work-agree : (l₀ l : List ℕ) (a e q : ℕ) (z : Bool) → n + 64 ≤ r * 64 → Working l₀ l a e q z → Agree n r l₀ → Agree n r l
+  work-agree l₀ l a e q z wide W A = kept-both n r w l₀ l wide (W .kept) A
+
+  pub work-end : (l₀ l : List ℕ) (a q : ℕ) (z : Bool) → n + 64 ≤ r * 64 → Working l₀ l a (a + n) q z → a + n ≤ q → Sweep n r w nums l₀ l z
   unfolding Listed
   work-end l₀ l a q z wide W h =
       let e : q - a ≡ n = omega (arith, W .high) in

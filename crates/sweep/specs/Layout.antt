@@ -1,7 +1,7 @@
 -- Where the rows of one family stand in the working space, for n lines, r words a row of lines and w words a row of definitions.
 --   base n r            the first word of the outgoing rows, one of w words for each line
 --   making n r w        the first word of the row in the making
---   Room n r w l        the words l have room for all, each line has a bit in a row of lines, and no place of a bit overflows
+--   Room n r w l        the words l have room for all, a row of lines has a bit for each line and a word more, and no place of a bit overflows
 --   outs n r w l b j    bit b of the outgoing row of line j
 --   todo, next          line j is to be visited in this sweep, in the next
 --   Kept n r w l₀ l     l is l₀ but for the two lists of lines, the outgoing rows and the row in the making
@@ -23,7 +23,7 @@ making n r w = n * r + n * r + r + r + n * w
 pub record Room (n r w : ℕ) (l : List ℕ) : Type 0 where
   pub lines : 0 < n
   pub some : 0 < w
-  pub wide : n ≤ r * 64
+  pub wide : n + 64 ≤ r * 64
   pub room : n * r + n * r + r + r + n * w + w ≤ length l
   pub small : n * r + n * r + r + r + n * w + w ≤ 65536
 

@@ -5,6 +5,7 @@
 --   Stable                     a visit of line j would change nothing
 --   Updated                    line i is visited, and z says whether its outgoing row changed
 --   Visit, Marked, Step        what `visit_line`, `mark` and `step_line` do
+--   Ahead, Back                what `mark_ahead` and `mark_back` do
 --   Listed                     a line that is not on the list would not change
 --   Sweep                      what `sweep` does
 --   Started, Turned            the lists of lines before the first sweep, and between sweeps
@@ -47,6 +48,18 @@ pub record Updated (n r w i : ℕ) (nums l₀ l : List ℕ) (z : Bool) : Type 0 
 pub record Visit (n r w i : ℕ) (nums l₀ l : List ℕ) (z : Bool) : Type 0 where
   pub updated : Updated n r w i nums l₀ l z
   pub kept : (v : ℕ) → Away v (base n r) (n * w + w) → getD l v 0 ≡ getD l₀ v 0
+
+-- the successors of line i are on this sweep's list
+pub record Ahead (n r i : ℕ) (l₀ l : List ℕ) : Type 0 where
+  pub kept : (v : ℕ) → Away v (n * r + n * r) r → getD l v 0 ≡ getD l₀ v 0
+  pub old : (j : ℕ) → j < n → todo n r l j ≡ false → todo n r l₀ j ≡ false
+  pub new : (j : ℕ) → j < n → todo n r l j ≡ false → succs n r l₀ i j ≡ false
+
+-- those that are at or below it are on the next sweep's
+pub record Back (n r i : ℕ) (l₀ l : List ℕ) : Type 0 where
+  pub kept : (v : ℕ) → Away v (n * r + n * r + r) r → getD l v 0 ≡ getD l₀ v 0
+  pub old : (j : ℕ) → j < n → next n r l j ≡ false → next n r l₀ j ≡ false
+  pub new : (j : ℕ) → j ≤ i → next n r l j ≡ false → succs n r l₀ i j ≡ false
 
 -- the successors of line i are on the lists: those above i on this sweep's, the others on the next's
 pub record Marked (n r i : ℕ) (l₀ l : List ℕ) : Type 0 where

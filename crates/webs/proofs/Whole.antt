@@ -1,12 +1,12 @@
 -- The whole: from the drawn graph and the words of the tokens to the answer.
 --   bounds-by, finds-all, known-by     what is known when the families are numbered
 --   state-start             no family is done
---   fresh-part              a part of a fresh array
+--   fresh-part, fresh-short    a part of a fresh array
 --   drawn-webs              the webs over the drawn graph are those of `recover`
 --   whole-by                `recover`
 --   drawn-by                a graph that is drawn edge by edge
 -- Assumes nothing.
-use Prim.Native.Nat.{ℕ, _+_, _-_, _/_, _<_, _≤_}
+use Prim.Native.Nat.{ℕ, _+_, _-_, _<_, _≤_}
 use mathlib.Core.Path.{_≡_, refl, sym, ap, ap₂, _∙_}
 use mathlib.Core.Bool.{true}
 use mathlib.Core.List.{List, [], _∷_, map}
@@ -27,7 +27,7 @@ use Rattle.theory.proofs.ListLaws.{replicate-default, member-head, member-tail,
 use Rattle.theory.proofs.Graph.{flow-length}
 use Rattle.model.specs.Places.{line-start}
 use Rattle.model.proofs.Decode.{length-listing}
-use Rattle.bits.specs.Edges.{edges, Agree, preds-of}
+use Rattle.bits.specs.Edges.{row-words, edges, Agree, preds-of}
 use Rattle.sweep.specs.declared.Sweeps.{Sweeps}
 use Rattle.recover.specs.Families.{families-before, Numbered}
 use Rattle.recover.specs.Tokens.{Finds}
@@ -53,7 +53,7 @@ module _ (l t x table ds : List ℕ) (count : ℕ) (N : Numbered (listing l t x)
     few = omega (arith, N .small, N .upto, N .few);
   }
 
-  pub known-by : (r : ℕ) → Bounds l t → 2 ≤ length l → r ≡ (length l + 63) / 64 → (ns first : List ℕ) → Chained l t x count 0 ns first → Known l t x table first ds count r
+  pub known-by : (r : ℕ) → Bounds l t → 2 ≤ length l → r ≡ row-words (length l) → (ns first : List ℕ) → Chained l t x count 0 ns first → Known l t x table first ds count r
   known-by r B two e ns first C = record {
     bounds = B;
     some = omega arith;
@@ -98,8 +98,14 @@ module _ (l t x : List ℕ) (r : ℕ) (space ms : List ℕ) (B : Bounds l t) whe
   }
 
 -- a part of a fresh array
+part-of : (k n : ℕ) → n ≤ k → length (take n (replicate {A = ℕ} k 0)) ≡ n
+part-of k n h = length-take n (replicate k 0) ∙ omega (arith, length-replicate {A = ℕ} k 0)
+
 pub fresh-part : (n : ℕ) → n ≤ 1024 → length (take n (replicate {A = ℕ} 1024 0)) ≡ n
-fresh-part n h = length-take n (replicate 1024 0) ∙ omega (arith, length-replicate {A = ℕ} 1024 0)
+fresh-part = part-of 1024
+
+pub fresh-short : (n : ℕ) → n ≤ 64 → length (take n (replicate {A = ℕ} 64 0)) ≡ n
+fresh-short = part-of 64
 
 -- The drawn graph
 

@@ -7,14 +7,14 @@
 --   Going                             the same, with the sweeps so far
 --   AllDone budget N ns ms a          the numbers, the marks and the sweeps N are answered, where the budget allows them
 -- Assumes nothing.
-use Prim.Native.Nat.{ℕ, _+_, _/_, _<_, _≤_}
+use Prim.Native.Nat.{ℕ, _+_, _<_, _≤_}
 use mathlib.Core.Path.{_≡_}
 use mathlib.Core.List.{List}
 use lib.ListN.{length, getD}
 use Rattle.definitions.specs.Lists.{up-to}
 use Rattle.definitions.specs.Columns.{token-list, listing}
 use Rattle.definitions.specs.Answers.{no-family, per-token, Numbered}
-use Rattle.bits.specs.Edges.{Agree, preds-of}
+use Rattle.bits.specs.Edges.{row-words, Agree, preds-of}
 use Rattle.sweep.specs.Solved.{answer}
 use Rattle.sweep.specs.declared.Sweeps.{Sweeps}
 use Rattle.recover.specs.Families.{Defs}
@@ -26,7 +26,7 @@ use Rattle.webs.specs.Progress.{webs-over, number-after, mark-after, fam
 pub record Known (l t x table first ds : List ℕ) (count r : ℕ) : Type 0 where
   pub bounds : Bounds l t
   pub some : 0 < length l
-  pub words : r ≡ (length l + 63) / 64
+  pub words : r ≡ row-words (length l)
   pub finds : Finds (listing l t x) count table
   pub defs : Defs (listing l t x) ds
   pub heads : (k : ℕ) → k < count → getD first k 0 ≡ next-place (family-name (listing l t x) k) (token-list t x) 0

@@ -1,5 +1,6 @@
 -- `bits::add_edge` meets its contract. Assumes nothing.
-use Rattle.bits.proofs.EdgeLaws.{added}
+use Rattle.bits.proofs.EdgeLaws.{added, line-small}
+use native.Mathlib.Omega.{arith}
 use borrow.Author.Needs.{needs}
 use Rattle.bits.proofs.add_edge.Statement.{statement}
 use Rattle.bits.proofs.add_edge.Tie as tie
@@ -7,14 +8,8 @@ use Rattle.bits.proofs.add_edge.Tie as tie
 row-requires : tie.Need-row-requires
 row-requires c κs = search needs
 
-mul-set-bit : tie.Need-mul-set-bit
-mul-set-bit c = search needs
-
-add-set-bit : tie.Need-add-set-bit
-add-set-bit c = search needs
-
-set-bit-requires : tie.Need-set-bit-requires
-set-bit-requires c κs = search needs
+note-requires : tie.Need-note-requires
+note-requires c κs = (search needs, search needs, search needs, search (line-small, needs), omega arith)
 
 mul-after : tie.Need-mul-after
 mul-after c = search needs
@@ -25,14 +20,8 @@ row-requires-2 c κs = search needs
 add-after : tie.Need-add-after
 add-after c = search needs
 
-mul-set-bit-2 : tie.Need-mul-set-bit-2
-mul-set-bit-2 c = search needs
-
-add-set-bit-2 : tie.Need-add-set-bit-2
-add-set-bit-2 c = search needs
-
-set-bit-requires-2 : tie.Need-set-bit-requires-2
-set-bit-requires-2 c κs = search needs
+note-requires-2 : tie.Need-note-requires-2
+note-requires-2 c κs = (search needs, search needs, search needs, search (line-small, needs), omega arith)
 
 same-length : tie.Need-same-length
 same-length c = search needs
@@ -45,14 +34,10 @@ add-edge-spec =
     tie.close
     (tie.spec
     row-requires
-    mul-set-bit
-    add-set-bit
-    set-bit-requires
+    note-requires
     mul-after
     row-requires-2
     add-after
-    mul-set-bit-2
-    add-set-bit-2
-    set-bit-requires-2
+    note-requires-2
     same-length
     returns)

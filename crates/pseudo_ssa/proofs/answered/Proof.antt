@@ -31,6 +31,9 @@ returns c =
 add-r : tie.Need-add-r
 add-r c = search needs
 
+add-r-2 : tie.Need-add-r-2
+add-r-2 c = search needs
+
 flow-graph-requires : tie.Need-flow-graph-requires
 flow-graph-requires c κs =
     let a = c .before .before .before .before .before .before .before .before .args in
@@ -116,6 +119,7 @@ answered-spec =
     same-length-3
     returns
     add-r
+    add-r-2
     flow-graph-requires
     enum-told
     numbered-requires

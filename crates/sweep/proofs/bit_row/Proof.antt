@@ -41,7 +41,7 @@ same-length : tie.Need-same-length
 same-length c = search needs
 
 returns : tie.Need-returns
-returns c = one-row _ _ _ _ _ _ (c .before .before .before .before .before .before .clear-row .ensures) (c .before .before .set-bit .ensures) (c .before .before .before .before .before .before .before .before .before .pre .1)
+returns c = one-row _ _ _ _ _ _ (c .before .before .before .before .before .before .clear-row .ensures .0) (c .before .before .set-bit .ensures) (c .before .before .before .before .before .before .before .before .before .pre .1)
 
 pub bit-row-spec : {M : Type 1} → statement M
 bit-row-spec =

@@ -1,18 +1,18 @@
--- `sweep::gather_row` meets its contract. The invariant: the row in the making, with what is left to join, is what all predecessors have.
--- Assumes nothing.
+-- `sweep::gather_row` meets its contract. The invariant: the row in the making, with what is left to join, is what all predecessors have. Assumes nothing.
 use Prim.Native.Nat.{_-_}
 use mathlib.Core.Path.{_≡_, refl}
+use native.Mathlib.Omega.{arith}
 use lib.ListN.{length}
-use Rattle.sweep.proofs.StepLaws.{Gathering, gather-start, gather-next, gather-end}
+use Rattle.sweep.proofs.StepLaws.{Gathering, gather-start, gather-next, gather-end, preds-row}
 use borrow.Author.Needs.{needs}
 use Rattle.sweep.proofs.gather_row.Statement.{statement}
 use Rattle.sweep.proofs.gather_row.Tie as tie
 
 abbrev Inv-loop : tie.InvT-loop
-Inv-loop space₀ n r w i base t a e q₀ space q = (length space ≡ length space₀) × Gathering n r w i space₀ space a e q
+Inv-loop space₀ n r w i base t u a e q₀ space q = (length space ≡ length space₀) × Gathering n r w i space₀ space a e q
 
 abbrev μ-loop : tie.MeasureT-loop
-μ-loop space₀ n r w i base t a e q₀ space q = e - q
+μ-loop space₀ n r w i base t u a e q₀ space q = e - q
 
 mul-base : tie.Need-mul-base Inv-loop μ-loop
 mul-base c = search needs
@@ -35,23 +35,20 @@ mul-t c = search needs
 add-t : tie.Need-add-t Inv-loop μ-loop
 add-t c = search needs
 
-clear-row-requires : tie.Need-clear-row-requires Inv-loop μ-loop
-clear-row-requires c κs = search needs
-
 row-requires : tie.Need-row-requires Inv-loop μ-loop
 row-requires c κs = search needs
+
+row-span-requires : tie.Need-row-span-requires Inv-loop μ-loop
+row-span-requires c κs = (search needs, search needs, omega arith, search (preds-row, needs))
 
 mul-a : tie.Need-mul-a Inv-loop μ-loop
 mul-a c = search needs
 
-add-e : tie.Need-add-e Inv-loop μ-loop
-add-e c = search needs
-
-find-bit-requires : tie.Need-find-bit-requires Inv-loop μ-loop
-find-bit-requires c κs = search needs
+clear-row-requires : tie.Need-clear-row-requires Inv-loop μ-loop
+clear-row-requires c κs = search needs
 
 loop-holds : tie.Need-loop-holds Inv-loop μ-loop
-loop-holds c = (refl, gather-start _ _ _ _ _ _ _ (c .before .before .row .ensures .0) (c .before .before .before .before .before .before .before .before .pre .1) (c .before .before .before .before .before .before .before .before .pre .0 .wide) _ (c .before .before .before .before .before .clear-row .ensures) (c .find-bit .ensures))
+loop-holds c = (refl, search (gather-start, needs))
 
 sub-row : tie.Need-sub-row Inv-loop μ-loop
 sub-row c = search needs
@@ -68,8 +65,8 @@ or-row-requires c κs = search needs
 add-find-bit : tie.Need-add-find-bit Inv-loop μ-loop
 add-find-bit c = search needs
 
-find-bit-requires-2 : tie.Need-find-bit-requires-2 Inv-loop μ-loop
-find-bit-requires-2 c κs = search needs
+find-bit-requires : tie.Need-find-bit-requires Inv-loop μ-loop
+find-bit-requires c κs = search needs
 
 loop-less : tie.Need-loop-less Inv-loop μ-loop
 loop-less c = search needs
@@ -81,7 +78,7 @@ same-length : tie.Need-same-length Inv-loop μ-loop
 same-length c = search needs
 
 returns : tie.Need-returns Inv-loop μ-loop
-returns c = gather-end _ _ _ _ _ _ _ _ _ (c .before .before .before .before .before .before .before .before .before .before .pre .0 .wide) (c .before .before .before .before .before .before .before .clear-row .ensures) (c .before .loop .inv .1) (c .loop-test .left)
+returns c = gather-end _ _ _ _ _ _ _ _ _ _ (c .before .before .before .before .before .before .before .before .row .ensures .0) (c .before .before .before .before .before .before .before .before .before .before .pre .1) (c .before .before .before .before .before .before .before .before .before .before .pre .0 .wide) (c .before .before .before .before .before .before .row-span .ensures) (c .before .before .before .before .clear-row .ensures .0) (c .before .loop .inv .1) (c .loop-test .left)
 
 pub gather-row-spec : {M : Type 1} → statement M
 gather-row-spec =
@@ -96,18 +93,17 @@ gather-row-spec =
     add-base-3
     mul-t
     add-t
-    clear-row-requires
     row-requires
+    row-span-requires
     mul-a
-    add-e
-    find-bit-requires
+    clear-row-requires
     loop-holds
     sub-row
     row-requires-2
     add-or-row
     or-row-requires
     add-find-bit
-    find-bit-requires-2
+    find-bit-requires
     loop-less
     loop-again
     same-length

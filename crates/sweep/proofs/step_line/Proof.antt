@@ -1,5 +1,5 @@
 -- `sweep::step_line` meets its contract. Assumes nothing.
-use Rattle.sweep.proofs.StepLaws.{step-changed, step-same}
+use Rattle.sweep.proofs.StepLaws.{visit-agree, step-changed, step-same}
 use borrow.Author.Needs.{needs}
 use Rattle.sweep.proofs.step_line.Statement.{statement}
 use Rattle.sweep.proofs.step_line.Tie as tie
@@ -8,7 +8,7 @@ visit-line-requires : tie.Need-visit-line-requires
 visit-line-requires c κs = search needs
 
 mark-requires : tie.Need-mark-requires
-mark-requires c κs = search needs
+mark-requires c κs = search (visit-agree, needs)
 
 same-length : tie.Need-same-length
 same-length c = search needs

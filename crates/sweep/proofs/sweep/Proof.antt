@@ -3,7 +3,7 @@ use Prim.Native.Nat.{_-_}
 use mathlib.Core.Path.{_≡_}
 use lib.ListN.{length}
 use Rattle.sweep.proofs.LayoutLaws.{room-same}
-use Rattle.sweep.proofs.Worklist.{Working, work-start, work-next, work-end}
+use Rattle.sweep.proofs.Worklist.{Working, work-start, work-next, work-end, work-agree}
 use borrow.Author.Needs.{needs}
 use Rattle.sweep.proofs.sweep.Statement.{statement}
 use Rattle.sweep.proofs.sweep.Tie as tie
@@ -39,7 +39,7 @@ sub-step-line : tie.Need-sub-step-line Inv-loop μ-loop
 sub-step-line c = search needs
 
 step-line-requires : tie.Need-step-line-requires Inv-loop μ-loop
-step-line-requires c κs = search (room-same, needs)
+step-line-requires c κs = (search (room-same, needs), search needs, search needs, work-agree _ _ _ _ _ _ _ _ _ _ (c .before .before .before .before .before .before .before .pre .0 .wide) (c .before .before .loop .inv .1) (c .before .before .before .before .before .before .before .pre .2))
 
 either-requires : tie.Need-either-requires Inv-loop μ-loop
 either-requires c κs = search needs

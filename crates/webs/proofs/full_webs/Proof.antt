@@ -1,10 +1,10 @@
--- `webs::all_webs` meets its contract. Fresh arrays have room for 1024 lines.
+-- `webs::full_webs` meets its contract. Fresh arrays have room for 1024 lines.
 -- Assumes nothing.
 use mathlib.Core.Path.{sym}
 use Rattle.webs.proofs.Whole.{fresh-part}
 use borrow.Author.Needs.{needs}
-use Rattle.webs.proofs.all_webs.Statement.{statement}
-use Rattle.webs.proofs.all_webs.Tie as tie
+use Rattle.webs.proofs.full_webs.Statement.{statement}
+use Rattle.webs.proofs.full_webs.Tie as tie
 
 slice-aggregate-all-families : tie.Need-slice-aggregate-all-families
 slice-aggregate-all-families c = search needs
@@ -51,8 +51,8 @@ same-length-3 c = search needs
 returns : tie.Need-returns
 returns c = search needs
 
-pub all-webs-spec : {M : Type 1} → statement M
-all-webs-spec =
+pub full-webs-spec : {M : Type 1} → statement M
+full-webs-spec =
     tie.close
     (tie.spec
     slice-aggregate-all-families

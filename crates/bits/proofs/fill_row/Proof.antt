@@ -1,0 +1,59 @@
+-- `bits::fill_row` meets its contract. The invariant: the first i words are filled. Assumes nothing.
+use Prim.Native.Nat.{_-_, _≤_}
+use mathlib.Core.Path.{_≡_}
+use mathlib.Core.Bool.{true}
+use lib.ListN.{length}
+use Rattle.bits.specs.Rows.{Filled}
+use Rattle.bits.proofs.RowLaws.{fill-all, fill-none, fill-end}
+use borrow.Author.Needs.{needs}
+use Rattle.bits.proofs.fill_row.Statement.{statement}
+use Rattle.bits.proofs.fill_row.Tie as tie
+
+abbrev Inv-loop : tie.InvT-loop
+Inv-loop s₀ w r i₀ s i = (i ≤ r) × (length s ≡ length s₀) × Filled s₀ s w i (λ k. true)
+
+abbrev μ-loop : tie.MeasureT-loop
+μ-loop s₀ w r i₀ s i = r - i
+
+loop-holds : tie.Need-loop-holds Inv-loop μ-loop
+loop-holds c = search (fill-none, needs)
+
+add-s : tie.Need-add-s Inv-loop μ-loop
+add-s c = search needs
+
+mul-s : tie.Need-mul-s Inv-loop μ-loop
+mul-s c = search needs
+
+slice-write-s : tie.Need-slice-write-s Inv-loop μ-loop
+slice-write-s c = search needs
+
+add-i : tie.Need-add-i Inv-loop μ-loop
+add-i c = search needs
+
+loop-less : tie.Need-loop-less Inv-loop μ-loop
+loop-less c = search needs
+
+loop-again : tie.Need-loop-again Inv-loop μ-loop
+loop-again c = search (fill-all, needs)
+
+same-length : tie.Need-same-length Inv-loop μ-loop
+same-length c = search needs
+
+returns : tie.Need-returns Inv-loop μ-loop
+returns c = search (fill-end, needs)
+
+pub fill-row-spec : {M : Type 1} → statement M
+fill-row-spec =
+    tie.close
+    (tie.spec
+    Inv-loop
+    μ-loop
+    loop-holds
+    add-s
+    mul-s
+    slice-write-s
+    add-i
+    loop-less
+    loop-again
+    same-length
+    returns)
