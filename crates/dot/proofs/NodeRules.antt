@@ -4,7 +4,7 @@
 --   head-is, number-is, cell-is, start-is     what stands before the text
 --   line-is, node-is                          the text, and the whole
 -- Assumes nothing.
-use Prim.Native.Nat.{ℕ, _≤_, _<_}
+use Prim.Native.Nat.{ℕ, _+_, _*_, _/_, _%_, _≤_, _<_}
 use mathlib.Core.Path.{_≡_, refl, _∙_}
 use mathlib.Core.Bool.{Bool, true, false}
 use mathlib.Core.List.{List, _++_}
@@ -28,11 +28,18 @@ module _ (T : List Token) (N : List ℕ) (k : ℕ) (y : Bool) (web : y ≡ has-w
   unfolding token-text
   token-plain h f = rw (← web, h, ← text) f
 
-  pub token-web : y ≡ true → (n : ℕ) (ranks : List ℕ) → Ranked T N n ranks → k < n → (p : ℕ) → p ≡ first-of T N k → p ≤ k → (c w : ℕ) → c ≡ getD ranks p 0 → w ≡ getD N k 0
-      → Appended out at (web-text c s w) out′ e → Appended out at (token-text T N k) out′ e
+  pub token-web : y ≡ true → (n : ℕ) (ranks : List ℕ) → Ranked T N n ranks → k < n → (p c w : ℕ) → p ≡ getD ranks k 0 → c ≡ getD ranks (p / 32768) 0 → w ≡ getD N k 0
+      → Appended out at (web-text (c % 32768) s w) out′ e → Appended out at (token-text T N k) out′ e
   unfolding token-text
-  token-web h n ranks r g p q u c w i j f =
-      let z : c ≡ before T N (first-of T N k) = i ∙ r .rank p (omega arith) ∙ rw q in
+  token-web h n ranks r g p c w q i j f =
+      let small = r .small in
+      let low = r .low k g in
+      let most = r .few k g in
+      let rank = q ∙ r .rank k g in
+      let first : p / 32768 ≡ first-of T N k = omega arith in
+      let there : c ≡ first-of T N (first-of T N k) * 32768 + before T N (first-of T N k) = i ∙ rw first (r .rank (first-of T N k) (omega arith)) in
+      let fewer = r .few (first-of T N k) (omega arith) in
+      let z : c % 32768 ≡ before T N (first-of T N k) = omega arith in
       rw (← web, h, ← text, ← z, ← j) f
 
 pub tokens-end : (l t x N : List ℕ) (i e k : ℕ) (out₀ : List ℕ) (at : ℕ) (out : List ℕ) (to : ℕ)

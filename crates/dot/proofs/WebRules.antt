@@ -1,17 +1,17 @@
 -- Rules for the needs of the functions on webs.
 --   web-is                                    a token has a web
---   names-same                                two tokens of one family
+--   family-is, names-same                     the family of a token
 --   web-same, web-other                       two tokens of one web, of two
 --   Finding, finding-start, -next             a loop that looks for the first token of a web
 --   finding-found, -end
---   appears-go, appears-no                    a token is the first of its web
 --   counted-yes, counted-no                   one web more
 --   Ranking, ranking-start, -next, -end       a loop that ranks the tokens
 -- Assumes nothing.
-use Prim.Native.Nat.{ℕ, suc, _+_, _-_, _≤_, _<_}
+use Prim.Native.Nat.{ℕ, suc, _+_, _*_, _-_, _≤_, _<_}
 use mathlib.Core.Path.{_≡_, refl, _∙_}
-use mathlib.Core.Bool.{Bool, true, false, not}
+use mathlib.Core.Bool.{Bool, true, false, _&&_, not}
 use mathlib.Core.List.{List}
+use mathlib.Core.Option.{Option}
 use native.Mathlib.Decide.{ℕ-discrete}
 use native.Mathlib.Numerals.{add-one}
 use native.Mathlib.Omega.{arith}
@@ -21,7 +21,7 @@ use lib.ListN.{length, getD, set, length-set}
 use lib.Seq.{getD-set-same, getD-set-other}
 use Rattle.definitions.specs.Lists.{or-else, find, range}
 use Rattle.definitions.specs.Model.{Token, tok, no-token}
-use Rattle.definitions.specs.Family.{fam-of}
+use Rattle.definitions.specs.Family.{Family, fam-of}
 use Rattle.definitions.specs.Answers.{mark}
 use Rattle.family.specs.Register.{family-of, same-name}
 use Rattle.family.specs.declared.Register.{Register}
@@ -32,19 +32,18 @@ pub web-is : (N : List ℕ) (k w : ℕ) → w ≡ getD N k 0 → not (eqb w 4294
 unfolding has-web
 web-is N k w q = rw q
 
-pub names-same : (T U : Token) (s : List ℕ) (a : ℕ) (r : Register) (u : List ℕ) (b : ℕ) (q : Register) (y : Bool) → y ≡ same-name (family-of s r) (family-of u q)
-    → s ≡ T .text → a ≡ T .kind → family-of s r ≡ fam-of (tok s a) → u ≡ U .text → b ≡ U .kind → family-of u q ≡ fam-of (tok u b)
-    → y ≡ same-name (fam-of T) (fam-of U)
-names-same T U s a r u b q y e h i j k m n =
-    let v : fam-of (tok s a) ≡ fam-of T = rw (h, i) in
-    let w : fam-of (tok u b) ≡ fam-of U = rw (k, m) in
-    rw (← v, ← w, ← j, ← n) e
+module _ (T : Token) (s : List ℕ) (a : ℕ) (r : Register) (text : s ≡ T .text) (kind : a ≡ T .kind) (family : family-of s r ≡ fam-of (tok s a)) where
+  pub family-is : family-of s r ≡ fam-of T
+  family-is = family ∙ rw (text, kind)
+
+  pub names-same : (o : Option Family) (y : Bool) → y ≡ same-name (family-of s r) o → y ≡ same-name (fam-of T) o
+  names-same o y e = rw (← family-is) e
 
 module _ (T : List Token) (N : List ℕ) (k : ℕ) where
   module _ (p a b : ℕ) (first : a ≡ getD N p 0) (second : b ≡ getD N k 0) where
-    pub web-same : a ≡ b → (y : Bool) → y ≡ same-name (fam-of (getD T p no-token)) (fam-of (getD T k no-token)) → y ≡ same-web T N k p
+    pub web-same : a ≡ b → (o : Option Family) (y : Bool) → o ≡ fam-of (getD T k no-token) → y ≡ same-name (fam-of (getD T p no-token)) o → y ≡ same-web T N k p
     unfolding same-web
-    web-same h y e = rw (← first, ← second, eq-eqb a b h) e
+    web-same h o y q e = rw (← first, ← second, eq-eqb a b h, ← q) e
 
     pub web-other : (a ≡ b → ⊥) → false ≡ same-web T N k p
     unfolding same-web
@@ -74,14 +73,6 @@ module _ (T : List Token) (N : List ℕ) (k : ℕ) where
     unfolding range find
     finding-end h = let z : k - p ≡ 0 = omega arith in rw z at (f .rest)
 
-  pub appears-go : (y : Bool) (f : ℕ) → y ≡ has-web N k → y ≡ true → f ≡ first-of T N k → eqb f k ≡ appears T N k
-  unfolding appears
-  appears-go y f e t q = rw (← e, t, q)
-
-  pub appears-no : (y : Bool) → y ≡ has-web N k → y ≡ false → false ≡ appears T N k
-  unfolding appears
-  appears-no y e t = rw (← e, t)
-
 -- Ranks
 
 pub counted-yes : (c : ℕ) (y : Bool) → y ≡ true → c + 1 ≡ c + mark y
@@ -101,32 +92,46 @@ module _ (T : List Token) (N : List ℕ) (n m : ℕ) where
 
   pub ranking-start : (ranks : List ℕ) → n ≤ m → length ranks ≡ m → Ranking ranks 0 0
   unfolding before
-  ranking-start ranks h q = record { low = omega arith; room = h; size = q; count = refl; few = omega arith; ranked = record { rank = λ k g. absurd (omega arith) } }
+  ranking-start ranks h q = record { low = omega arith; room = h; size = q; count = refl; few = omega arith; ranked = record { small = omega arith; rank = λ k g. absurd (omega arith); low = λ k g. absurd (omega arith); few = λ k g. absurd (omega arith) } }
 
   mark-most : (y : Bool) → mark y ≤ 1
   mark-most true = omega arith
   mark-most false = omega arith
 
-  pub ranking-next : (ranks : List ℕ) (c k : ℕ) → Ranking ranks c k → k < n → (y : Bool) → y ≡ appears T N k → (c′ : ℕ) → c′ ≡ c + mark y
-      → Ranking (set ranks k c) c′ (k + 1)
-  ranking-next ranks c k r h y e c′ q =
+  pub ranking-next : (ranks : List ℕ) (c k : ℕ) → Ranking ranks c k → k < n → n ≤ 16384 → (f : ℕ) → f ≡ first-of T N k → f ≤ k → (v : ℕ) → v ≡ f * 32768 + c
+      → (y : Bool) → y ≡ (has-web N k && eqb f k) → (c′ : ℕ) → c′ ≡ c + mark y → Ranking (set ranks k v) c′ (k + 1)
+  ranking-next ranks c k r h t f first below v word y e c′ q =
       let few = r .few in let size = r .size in
       let one : mark y ≤ 1 = mark-most y in
       record {
         low = omega arith;
         room = r .room;
-        size = length-set ranks k c ∙ r .size;
-        count = q ∙ rw (e, r .count, add-one) (unfold before in refl);
+        size = length-set ranks k v ∙ r .size;
+        count = q ∙ rw (e, r .count, first, add-one) (unfold before appears in refl);
         few = omega arith;
-        ranked = record { rank = at };
+        ranked = record { small = omega arith; rank = at; low = low; few = most };
       }
     where
-      at : (j : ℕ) → j < k + 1 → getD (set ranks k c) j 0 ≡ before T N j
+      at : (j : ℕ) → j < k + 1 → getD (set ranks k v) j 0 ≡ first-of T N j * 32768 + before T N j
       at j g = go (ℕ-discrete j k)
         where
-          go : Dec (j ≡ k) → getD (set ranks k c) j 0 ≡ before T N j
-          go (yes z) = let room = r .room in let size = r .size in rw (z, getD-set-same ranks k c 0 (omega arith)) (r .count)
-          go (no z) = getD-set-other ranks k j c 0 z ∙ r .ranked .rank j (omega arith)
+          go : Dec (j ≡ k) → getD (set ranks k v) j 0 ≡ first-of T N j * 32768 + before T N j
+          go (yes z) = let room = r .room in let size = r .size in rw (z, getD-set-same ranks k v 0 (omega arith)) (word ∙ rw (first, r .count))
+          go (no z) = getD-set-other ranks k j v 0 z ∙ r .ranked .rank j (omega arith)
+
+      low : (j : ℕ) → j < k + 1 → first-of T N j ≤ j
+      low j g = go (ℕ-discrete j k)
+        where
+          go : Dec (j ≡ k) → first-of T N j ≤ j
+          go (yes z) = rw (z, ← first) below
+          go (no z) = r .ranked .low j (omega arith)
+
+      most : (j : ℕ) → j < k + 1 → before T N j ≤ j
+      most j g = go (ℕ-discrete j k)
+        where
+          go : Dec (j ≡ k) → before T N j ≤ j
+          go (yes z) = rw (z, ← r .count) (r .few)
+          go (no z) = r .ranked .few j (omega arith)
 
   pub ranking-end : (ranks : List ℕ) (c k : ℕ) → Ranking ranks c k → n ≤ k → Ranked T N n ranks
   ranking-end ranks c k r h = let low = r .low in let z : k ≡ n = omega arith in rw z at (r .ranked)

@@ -1,13 +1,13 @@
 -- What the functions of this crate are handed and leave.
 --   Ready l t x space ranks     at most 1,024 lines, which cover the tokens in order; room for the matrices of the flow graph, and for a rank a token
---   Ranked T N m ranks        of the first m tokens each rank says how many webs appear before the token
+--   Ranked T N m ranks        the ranks of the first m tokens: the first token of the web, and how many webs appear before the token
 -- of the columns l, t, x and the web numbers N:
 --   line-at l t x N i         the label's text of line i
 --   line-cells l t x N i      its width in letters; widest l t x N, the greatest
 --   node-at l t x N w i       line i, its text w points wide; nodes-at l t x N, all lines
 --   picture l t x N f         the picture with the edges f
 -- Assumes nothing.
-use Prim.Native.Nat.{ℕ, _*_, _≤_, _<_}
+use Prim.Native.Nat.{ℕ, _+_, _*_, _≤_, _<_}
 use mathlib.Core.Path.{_≡_}
 use mathlib.Core.Bool.{Bool, true}
 use mathlib.Core.List.{List, _++_, map}
@@ -18,7 +18,7 @@ use Rattle.definitions.specs.Columns.{token-list, listing}
 use Rattle.definitions.specs.Questions.{covers}
 use Rattle.model.specs.Places.{line-start, line-end}
 use Rattle.rows.specs.Rows.{rows}
-use Rattle.dot.specs.Dot.{before, line-text, cells, greatest, node-text, edges, settings}
+use Rattle.dot.specs.Dot.{first-of, before, line-text, cells, greatest, node-text, edges, settings}
 
 pub record Ready (l t x space ranks : List ℕ) : Type 0 where
   pub few : length l ≤ 1024
@@ -29,7 +29,10 @@ pub record Ready (l t x space ranks : List ℕ) : Type 0 where
   pub room : length t ≤ length ranks
 
 pub record Ranked (T : List Token) (N : List ℕ) (m : ℕ) (ranks : List ℕ) : Type 0 where
-  pub rank : (k : ℕ) → k < m → getD ranks k 0 ≡ before T N k
+  pub small : m ≤ 16384
+  pub rank : (k : ℕ) → k < m → getD ranks k 0 ≡ first-of T N k * 32768 + before T N k
+  pub low : (k : ℕ) → k < m → first-of T N k ≤ k
+  pub few : (k : ℕ) → k < m → before T N k ≤ k
 
 module _ (l t x N : List ℕ) where
   unfoldable pub line-cells : ℕ → ℕ

@@ -1,11 +1,10 @@
-// The lines as nodes. Each function takes time linear in what it writes, but for the colour of a token, which is looked up in crate::webs.
+// The lines as nodes. Each function takes time linear in what it writes.
 //
 // Contracts: `Appended` of Rattle.json_append.specs.Appended, of the texts of specs/Dot.antt.
 use crate::labels::put_blanks;
 use crate::labels::put_characters;
 use crate::labels::put_web;
 use crate::labels::wide;
-use crate::webs::first_of;
 use crate::webs::has_web;
 use json_append::bytes::put;
 use json_append::values::put_decimal;
@@ -38,7 +37,8 @@ fn put_token(
 {
     let s = token_text(tokens, text, k);
     if has_web(numbers, k) {
-        let c = text::word(ranks, first_of(tokens, text, numbers, k));
+        let f = text::word(ranks, k) / 32768;
+        let c = text::word(ranks, f) % 32768;
         return put_web(out, at, c, s, text::word(numbers, k));
     }
     put_characters(out, at, s)

@@ -11,14 +11,14 @@ token-text-requires c κs = search needs
 has-web-requires : tie.Need-has-web-requires
 has-web-requires c κs = search needs
 
-first-of-requires : tie.Need-first-of-requires
-first-of-requires c κs = search needs
-
 word-requires : tie.Need-word-requires
 word-requires c κs = search needs
 
 word-requires-2 : tie.Need-word-requires-2
 word-requires-2 c κs = search needs
+
+word-requires-3 : tie.Need-word-requires-3
+word-requires-3 c κs = search needs
 
 put-web-requires : tie.Need-put-web-requires
 put-web-requires c κs = search needs
@@ -44,9 +44,9 @@ put-token-spec =
     (tie.spec
     token-text-requires
     has-web-requires
-    first-of-requires
     word-requires
     word-requires-2
+    word-requires-3
     put-web-requires
     same-length
     returns

@@ -1,4 +1,4 @@
--- `dot::webs::rank` meets its contract.
+-- `dot::webs::rank` meets its contract. The tokens before k are ranked, and c webs appear before it.
 -- Assumes nothing.
 use Rattle.dot.proofs.WebRules.{Ranking, ranking-start, ranking-next, ranking-end}
 use Rattle.definitions.specs.Columns.{token-list}
@@ -17,6 +17,12 @@ abbrev μ-loop : tie.MeasureT-loop
 
 loop-holds : tie.Need-loop-holds Inv-loop μ-loop
 loop-holds c = ranking-start _ _ _ _ _ (omega arith) (search needs)
+
+first-of-requires : tie.Need-first-of-requires Inv-loop μ-loop
+first-of-requires c κs = search needs
+
+packed-requires : tie.Need-packed-requires Inv-loop μ-loop
+packed-requires c κs = search needs
 
 mul-ranks : tie.Need-mul-ranks Inv-loop μ-loop
 mul-ranks c = search needs
@@ -52,6 +58,8 @@ rank-spec =
     Inv-loop
     μ-loop
     loop-holds
+    first-of-requires
+    packed-requires
     mul-ranks
     slice-write-ranks
     appears-requires

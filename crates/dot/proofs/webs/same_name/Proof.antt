@@ -8,20 +8,11 @@ use Rattle.dot.proofs.webs.same_name.Tie as tie
 token-text-requires : tie.Need-token-text-requires
 token-text-requires c κs = search needs
 
-token-text-requires-2 : tie.Need-token-text-requires-2
-token-text-requires-2 c κs = search needs
-
 token-kind-requires : tie.Need-token-kind-requires
 token-kind-requires c κs = search needs
 
 fam-of-requires : tie.Need-fam-of-requires
 fam-of-requires c κs = search needs
-
-token-kind-requires-2 : tie.Need-token-kind-requires-2
-token-kind-requires-2 c κs = search needs
-
-fam-of-requires-2 : tie.Need-fam-of-requires-2
-fam-of-requires-2 c κs = search needs
 
 same-family-requires : tie.Need-same-family-requires
 same-family-requires c κs = search needs
@@ -32,12 +23,4 @@ returns c = search (names-same, needs)
 pub same-name-spec : {M : Type 1} → statement M
 same-name-spec =
     tie.close
-    (tie.spec
-    token-text-requires
-    token-text-requires-2
-    token-kind-requires
-    fam-of-requires
-    token-kind-requires-2
-    fam-of-requires-2
-    same-family-requires
-    returns)
+    (tie.spec token-text-requires token-kind-requires fam-of-requires same-family-requires returns)
