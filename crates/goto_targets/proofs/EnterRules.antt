@@ -60,25 +60,29 @@ module _ (C : List Line) (w : ℕ) (is : is-label (line-of C w) ≡ true) where
   label-text =
       ap (λ ts. getD ts 0 no-token .text) (sym (no-header-line C w (header-at w) refl no-header ∙ kept-piece C (piece-at w) whole-line))
 
-pub names-at : (C : List Line) (w i : ℕ) (x s : List ℕ) (r : Bool) → i ≡ piece-at w / 4 → x ≡ token (line C i) 0 .text → r ≡ (x == s) → r ≡ names C s w
-names-at C w i x s r e q g = g ∙ ap (_== s) (q ∙ ap (λ j. token (line C j) 0 .text) e)
+pub names-at : (C : List Line) (i k : ℕ) (x s : List ℕ) (r : Bool) → k ≡ i → x ≡ token (line C k) 0 .text → r ≡ (x == s) → r ≡ names C s i
+names-at C i k x s r e q g = g ∙ ap (_== s) (q ∙ ap (λ j. token (line C j) 0 .text) e)
 
 -- The labels listed
+
+-- the line that w comes from
+abbrev source : ℕ → ℕ
+source w = piece-at w / 4
 
 module _ (C : List Line) where
   labels-step : (w : ℕ) (ws : List ℕ) → labels C (w ∷ ws) ≡ labels C (w ∷ []) ++ labels C ws
   unfolding labels filter
   labels-step w ws = go (is-label (line-of C w))
     where
-      go : (b : Bool) → cond b (w ∷ filter (λ w. is-label (line-of C w)) ws) (filter (λ w. is-label (line-of C w)) ws)
-          ≡ cond b (w ∷ []) [] ++ filter (λ w. is-label (line-of C w)) ws
+      go : (b : Bool) → map source (cond b (w ∷ filter (λ w. is-label (line-of C w)) ws) (filter (λ w. is-label (line-of C w)) ws))
+          ≡ map source (cond b (w ∷ []) []) ++ map source (filter (λ w. is-label (line-of C w)) ws)
       go true = refl
       go false = refl
 
   module _ (s : List ℕ) (m w : ℕ) (y : Bool) (e : y ≡ is-label (line-of C w)) where
-    pub keep-yes : y ≡ true → m < length s → take (m + 1) (set s m w) ≡ take m s ++ labels C (w ∷ [])
+    pub keep-yes : y ≡ true → m < length s → (i : ℕ) → i ≡ piece-at w / 4 → (v : ℕ) → v ≡ i → take (m + 1) (set s m v) ≡ take m s ++ labels C (w ∷ [])
     unfolding labels filter
-    keep-yes f h = rw (← e, f, add-one m) (take-suc-set s m w h)
+    keep-yes f h i d v q = rw (← e, f, add-one m, ← d, ← q) (take-suc-set s m v h)
 
     pub keep-no : y ≡ false → take m s ≡ take m s ++ labels C (w ∷ [])
     unfolding labels filter
@@ -173,7 +177,7 @@ named C t (w ∷ ws) = go (is-label (line-of C w)) refl (named C t ws)
   where
     go : (b : Bool) → is-label (line-of C w) ≡ b → any (λ l. label l == t) (filter is-label (map (line-of C) ws)) ≡ any (names C t) (labels C ws)
         → any (λ l. label l == t) (cond b (line-of C w ∷ filter is-label (map (line-of C) ws)) (filter is-label (map (line-of C) ws)))
-        ≡ any (names C t) (cond b (w ∷ labels C ws) (labels C ws))
+        ≡ any (names C t) (map source (cond b (w ∷ filter (λ w. is-label (line-of C w)) ws) (filter (λ w. is-label (line-of C w)) ws)))
     go true is e = ap₂ _||_ (ap (_== t) (sym (label-text C w is))) e
     go false is e = e
 
@@ -207,7 +211,7 @@ module _ (ws : List ℕ) (n : ℕ) (fit : n ≤ length ws) where
       inside-is t =
           let between : part (h + 1) b (render C (take n ws)) ≡ map (line-of C) (part (h + 1) b ws) =
           sym (map-part (line-of C) (h + 1) b (take n ws)) ∙ ap (map (line-of C)) (part-taken (h + 1) b (omega arith)) in
-          let head : (t == label (line (render C (take n ws)) h)) ≡ names C t (getD ws h 0) =
+          let head : (t == label (line (render C (take n ws)) h)) ≡ names C t (piece-at (getD ws h 0) / 4) =
           ap (t ==_) (ap label (line-at C ws n h (omega arith) fit) ∙ sym (label-text C (getD ws h 0) is)) ∙ ==-sym t _ in
           ap₂ _||_ head (ap (λ M. any (λ l. label l == t) (filter is-label M)) between ∙ named C t (part (h + 1) b ws))
           ∙ sym (ap (λ vs. any (names C t) (labels C vs)) (part-step 0 ws h b hb (omega arith)) ∙ rw is)

@@ -4,7 +4,7 @@
 --   clean-popped, clean-over    nor does one through what a header takes from a clean piece
 --   quiet-clean       a quiet piece is clean
 -- Assumes nothing.
-use mathlib.Core.Path.{_≡_, refl, sym, ap, subst, _∙_}
+use mathlib.Core.Path.{_≡_, refl, sym, subst, _∙_}
 use mathlib.Core.Bool.{Bool, true, false, cond, not, _&&_}
 use mathlib.Core.List.{List, [], _∷_, _++_, reverse, reverse-cons}
 use mathlib.Core.Option.{Option, none, some, Option·map}
@@ -26,7 +26,7 @@ use Rattle.loop_theory.proofs.Cases.{true-false, false-unless, and-split, none-
 use Rattle.loop_theory.proofs.AnyAll.{none-append, none-split, all-cons, all-nil, all-append, all-halves, all-filter, all-on-first, all-on-last}
 use Rattle.pieces.specs.Pieces.{piece, origin, cut-place}
 use Rattle.pieces.proofs.Forms.{place-before, kept-piece, continued-piece, broken-piece, closed-piece}
-use Rattle.goto_targets.specs.Seek.{Seek, Seek.looking, step, seek}
+use Rattle.goto_targets.specs.Seek.{Seek.looking, step, seek}
 use Rattle.goto_targets.specs.Marks.{has-g, clean, before, Mark, Marked, quiet}
 use Rattle.goto_targets.proofs.SeekLaws.{seek-negate, seek-one}
 

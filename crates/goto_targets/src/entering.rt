@@ -10,18 +10,19 @@ ghost use Rattle.goto_targets.specs.Marks.{Marked};
 use crate::headers::word_target;
 use crate::marks::next_loud;
 use crate::marks::own_mark;
+use crate::marks::wide;
 use crate::seeking::State;
 use model::columns::text_at;
 
-// s is the first token of the line that w comes from.
-fn names(lines: &[u32], tokens: &[u32], text: &[u8], w: usize, s: &[u8]) -> bool
-    ensures { λ r. ⌜ r ≡ names (listing (now (lines .entry)) (now (tokens .entry)) (now (text .entry))) (now (s .entry)) w ⌝ }
+// s is the first token of line i.
+fn names(lines: &[u32], tokens: &[u32], text: &[u8], i: u16, s: &[u8]) -> bool
+    ensures { λ r. ⌜ r ≡ names (listing (now (lines .entry)) (now (tokens .entry)) (now (text .entry))) (now (s .entry)) i ⌝ }
 {
-    text::equal(text_at(lines, tokens, text, plan::source(w), 0), s)
+    text::equal(text_at(lines, tokens, text, wide(i), 0), s)
 }
 
 // s is the name of one of the labels.
-fn any_names(lines: &[u32], tokens: &[u32], text: &[u8], labels: &[usize], s: &[u8]) -> bool
+fn any_names(lines: &[u32], tokens: &[u32], text: &[u8], labels: &[u16], s: &[u8]) -> bool
     ensures { λ r.
         ⌜ (let C = listing (now (lines .entry)) (now (tokens .entry)) (now (text .entry)) in
         r ≡ any (names C (now (s .entry))) (now (labels .entry))) ⌝ }
@@ -37,7 +38,7 @@ fn any_names(lines: &[u32], tokens: &[u32], text: &[u8], labels: &[usize], s: &[
 }
 
 // The line of w has a goto to one of the labels, by its tokens.
-fn goes_to(lines: &[u32], tokens: &[u32], text: &[u8], labels: &[usize], w: usize) -> bool
+fn goes_to(lines: &[u32], tokens: &[u32], text: &[u8], labels: &[u16], w: usize) -> bool
     requires { ⌜ (question-2 (now lines) (now tokens) (now text) ≡ true) × (is-goto w ≡ true) ⌝ }
     ensures { λ r.
         ⌜ (let C = listing (now (lines .entry)) (now (tokens .entry)) (now (text .entry)) in
@@ -66,7 +67,7 @@ fn goes_inside(
     lines: &[u32],
     tokens: &[u32],
     text: &[u8],
-    labels: &[usize],
+    labels: &[u16],
     w: usize,
     marks: &[u16],
 ) -> bool
@@ -89,7 +90,7 @@ pub fn any_goes_inside(
     lines: &[u32],
     tokens: &[u32],
     text: &[u8],
-    labels: &[usize],
+    labels: &[u16],
     words: &[usize],
     marks: &[u16],
 ) -> bool

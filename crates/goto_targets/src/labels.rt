@@ -6,9 +6,17 @@ ghost use lib.ListN.{length, take};
 ghost use Rattle.definitions.specs.Columns.{listing};
 ghost use Rattle.goto_targets.specs.Targets.{labels};
 use gotos::words::label_word;
+use plan::source;
 
-// The word w at place m of the list, where its line is a label; answers the place behind.
-fn keep(lines: &[u32], tokens: &[u32], text: &[u8], list: &mut [usize], m: usize, w: usize) -> usize
+fn narrow(i: usize) -> u16
+    requires { ⌜ i < 65536 ⌝ }
+    ensures { λ r. ⌜ r ≡ i ⌝ }
+{
+    i as u16
+}
+
+// The source line of the word w at place m of the list, where its line is a label; answers the place behind.
+fn keep(lines: &[u32], tokens: &[u32], text: &[u8], list: &mut [u16], m: usize, w: usize) -> usize
     requires { ⌜ m < length (now list) ⌝ }
     ensures { λ r. ⌜ r ≤ m + 1 ⌝ }
     ensures { λ r.
@@ -16,19 +24,19 @@ fn keep(lines: &[u32], tokens: &[u32], text: &[u8], list: &mut [usize], m: usize
         take r (now (list .exit)) ≡ take m (now (list .entry)) ++ labels C (w ∷ [])) ⌝ }
 {
     if label_word(lines, tokens, text, w) {
-        list[m] = w;
+        list[m] = narrow(source(w));
         return m + 1;
     }
     m
 }
 
-// Lists the words whose lines are labels; answers how many there are.
+// Lists the source lines of the words whose lines are labels; answers how many there are.
 pub fn list_labels(
     lines: &[u32],
     tokens: &[u32],
     text: &[u8],
     words: &[usize],
-    list: &mut [usize],
+    list: &mut [u16],
 ) -> usize
     requires { ⌜ length (now words) ≤ length (now list) ⌝ }
     ensures { λ r. ⌜ r ≤ length (now (list .entry)) ⌝ }

@@ -42,7 +42,7 @@ pub fn enters(
         ⌜ (let C = listing (now (lines .entry)) (now (tokens .entry)) (now (text .entry)) in
         r ≡ enters (render C (take n (now (plan .entry)))) h b) ⌝ }
 {
-    let mut list = [0usize; 1024];
+    let mut list = [0u16; 1024];
     let m = list_labels(lines, tokens, text, &plan[h..b], &mut list);
     let labels = &list[..m];
     if any_goes_inside(lines, tokens, text, labels, &plan[..h], marks) {

@@ -103,7 +103,8 @@ fn quiet(marks: &[u16], p: usize) -> bool
     m != 2
 }
 
-fn wide(m: u16) -> usize
+// A mark, or a line of the list of labels, as a number.
+pub fn wide(m: u16) -> usize
     ensures { λ r. ⌜ r ≡ m ⌝ }
 {
     m as usize

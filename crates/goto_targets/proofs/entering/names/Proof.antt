@@ -5,8 +5,8 @@ use borrow.Author.Needs.{needs}
 use Rattle.goto_targets.proofs.entering.names.Statement.{statement}
 use Rattle.goto_targets.proofs.entering.names.Tie as tie
 
-source-requires : tie.Need-source-requires
-source-requires c κs = search needs
+wide-requires : tie.Need-wide-requires
+wide-requires c κs = search needs
 
 text-at-requires : tie.Need-text-at-requires
 text-at-requires c κs = search needs
@@ -18,4 +18,4 @@ returns : tie.Need-returns
 returns c = search (names-at, needs)
 
 pub names-spec : {M : Type 1} → statement M
-names-spec = tie.close (tie.spec source-requires text-at-requires equal-requires returns)
+names-spec = tie.close (tie.spec wide-requires text-at-requires equal-requires returns)

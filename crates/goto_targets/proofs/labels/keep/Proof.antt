@@ -8,6 +8,12 @@ use Rattle.goto_targets.proofs.labels.keep.Tie as tie
 label-word-requires : tie.Need-label-word-requires
 label-word-requires c κs = search needs
 
+source-requires : tie.Need-source-requires
+source-requires c κs = search needs
+
+narrow-requires : tie.Need-narrow-requires
+narrow-requires c κs = search needs
+
 mul-list : tie.Need-mul-list
 mul-list c = search needs
 
@@ -31,6 +37,8 @@ keep-spec =
     tie.close
     (tie.spec
     label-word-requires
+    source-requires
+    narrow-requires
     mul-list
     slice-write-list
     add-result
