@@ -1,6 +1,6 @@
 -- Rules for `tokens`.
 --   register-by                           `register_of`
---   family-some, family-none              `token_family`
+--   register-answer, family-some, family-none    `token_family`
 --   other-some, other-none                `other_word`
 --   link-by, token-other, token-linked, family-room    `link` and `chain_register`
 --   kind-is, kind-other, token-plain      `is_register` and `chain_token`
@@ -21,7 +21,7 @@ use lib.ListN.{length, getD, set, take, length-set}
 use lib.Seq.{take-all, getD-set-same, getD-set-other}
 use Rattle.definitions.specs.Lists.{is-some}
 use Rattle.definitions.specs.Model.{Token, Line, tok, no-token}
-use Rattle.definitions.specs.Family.{Family, fam-of, names}
+use Rattle.definitions.specs.Family.{Family, family, fam-of, names}
 use Rattle.definitions.specs.Columns.{token-list, listing}
 use Rattle.definitions.specs.Recover.{defined-families}
 use Rattle.definitions.specs.Answers.{no-family}
@@ -44,6 +44,15 @@ use Rattle.chains.proofs.FamilyPlaces.{place-most, names-place}
 
 pub register-by : (u : Token) (k : ℕ) (s : List ℕ) (r : Register) → k ≡ u .kind → s ≡ u .text → family-of s r ≡ fam-of (tok s k) → family-of (u .text) r ≡ fam-of u
 register-by u k s r p q e = rw (p, q) at e
+
+pub register-answer : (u : Token) (s : List ℕ) (r : Register) (y : Bool) → s ≡ u .text → family-of (u .text) r ≡ fam-of u → ((s : List ℕ) → y ≡ is-some (family-of s r)) → y ≡ true
+    → family-of s r ≡ family s
+unfolding fam-of
+register-answer u s r y q o a b = rw q (go (eqb (u .kind) 1) o)
+  where
+    go : (c : Bool) → family-of (u .text) r ≡ cond c (family (u .text)) none → family-of (u .text) r ≡ family (u .text)
+    go true e = e
+    go false e = clash (sym (a (u .text)) ∙ b) (ap is-some e)
 
 module _ (L : List Line) (count : ℕ) (t : List ℕ) (F : Finds L count t) (u : Token) (r : Register) (o : family-of (u .text) r ≡ fam-of u) where
   pub family-some : (s : List ℕ) (c : ℕ) → s ≡ u .text → c ≡ place-of (take count (defined-families L)) (family-of s r) → c ≡ place-of (defined-families L) (fam-of u)
@@ -243,4 +252,4 @@ module _ (l t x : List ℕ) (count : ℕ) (B : Bounds l t) (ns first : List ℕ)
   unfolding start-from
   chained-end i h C = let z : i ≡ 0 = omega arith in rw z at C
 
-pub ruleset token-rules = (link-by, line-from, line-on, line-to, line-rises, chained-below, heads-start, heads-next, heads-end, chained-start, chained-next, chained-end, register-by, family-some, family-none, other-some, other-none, family-room, token-other, token-linked, kind-is, kind-other, token-plain)
+pub ruleset token-rules = (link-by, line-from, line-on, line-to, line-rises, chained-below, heads-start, heads-next, heads-end, chained-start, chained-next, chained-end, register-by, register-answer, family-some, family-none, other-some, other-none, family-room, token-other, token-linked, kind-is, kind-other, token-plain)

@@ -1,6 +1,6 @@
 -- Names of `r` and digits, and of `var_`.
 --   digits-low, digits-high, digits-next, digits-end    the loop over digits
---   is-numbered-by       `r` and one or more digits, by where the digits end
+--   is-numbered-by, flag, no-flag    `r` and one or more digits, by where the digits end
 --   numbered-some, numbered-none    the family, by the width that the suffix says
 --   other-numbered, other-var, other-none    a name that is not in the table
 -- Assumes nothing.

@@ -5,6 +5,7 @@
 --   searching-start, searching-next, searching-found, searching-end       rules for the loop of `search_chain`
 --   row-of, row-behind, row-numbered, row-var, row-nothing                rules for `row_word`
 --   found-row                                                             what stands for a row of the legacy names is its family's place
+--   last-inside, found-text                                               a register written as the first definition of the last family of its hash
 -- Assumes nothing.
 use Prim.Native.Nat.{ℕ, zero, suc, _+_, _-_, _<_, _≤_}
 use mathlib.Core.Path.{_≡_, refl, sym, ap, _∙_}
@@ -18,8 +19,8 @@ use borrow.Author.Tests.{eqb-true, eqb-false, lt-ltb, le-ltb, ltb-true}
 use lib.ListN.{length, getD, take, length-take}
 use lib.Seq.{getD-take, length-take-le}
 use Rattle.definitions.specs.Lists.{filter, position, _==_}
-use Rattle.definitions.specs.Model.{Line, token, line}
-use Rattle.definitions.specs.Family.{Family, names}
+use Rattle.definitions.specs.Model.{Token, Line, token, line}
+use Rattle.definitions.specs.Family.{Family, family, fam-of, names}
 use Rattle.definitions.specs.Statements.{defines}
 use Rattle.definitions.specs.Recover.{distinct, defined-families}
 use Rattle.theory.proofs.Bools.{not-so, lt-or-ge}
@@ -278,6 +279,33 @@ found-row L count t s (Numbered n w) c T q z = absurd (z q)
 found-row L count t s Var c T q z = absurd (z q)
 found-row L count t s Nothing c T q z = absurd (z q)
 
-pub ruleset row-rules = (row-of, row-behind, row-numbered, row-var, row-nothing, found-row)
+-- The text of the first definition
+
+family-some : (u : Token) (x : Family) → fam-of u ≡ some x → family (u .text) ≡ some x
+unfolding fam-of
+family-some u x e = go (eqb (u .kind) 1) e
+  where
+    go : (b : Bool) → cond b (family (u .text)) none ≡ some x → family (u .text) ≡ some x
+    go true q = q
+    go false q = cc
+
+module _ (L : List Line) (count : ℕ) (t s : List ℕ) (r : Register) (T : Table L count t) (answer : family-of s r ≡ family s)
+    (c h : ℕ) (is-hash : h ≡ hash-of (family-of s r)) (low : h < 248) (is-last : c ≡ getD t h 0) where
+  last-few : c ≤ count
+  last-few = omega (arith, is-last, T .heads h low, latest-le (defined-families L) h count)
+
+  pub last-inside : 0 < c → count ≤ 1024 → c - 1 < 1024
+  last-inside p few = omega (arith, last-few)
+
+  pub found-text : 0 < c → (y : Bool) → y ≡ (token (line L (getD t (1280 + (c - 1)) 0)) 0 .text == s) → y ≡ true
+      → c ≡ place-of (take count (defined-families L)) (family-of s r)
+  found-text p y e f =
+      let l = line L (getD t (1280 + (c - 1)) 0) in
+      let w = defines-first l (getD (defined-families L) (c - 1) []) (T .first (c - 1) (omega (arith, last-few))) in
+      let same : token l 0 .text ≡ s = ==-true (token l 0 .text) s (sym e ∙ f) in
+      let is : family-of s r ≡ some (w .0) = answer ∙ ap family (sym same) ∙ family-some (token l 0) (w .0) (w .1) in
+      rw is (omega (arith, place-taken L count t T (w .0 .name) (c - 1) (omega (arith, last-few)) (sym (w .2))))
+
+pub ruleset row-rules = (last-inside, found-text, row-of, row-behind, row-numbered, row-var, row-nothing, found-row)
 
 pub ruleset search-rules = (searching-start, searching-found, searching-next, searching-less, searching-end)

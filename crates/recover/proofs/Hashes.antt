@@ -5,6 +5,7 @@
 --   hash-row, hash-behind, hash-part    `hash_of`
 --   some-row, some-numbered, some-var, some-nothing    `is_some`
 --   first-token                         `is_family`
+--   text-same                           `has_text`
 -- Assumes nothing.
 use Prim.Native.Nat.{ℕ, zero, suc, _+_, _*_, _%_, _<_, _≤_}
 use mathlib.Core.Path.{_≡_, refl}
@@ -15,7 +16,7 @@ use native.Mathlib.Omega.{arith}
 use lib.Dec.{ltb}
 use borrow.Author.Tests.{lt-ltb, le-ltb}
 use lib.ListN.{length, getD, drop}
-use Rattle.definitions.specs.Lists.{fold, part, is-some}
+use Rattle.definitions.specs.Lists.{fold, part, is-some, _==_}
 use Rattle.definitions.specs.Model.{Line, token, line}
 use Rattle.definitions.specs.Family.{Family, legacy}
 use Rattle.text.proofs.Parts.{drop-step, drop-end}
@@ -87,5 +88,9 @@ module _ (s : List ℕ) (r : Register) where
 pub first-token : (L : List Line) (o : Option Family) (y : Bool) (t : List ℕ) (k i : ℕ) → i ≡ getD t (1280 + k) 0 → y ≡ names-family o (token (line L i) 0)
     → y ≡ names-family o (token (line L (getD t (1280 + k) 0)) 0)
 first-token L o y t k i e q = rw (← e) q
+
+pub text-same : (L : List Line) (t s x : List ℕ) (k i : ℕ) (y : Bool) → i ≡ getD t (1280 + k) 0 → x ≡ token (line L i) 0 .text → y ≡ (x == s)
+    → y ≡ (token (line L (getD t (1280 + k) 0)) 0 .text == s)
+text-same L t s x k i y e q f = rw (← e, ← q) f
 
 pub ruleset hash-rules = (hash-start, hash-next, hash-end, hash-row, hash-behind, hash-part, hash-whole, some-row, some-numbered, some-var, some-nothing, first-token)

@@ -12,7 +12,8 @@ ghost use mathlib.Core.Path.{_≡_};
 ghost use mathlib.Core.List.{List};
 ghost use Prim.Native.Nat.{ℕ, _+_, _*_, _%_, _<_, _≤_};
 ghost use lib.ListN.{length, take, getD};
-ghost use Rattle.definitions.specs.Lists.{is-some};
+ghost use Rattle.definitions.specs.Lists.{is-some, _==_};
+ghost use Rattle.definitions.specs.Family.{family};
 ghost use Rattle.definitions.specs.Model.{token, line};
 ghost use Rattle.definitions.specs.Statements.{defines};
 ghost use Rattle.definitions.specs.Columns.{listing};
@@ -136,7 +137,17 @@ fn search_chain(
     0
 }
 
-// 1 + the place among the first `count` families of the one that the answer r of the text s is, 0 where it is none of them.
+// The first definition of family k writes its register as s.
+fn has_text(lines: &[u32], tokens: &[u32], text: &[u8], table: &[u16], k: usize, s: &[u8]) -> bool
+    requires { ⌜ k < 1024 ⌝ }
+    ensures { λ y. ⌜ y ≡ (token (line (listing (now (lines .entry)) (now (tokens .entry)) (now (text .entry))) (getD (now (table .entry)) (1280 + k) 0)) 0 .text == now (s .entry)) ⌝ }
+{
+    let i = number(table, 1280 + k);
+    text::equal(model::columns::text_at(lines, tokens, text, i, 0), s)
+}
+
+// 1 + the place among the first `count` families of the one that the answer r of the register s is, 0 where it is none of them. A text that is
+// written as where its family is first defined is looked up no second time.
 pub fn search(
     lines: &[u32],
     tokens: &[u32],
@@ -146,14 +157,20 @@ pub fn search(
     s: &[u8],
     r: Register,
 ) -> usize
-    requires { ⌜ Table (listing (now lines) (now tokens) (now text)) count (now table) × (count ≤ 1024) ⌝ }
+    requires { ⌜ Table (listing (now lines) (now tokens) (now text)) count (now table) × (count ≤ 1024) × (family-of (now s) r ≡ family (now s)) ⌝ }
     ensures { λ c. ⌜ c ≡ place-of (take count (defined-families (listing (now (lines .entry)) (now (tokens .entry)) (now (text .entry))))) (family-of (now (s .entry)) r) ⌝ }
 {
     let c = row_word(table, r);
-    if c == 0 {
-        return search_chain(lines, tokens, text, table, count, s, r);
+    if c != 0 {
+        return c;
     }
-    c
+    let last = number(table, hash_of(s, r));
+    if 0 < last {
+        if has_text(lines, tokens, text, table, last - 1, s) {
+            return last;
+        }
+    }
+    search_chain(lines, tokens, text, table, count, s, r)
 }
 
 // One family more in the table: its number is `count`, its first definition on line i, its hash h.
