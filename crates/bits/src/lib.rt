@@ -16,8 +16,15 @@ ghost use Prim.Native.Nat.{_+_, _*_, _/_, _<_, _≤_};
 ghost use lib.ListN.{length, getD, set};
 ghost use lib.Dec.{eqb};
 ghost use lib.Count.{trailingZeros};
-ghost use Rattle.bits.specs.Rows.{Filled, Zero, WithBit, joined, joined-low, copied, Differs, First};
+ghost use Rattle.bits.specs.Rows.{bit, Filled, Zero, WithBit, joined, joined-low, copied, Differs, First};
 ghost use Rattle.bits.specs.Edges.{Matrices, Spanned, Widened, Widen, Noted, Between, NoEdges, Added};
+
+pub fn get_bit(s: &[u64], a: usize) -> bool
+    requires { ⌜ a / 64 < length (now s) ⌝ }
+    ensures { λ b. ⌜ b ≡ bit (now (s .entry)) a ⌝ }
+{
+    (s[a / 64] >> (a % 64)) % 2 == 1
+}
 
 pub fn set_bit(s: &mut [u64], a: usize)
     requires { ⌜ a / 64 < length (now s) ⌝ }

@@ -68,8 +68,8 @@ module _ (i j : ℕ) (out : List ℕ) (at : ℕ) (out′ : List ℕ) (e : ℕ) w
     unfolding edge
     edge-none h k f = rw (← next, h, k) f
 
-pub edge-bit : (l : List ℕ) (n i j : ℕ) (out : List ℕ) (at : ℕ) (out′ : List ℕ) (e : ℕ) (b : Bool) → b ≡ bit l ((n * 16 + i * 16) * 64 + j)
-    → Appended out at (edge b i j) out′ e → Appended out at (edge (succs n 16 l i j) i j) out′ e
+pub edge-bit : (l : List ℕ) (n i j : ℕ) (out : List ℕ) (at : ℕ) (out′ : List ℕ) (e : ℕ) (b : Bool) → b ≡ bit l ((n * 17 + i * 17) * 64 + j)
+    → Appended out at (edge b i j) out′ e → Appended out at (edge (succs n 17 l i j) i j) out′ e
 unfolding succs
 edge-bit l n i j out at out′ e b q f = rw (← q) f
 

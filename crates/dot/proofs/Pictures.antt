@@ -108,12 +108,12 @@ unfolding flow-graph flow-refusal
 no-flow L n q = no-graph L n (blocks L) (gotos-lead L) q
 
 module _ (l t x N : List ℕ) (space ranks out out′ : List ℕ) (e : ℕ) (a : Flow) where
-  pub dot-drawn : (s : List ℕ) → Ready l t x space ranks → (refused a ≡ none → Graph (listing l t x) (length l) 16 space s) → a ≡ Drawn
-      → Appended out 0 (picture l t x N (succs (length l) 16 s)) out′ e → Appended out 0 (dot-text (listing l t x) N) out′ e
+  pub dot-drawn : (s : List ℕ) → Ready l t x space ranks → (refused a ≡ none → Graph (listing l t x) (length l) 17 space s) → a ≡ Drawn
+      → Appended out 0 (picture l t x N (succs (length l) 17 s)) out′ e → Appended out 0 (dot-text (listing l t x) N) out′ e
   unfolding dot-text drawn picture Agree
   dot-drawn s ready drawn h f =
       let g = drawn (rw h) in
-      let step = edges-same (succs (length l) 16 s) (steps (g .graph)) (length l) (λ i j a b. g .agree i j a b ∙ g .edge i j a b) in
+      let step = edges-same (succs (length l) 17 s) (steps (g .graph)) (length l) (λ i j a b. g .agree .both i j a b ∙ g .edge i j a b) in
       rw (g .flow, nodes-same l t x N (ready .cover), length-listing l t x, ← step) f
 
   dot-none : (n : ℕ) → refused a ≡ flow-refusal (listing l t x) → refused a ≡ some n → Appended out 0 [] out′ e → Appended out 0 (dot-text (listing l t x) N) out′ e

@@ -25,7 +25,7 @@ pub record Ready (l t x space ranks : List ℕ) : Type 0 where
   pub short : length t ≤ 16384
   pub bytes : length x ≤ 262144
   pub cover : covers 512 0 l (length t) ≡ true
-  pub wide : 32768 ≤ length space
+  pub wide : 34816 ≤ length space
   pub room : length t ≤ length ranks
 
 pub record Ranked (T : List Token) (N : List ℕ) (m : ℕ) (ranks : List ℕ) : Type 0 where

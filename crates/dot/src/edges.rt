@@ -1,4 +1,4 @@
-// The edges of the flow graph, from the successors of crate bits: rows of 16 words, for at most 1,024 lines. The time is the square of the lines.
+// The edges of the flow graph, from the successors of crate bits: rows of 17 words, for at most 1,024 lines. The time is the square of the lines.
 //
 // Contracts: `Appended` of Rattle.json_append.specs.Appended, of the texts of specs/Dot.antt.
 use crate::labels::wide;
@@ -65,13 +65,13 @@ fn put_edge(out: &mut [u8], at: usize, drawn: bool, i: usize, j: usize) -> usize
 
 // The edges from line i of n.
 fn put_from(out: &mut [u8], at: usize, space: &[u64], n: usize, i: usize) -> usize
-    requires { ⌜ (i < n) × (n ≤ 1024) × (32768 ≤ length (now space)) ⌝ }
-    ensures { λ e. ⌜ Appended (now (out .entry)) at (rows (λ j. edge (succs n 16 (now (space .entry)) i j) i j) 0 n) (now (out .exit)) e ⌝ }
+    requires { ⌜ (i < n) × (n ≤ 1024) × (34816 ≤ length (now space)) ⌝ }
+    ensures { λ e. ⌜ Appended (now (out .entry)) at (rows (λ j. edge (succs n 17 (now (space .entry)) i j) i j) 0 n) (now (out .exit)) e ⌝ }
 {
     let mut to = at;
     let mut j = 0;
     while j < n {
-        let drawn = bits::get_bit(space, (n * 16 + i * 16) * 64 + j);
+        let drawn = bits::get_bit(space, (n * 17 + i * 17) * 64 + j);
         to = put_edge(out, to, drawn, i, j);
         j += 1;
     }
@@ -80,8 +80,8 @@ fn put_from(out: &mut [u8], at: usize, space: &[u64], n: usize, i: usize) -> usi
 
 // The edges of n lines.
 pub fn put_edges(out: &mut [u8], at: usize, space: &[u64], n: usize) -> usize
-    requires { ⌜ (n ≤ 1024) × (32768 ≤ length (now space)) ⌝ }
-    ensures { λ e. ⌜ Appended (now (out .entry)) at (edges (succs n 16 (now (space .entry))) n) (now (out .exit)) e ⌝ }
+    requires { ⌜ (n ≤ 1024) × (34816 ≤ length (now space)) ⌝ }
+    ensures { λ e. ⌜ Appended (now (out .entry)) at (edges (succs n 17 (now (space .entry))) n) (now (out .exit)) e ⌝ }
 {
     let mut to = at;
     let mut i = 0;

@@ -32,8 +32,8 @@ ghost use Rattle.dot.specs.Held.{Ready, nodes-at, picture};
 
 // The edges, and the end.
 fn put_end(out: &mut [u8], at: usize, space: &[u64], n: usize) -> usize
-    requires { ⌜ (n ≤ 1024) × (32768 ≤ length (now space)) ⌝ }
-    ensures { λ e. ⌜ Appended (now (out .entry)) at (edges (succs n 16 (now (space .entry))) n ++ ascii "}\n") (now (out .exit)) e ⌝ }
+    requires { ⌜ (n ≤ 1024) × (34816 ≤ length (now space)) ⌝ }
+    ensures { λ e. ⌜ Appended (now (out .entry)) at (edges (succs n 17 (now (space .entry))) n ++ ascii "}\n") (now (out .exit)) e ⌝ }
 {
     let a = put_edges(out, at, space, n);
     put(out, a, b"}\n")
@@ -69,7 +69,7 @@ fn put_picture(
 ) -> usize
     requires { ⌜ Ready (now lines) (now tokens) (now text) (now space) (now ranks) ⌝ }
     ensures { λ e. ⌜ Appended (now (out .entry)) 0
-        (picture (now (lines .entry)) (now (tokens .entry)) (now (text .entry)) (now (numbers .entry)) (succs (length (now (lines .entry))) 16 (now (space .entry)))) (now (out .exit)) e ⌝ }
+        (picture (now (lines .entry)) (now (tokens .entry)) (now (text .entry)) (now (numbers .entry)) (succs (length (now (lines .entry))) 17 (now (space .entry)))) (now (out .exit)) e ⌝ }
 {
     let a = put(
         out,
@@ -95,7 +95,7 @@ pub fn put_dot(
     ensures { λ e. ⌜ Appended (now (out .entry)) 0
         (dot-text (listing (now (lines .entry)) (now (tokens .entry)) (now (text .entry))) (now (numbers .entry))) (now (out .exit)) e ⌝ }
 {
-    match flow::graph::flow_graph(lines, tokens, text, space, 16) {
+    match flow::graph::flow_graph(lines, tokens, text, space, 17) {
         Flow::Drawn => put_picture(out, lines, tokens, text, numbers, space, ranks),
         Flow::UnmatchedBrace => put(out, 0, b""),
         Flow::UnknownLabel => put(out, 0, b""),

@@ -118,7 +118,7 @@ module _ (l t x numbers marks ns ms out : List ℕ) (zero-numbers : ns ≡ token
 -- Pictures
 
 module _ (l t x numbers : List ℕ) where
-  pub picture-ready : (space ranks : List ℕ) → Passing l t x → 32768 ≤ length space → 16384 ≡ length ranks → Ready l t x space ranks
+  pub picture-ready : (space ranks : List ℕ) → Passing l t x → 34816 ≤ length space → 16384 ≡ length ranks → Ready l t x space ranks
   picture-ready space ranks passing wide long =
       let few = both (leb (length l) 1024 && leb (length t) 16384) (leb (length x) 262144) (passing .small) in
       let some = both (leb (length l) 1024) (leb (length t) 16384) (few .0) in

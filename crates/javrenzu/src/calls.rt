@@ -78,7 +78,7 @@ fn picture(
     space: &mut [u64],
 ) -> Said
     requires { ⌜ 4194304 ≤ length (now out) ⌝ }
-    requires { ⌜ Passing (now lines) (now tokens) (now text) × (32768 ≤ length (now space)) ⌝ }
+    requires { ⌜ Passing (now lines) (now tokens) (now text) × (34816 ≤ length (now space)) ⌝ }
     ensures { λ r. ⌜ told r (now (out .exit)) ≡ within (dot-text (listing (now (lines .entry)) (now (tokens .entry)) (now (text .entry))) (now (numbers .entry))) ⌝ }
 {
     let mut ranks = room::tokens();

@@ -13,7 +13,7 @@ use Rattle.dot.proofs.edges.put_edges.Statement.{statement}
 use Rattle.dot.proofs.edges.put_edges.Tie as tie
 
 abbrev Inv-loop : tie.InvT-loop
-Inv-loop out₀ at space n to₀ i₀ out to i = Going (λ k. rows (λ j. edge (succs n 16 space k j) k j) 0 n) 0 n out₀ at out to i
+Inv-loop out₀ at space n to₀ i₀ out to i = Going (λ k. rows (λ j. edge (succs n 17 space k j) k j) 0 n) 0 n out₀ at out to i
 
 abbrev μ-loop : tie.MeasureT-loop
 μ-loop out₀ at space n to₀ i₀ out to i = n - i

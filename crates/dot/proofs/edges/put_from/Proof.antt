@@ -12,7 +12,7 @@ use Rattle.dot.proofs.edges.put_from.Statement.{statement}
 use Rattle.dot.proofs.edges.put_from.Tie as tie
 
 abbrev Inv-loop : tie.InvT-loop
-Inv-loop out₀ at space n i to₀ j₀ out to j = Going (λ k. edge (succs n 16 space i k) i k) 0 n out₀ at out to j
+Inv-loop out₀ at space n i to₀ j₀ out to j = Going (λ k. edge (succs n 17 space i k) i k) 0 n out₀ at out to j
 
 abbrev μ-loop : tie.MeasureT-loop
 μ-loop out₀ at space n i to₀ j₀ out to j = n - j
