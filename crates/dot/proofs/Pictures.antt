@@ -22,7 +22,7 @@ use Rattle.definitions.specs.FlowGraph.{successors, gotos-lead, flow-graph, ste
 use Rattle.model.specs.Places.{line-start}
 use Rattle.model.proofs.Decode.{length-listing, length-tokens, line-length}
 use Rattle.model.proofs.Formed.{line-order, line-within, tokens-before, all-tokens-listing}
-use Rattle.bits.specs.Edges.{succs, Agree}
+use Rattle.bits.specs.Edges.{succs}
 use Rattle.flow.specs.Graph.{Graph, flow-refusal, refused}
 use Rattle.flow.specs.declared.graph.Flow.{Flow}
 use Rattle.flow.specs.declared.graph.Flow.the-variants.{Drawn, UnmatchedBrace, UnknownLabel}
@@ -110,7 +110,7 @@ no-flow L n q = no-graph L n (blocks L) (gotos-lead L) q
 module _ (l t x N : List ℕ) (space ranks out out′ : List ℕ) (e : ℕ) (a : Flow) where
   pub dot-drawn : (s : List ℕ) → Ready l t x space ranks → (refused a ≡ none → Graph (listing l t x) (length l) 17 space s) → a ≡ Drawn
       → Appended out 0 (picture l t x N (succs (length l) 17 s)) out′ e → Appended out 0 (dot-text (listing l t x) N) out′ e
-  unfolding dot-text drawn picture Agree
+  unfolding dot-text drawn picture
   dot-drawn s ready drawn h f =
       let g = drawn (rw h) in
       let step = edges-same (succs (length l) 17 s) (steps (g .graph)) (length l) (λ i j a b. g .agree .both i j a b ∙ g .edge i j a b) in
