@@ -215,7 +215,9 @@ fn passes() {
             let copy = nanoseconds(|| _ = black_box(lines.to_vec()));
             let all = nanoseconds(|| _ = black_box(run(pass, &lines)));
             let times = |rust: f64| format!("{:.1}", rust / own);
-            row(name, &c, &[kilobytes(lent), microseconds(own), microseconds(all), times(all), microseconds(all - copy), times(all - copy)]);
+            // Where the pass changes nothing the difference is lost in the noise of the copy.
+            let (rest, rest_times) = if all - copy < all / 10.0 { ("-".into(), "-".into()) } else { (microseconds(all - copy), times(all - copy)) };
+            row(name, &c, &[kilobytes(lent), microseconds(own), microseconds(all), times(all), rest, rest_times]);
         }
         println!();
     }
