@@ -73,6 +73,11 @@ pub fn choose(lines: &[PseudoLine]) -> Choice {
     choice
 }
 
+/// The original's own choice, for its cost; sweeps are not counted.
+pub fn chosen(lines: &[PseudoLine]) -> Webs {
+    entries(lines, &Seg::new(lines, true), 0)
+}
+
 /// `Seg` of the split points by itself, for its cost; whether it is that.
 pub fn split_points(lines: &[PseudoLine]) -> bool {
     matches!(Seg::new(lines, false), Seg::Old(_))

@@ -5,7 +5,7 @@ use std::time::Instant;
 
 use javrenzu::{working_space, Destination, Listing};
 use oracle::columns::{encode, Columns};
-use oracle::generate::{creeping_back, listing, plausible, uncrossed, Kind};
+use oracle::generate::{colliding_families, colliding_labels, creeping_back, listing, plausible, uncrossed, Kind};
 use oracle::pseudo::PseudoLine;
 use oracle::passes::{run, Pass};
 use oracle::{answers, sweeps};
@@ -81,6 +81,8 @@ fn webs_listings() -> Vec<(&'static str, Vec<PseudoLine>)> {
         ("a value creeps back, 1 family", creeping_back(1)),
         ("values creep back, 100 families", creeping_back(100)),
         ("values creep back, 1,022 families", creeping_back(1_022)),
+        ("500 labels whose names collide, 2,500 gotos", colliding_labels()),
+        ("300 families whose names collide", colliding_families()),
     ]
 }
 
@@ -154,6 +156,8 @@ fn splits_listings() -> Vec<(&'static str, Vec<PseudoLine>)> {
         ("hundreds of gotos, most definitions crossed", listing(Kind::Full, 1, 4)),
         ("hundreds of gotos and of definitions, none crossed", uncrossed()),
         ("hundreds of families", listing(Kind::Full, 1, 2)),
+        ("500 labels whose names collide, 2,500 gotos", colliding_labels()),
+        ("300 families whose names collide", colliding_families()),
     ]
 }
 
@@ -169,6 +173,27 @@ fn splits() {
         let all = nanoseconds(|| _ = black_box(answers::splits(&lines)));
         let times = |rust: f64| format!("{:.1}", rust / own);
         row(name, &c, &[kilobytes(5 * c.tokens.len()), microseconds(own), microseconds(all), times(all), microseconds(alone), times(alone)]);
+    }
+}
+
+/// The chooser, where it chooses webs and where it chooses splits.
+fn chooser() {
+    println!("\n## The chooser\n\nThe library's call with its questions and per-token answers, beside the original's own choice with the key and the mark of every token. The library is lent its answers and its working space.\n");
+    println!("| listing | lines | tokens | bytes | chosen | lent, KB | library, µs | original, µs | times faster |");
+    println!("|---|---|---|---|---|---|---|---|---|");
+    let refused = |about| (1..).map(|seed| plausible(seed, about)).find(|l| l.len() <= 1_024 && !answers::recover(l)).expect("some listing is refused");
+    for lines in [10, 180, 850].into_iter().flat_map(|about| [accepted(about), refused(about)]) {
+        let c = encode(&lines);
+        let (mut numbers, mut marks) = outputs(&c);
+        let mut space = vec![0; working_space(c.lines.len())];
+        let choice = match javrenzu::choose(listing_of(&c), &mut numbers, &mut marks, &mut space) {
+            Ok(javrenzu::Chosen::Webs(_)) => "webs",
+            Ok(javrenzu::Chosen::Splits) => "splits",
+            Err(_) => panic!("refused"),
+        };
+        let own = nanoseconds(|| _ = black_box(javrenzu::choose(listing_of(&c), &mut numbers, &mut marks, &mut space)));
+        let rust = nanoseconds(|| _ = black_box(answers::chosen(&lines)));
+        row("plausible", &c, &[choice.into(), kilobytes(5 * c.tokens.len() + 8 * space.len()), microseconds(own), microseconds(rust), format!("{:.1}", rust / own)]);
     }
 }
 
@@ -229,5 +254,6 @@ fn main() {
     webs();
     growth();
     splits();
+    chooser();
     passes();
 }

@@ -36,12 +36,11 @@ pub fn expr_names(
         ⌜ (let l = line (listing (now (lines .entry)) (now (tokens .entry)) (now (text .entry))) i in
         y ≡ names-family (family-of (now (s .entry)) r) (expr-token l k)) ⌝ }
 {
-    family::names(
-        model::columns::kind(lines, tokens, text, i, k),
-        expr_text(lines, tokens, text, i, k),
-        s,
-        r,
-    )
+    let kind = model::columns::kind(lines, tokens, text, i, k);
+    if kind != 1 {
+        return false;
+    }
+    family::names(kind, expr_text(lines, tokens, text, i, k), s, r)
 }
 
 // A token of the right side of line i, from place a up to place e, names it.
@@ -80,12 +79,15 @@ fn may_define(s: &[u8], r: Register) -> bool
     }
 }
 
-// The family that line i defines.
+// The family that line i defines. Of a line that does not start with a register only the kind of its first token is read.
 pub fn defines(lines: &[u32], tokens: &[u32], text: &[u8], i: usize) -> Defined
     ensures { λ d.
         ⌜ (let l = line (listing (now (lines .entry)) (now (tokens .entry)) (now (text .entry))) i in
         defined l d ≡ defines l) ⌝ }
 {
+    if model::columns::kind(lines, tokens, text, i, 0) != 1 {
+        return Defined::Nothing;
+    }
     let Assigned::Side { from, to } = assignment(lines, tokens, text, i) else {
         return Defined::Nothing;
     };

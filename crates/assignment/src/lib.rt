@@ -5,7 +5,7 @@
 ghost use mathlib.Core.Path.{_≡_};
 ghost use Rattle.definitions.specs.Model.{line};
 ghost use Rattle.definitions.specs.Columns.{listing};
-ghost use Rattle.definitions.specs.Statements.{assignment};
+ghost use Rattle.definitions.specs.Statements.{is-empty, assignment};
 ghost use Rattle.assignment.specs.Assignments.{front, back, expr-token, expr-from, expr-to, assigns, is-closed, assigned};
 use text::less;
 
@@ -42,10 +42,19 @@ pub fn expr_text<'a>(lines: &[u32], tokens: &[u32], text: &'a [u8], i: usize, k:
     text::part(s, front(k), less(s.len(), back(n, k)))
 }
 
+// Token k of the right side of line i is empty: only lengths are looked at.
+fn is_blank(lines: &[u32], tokens: &[u32], text: &[u8], i: usize, k: usize) -> bool
+    ensures { λ r. ⌜ r ≡ is-empty (expr-token (line (listing (now (lines .entry)) (now (tokens .entry)) (now (text .entry))) i) k) ⌝ }
+{
+    let n = model::columns::token_count(lines, tokens, text, i);
+    let s = model::columns::text_at(lines, tokens, text, i, k);
+    less(less(s.len(), back(n, k)), front(k)) == 0
+}
+
 fn expr_from(lines: &[u32], tokens: &[u32], text: &[u8], i: usize) -> usize
     ensures { λ r. ⌜ r ≡ expr-from (line (listing (now (lines .entry)) (now (tokens .entry)) (now (text .entry))) i) ⌝ }
 {
-    if text::equal(expr_text(lines, tokens, text, i, 1), b"") {
+    if is_blank(lines, tokens, text, i, 1) {
         2
     } else {
         1
@@ -57,7 +66,7 @@ fn expr_to(lines: &[u32], tokens: &[u32], text: &[u8], i: usize) -> usize
 {
     let n = model::columns::token_count(lines, tokens, text, i);
     let last = less(n, 1);
-    if text::equal(expr_text(lines, tokens, text, i, last), b"") {
+    if is_blank(lines, tokens, text, i, last) {
         last
     } else {
         n

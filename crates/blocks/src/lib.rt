@@ -98,7 +98,7 @@ pub fn blocks(
     let mut top = 0;
     let mut i = 0;
     while i < lines.len() {
-        let b = pseudo_opt::braces::line_braces(lines, tokens, text, i);
+        let b = braces::line_braces(lines, tokens, text, i);
         let closes = b.closes;
         let opens = b.opens;
         let Top::At(p) = close(ends, parents, counts, top, i, closes) else {

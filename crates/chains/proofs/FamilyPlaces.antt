@@ -20,10 +20,10 @@ use Rattle.definitions.specs.Family.{Family, fam-of, names}
 use Rattle.definitions.specs.Recover.{defined-families}
 use Rattle.theory.proofs.Bools.{same-test}
 use Rattle.theory.proofs.ListLaws.{==-true, ==-self}
-use Rattle.recover.specs.Families.{place, place-of}
-use Rattle.recover.specs.Tokens.{family-name}
-use Rattle.recover.proofs.Finding.{unique-families, place-here}
-use Rattle.recover.proofs.Numbered.{place-cases}
+use Rattle.families.specs.Families.{place, place-of}
+use Rattle.families.specs.Tokens.{family-name}
+use Rattle.families.proofs.Finding.{unique-families, place-here}
+use Rattle.families.proofs.Numbered.{place-cases}
 
 pub place-is : (L : List Line) (k : ℕ) → k < length (defined-families L) → (g : List ℕ) → eqb (place (defined-families L) g) (k + 1) ≡ (g == family-name L k)
 place-is L k h g = same-test _ _ there (λ e. eq-eqb _ _ (place-here (defined-families L) g k (unique-families L) h (sym (==-true g (family-name L k) e)) ∙ sym (add-one k)))

@@ -1,9 +1,5 @@
 -- Rules for `tokens`.
---   register-by                           `register_of`
---   register-answer, family-some, family-none    `token_family`
---   other-some, other-none                `other_word`
---   link-by, token-other, token-linked, family-room    `link` and `chain_register`
---   kind-is, kind-other, token-plain      `is_register` and `chain_token`
+--   link-by, token-other, token-linked, family-room    `link` and `chain_token`
 --   line-from, line-on, line-to           the loop of `chain_line`
 --   heads-start, heads-next, heads-end    the loop of `no_heads`
 --   chained-start, chained-next           the loop of `chain_tokens`
@@ -11,78 +7,44 @@
 use Prim.Native.Nat.{ℕ, zero, suc, _+_, _-_, _<_, _≤_}
 use mathlib.Core.Path.{_≡_, refl, sym, ap, _∙_}
 use mathlib.Core.Logic.{_⊎_, inl, inr}
-use mathlib.Core.Bool.{Bool, true, false, cond}
-use mathlib.Core.List.{List, []}
+use mathlib.Core.Bool.{Bool, cond}
+use mathlib.Core.List.{List}
 use mathlib.Core.Option.{Option, none, some}
 use native.Mathlib.Omega.{arith}
 use lib.Dec.{eqb}
 use borrow.Author.Tests.{eq-eqb, ne-eqb}
-use lib.ListN.{length, getD, set, take, length-set}
-use lib.Seq.{take-all, getD-set-same, getD-set-other}
-use Rattle.definitions.specs.Lists.{is-some}
-use Rattle.definitions.specs.Model.{Token, Line, tok, no-token}
-use Rattle.definitions.specs.Family.{Family, family, fam-of, names}
+use lib.ListN.{length, getD, set, length-set}
+use lib.Seq.{getD-set-same, getD-set-other}
+use Rattle.definitions.specs.Model.{Token, Line, no-token}
+use Rattle.definitions.specs.Family.{Family, fam-of, names}
 use Rattle.definitions.specs.Columns.{token-list, listing}
 use Rattle.definitions.specs.Recover.{defined-families}
 use Rattle.definitions.specs.Answers.{no-family}
-use Rattle.theory.proofs.Bools.{clash, lt-or-ge}
+use Rattle.theory.proofs.Bools.{lt-or-ge}
 use Rattle.model.specs.Places.{start-from, line-start, line-end}
 use Rattle.model.proofs.Decode.{length-tokens, line-length}
 use Rattle.model.proofs.Formed.{line-within}
-use Rattle.family.specs.declared.Register.{Register}
-use Rattle.family.specs.declared.Register.the-variants.{Nothing}
-use Rattle.family.specs.Register.{family-of}
-use Rattle.recover.specs.Families.{place, place-of}
-use Rattle.recover.specs.Tokens.{family-name, Finds}
-use Rattle.recover.proofs.Numbered.{place-cases}
+use Rattle.families.specs.Families.{place, place-of}
+use Rattle.families.specs.Tokens.{family-name, Finds}
+use Rattle.families.proofs.Numbered.{place-cases}
+use Rattle.memo.specs.Found.{found}
 use Rattle.chains.specs.Chains.{next-place, place-line, chain-word, waiting, token-word, other-word, Bounds, Chained, Linked, Heads}
 use Rattle.chains.proofs.NextPlace.{next-yes, next-no, next-end}
 use Rattle.chains.proofs.Places.{line-next, last-start, place-line-is}
 use Rattle.chains.proofs.FamilyPlaces.{place-most, names-place}
 
--- `register_of`, `token_family` and `other_word`
+-- What was found
 
-pub register-by : (u : Token) (k : ℕ) (s : List ℕ) (r : Register) → k ≡ u .kind → s ≡ u .text → family-of s r ≡ fam-of (tok s k) → family-of (u .text) r ≡ fam-of u
-register-by u k s r p q e = rw (p, q) at e
+module _ (fs : List (List ℕ)) (f : ℕ) where
+  found-low : (o : Option Family) → f ≡ found fs o → f < 2 → place-of fs o ≡ 0
+  found-low none e h = refl
+  found-low (some x) e h = omega (arith, e)
 
-pub register-answer : (u : Token) (s : List ℕ) (r : Register) (y : Bool) → s ≡ u .text → family-of (u .text) r ≡ fam-of u → ((s : List ℕ) → y ≡ is-some (family-of s r)) → y ≡ true
-    → family-of s r ≡ family s
-unfolding fam-of
-register-answer u s r y q o a b = rw q (go (eqb (u .kind) 1) o)
-  where
-    go : (c : Bool) → family-of (u .text) r ≡ cond c (family (u .text)) none → family-of (u .text) r ≡ family (u .text)
-    go true e = e
-    go false e = clash (sym (a (u .text)) ∙ b) (ap is-some e)
+  found-more : (o : Option Family) → f ≡ found fs o → 2 ≤ f → (f - 1) ≡ place-of fs o
+  found-more none e h = absurd (omega (arith, e))
+  found-more (some x) e h = omega (arith, e)
 
-module _ (L : List Line) (count : ℕ) (t : List ℕ) (F : Finds L count t) (u : Token) (r : Register) (o : family-of (u .text) r ≡ fam-of u) where
-  pub family-some : (s : List ℕ) (c : ℕ) → s ≡ u .text → c ≡ place-of (take count (defined-families L)) (family-of s r) → c ≡ place-of (defined-families L) (fam-of u)
-  family-some s c q e = e ∙ ap (λ (fs : List (List ℕ)). place-of fs (family-of s r)) (take-all count (defined-families L) (omega (arith, F .all))) ∙ ap (place-of (defined-families L)) (ap (λ (s : List ℕ). family-of s r) q ∙ o)
-
-pub family-none : (L : List Line) (u : Token) (r : Register) → family-of (u .text) r ≡ fam-of u → (y : Bool) → ((s : List ℕ) → y ≡ is-some (family-of s r)) → y ≡ false → 0 ≡ place-of (defined-families L) (fam-of u)
-family-none L u r o y a b = go (fam-of u) (ap is-some (sym o) ∙ sym (a (u .text)) ∙ b)
-  where
-    go : (o : Option Family) → is-some o ≡ false → 0 ≡ place-of (defined-families L) o
-    go none n = refl
-    go (some x) n = clash refl n
-
-module _ (r : Register) (y : Bool) (a : (s : List ℕ) → y ≡ is-some (family-of s r)) where
-  pub other-some : y ≡ true → (s : List ℕ) → 0 ≡ other-word (family-of s r)
-  unfolding other-word
-  other-some b s = go (family-of s r) (sym (a s) ∙ b)
-    where
-      go : (o : Option Family) → is-some o ≡ true → 0 ≡ other-word o
-      go none n = clash n refl
-      go (some x) n = refl
-
-  pub other-none : y ≡ false → (s : List ℕ) → 4294967295 ≡ other-word (family-of s r)
-  unfolding other-word
-  other-none b s = go (family-of s r) (sym (a s) ∙ b)
-    where
-      go : (o : Option Family) → is-some o ≡ false → 4294967295 ≡ other-word o
-      go none n = refl
-      go (some x) n = clash refl n
-
--- `link` and `chain_register`
+-- `link` and `chain_token`
 
 pub link-by : (i p c v w : ℕ) (ns first : List ℕ) → v ≡ chain-word i (getD first (c - 1) 0) → w ≡ p → Linked i p c ns (set ns p v) first (set first (c - 1) w)
 link-by i p c v w ns first e q = record { words = ap (set ns p) e; heads = ap (set first (c - 1)) q }
@@ -107,8 +69,8 @@ module _ (l t x table : List ℕ) (count p : ℕ) (ns first : List ℕ) (F : Fin
   named : (k : ℕ) → k < count → names (family-name L k) u ≡ eqb c (k + 1)
   named k b = sym (names-place L k (omega (arith, F .all)) u) ∙ ap (λ (m : ℕ). eqb m (k + 1)) (sym e)
 
-  pub family-room : c ≤ length first
-  family-room = omega (arith, C .room, F .all, e, most (fam-of u))
+  room : c ≤ length first
+  room = omega (arith, C .room, F .all, e, most (fam-of u))
     where
       most : (o : Option Family) → place-of fs o ≤ length fs
       most none = omega arith
@@ -121,22 +83,13 @@ module _ (l t x table : List ℕ) (count p : ℕ) (ns first : List ℕ) (F : Fin
     | inr g ↦ (let z : q ≡ p = omega arith in rw z (getD-set-same ns p v 0 (omega (arith, C .size)) ∙ w))
   ]
 
-  module _ (z : c ≡ 0) (r : Register) (o : family-of (u .text) r ≡ fam-of u) (v : ℕ) (w : (s : List ℕ) → v ≡ other-word (family-of s r)) where
-    word-other : v ≡ token-word l ts fs p
-    unfolding token-word waiting other-word
-    word-other = go (fam-of u) (w (u .text) ∙ ap other-word o) (sym e ∙ z)
-      where
-        go : (o : Option Family) → v ≡ other-word o → place-of fs o ≡ 0 → v ≡ (elim o [ none ↦ no-family | some y ↦ waiting l ts fs (y .name) p ])
-        go none q n = q
-        go (some y) q n = q ∙ sym (rw n)
-
-    pub token-other : Chained l t x count p (set ns p v) first
-    token-other = record {
-      size = simp length-set (C .size);
-      room = C .room;
-      words = more-words v word-other;
-      heads = λ k b. C .heads k b ∙ sym (next-no (family-name L k) ts p inside (named k b ∙ ne-eqb c (k + 1) (λ q. omega arith)));
-    }
+  kept-out : c ≡ 0 → (v : ℕ) → v ≡ token-word l ts fs p → Chained l t x count p (set ns p v) first
+  kept-out z v w = record {
+    size = simp length-set (C .size);
+    room = C .room;
+    words = more-words v w;
+    heads = λ k b. C .heads k b ∙ sym (next-no (family-name L k) ts p inside (named k b ∙ ne-eqb c (k + 1) (λ q. omega arith)));
+  }
 
   module _ (n : c ≡ 0 → ⊥) (i : ℕ) (at : place-line l p ≡ i) (ns′ first′ : List ℕ) (K : Linked i p c ns ns′ first first′) where
     word-linked : chain-word i (getD first (c - 1) 0) ≡ token-word l ts fs p
@@ -152,8 +105,8 @@ module _ (l t x table : List ℕ) (count p : ℕ) (ns first : List ℕ) (F : Fin
               (ap (chain-word i) (C .heads (g .0) (omega (arith, g .2, F .all)) ∙ ap (λ (f : List ℕ). next-place f ts (p + 1)) (g .3))))
         ]
 
-    pub token-linked : Chained l t x count p ns′ first′
-    token-linked = record {
+    put-first : Chained l t x count p ns′ first′
+    put-first = record {
       size = rw (K .words) (simp length-set (C .size));
       room = rw (K .heads) (simp length-set (C .room));
       words = λ q a b. rw (K .words) (more-words (chain-word i (getD first (c - 1) 0)) word-linked q a b);
@@ -169,29 +122,36 @@ module _ (l t x table : List ℕ) (count p : ℕ) (ns first : List ℕ) (F : Fin
         head k b (inr g) (inr d) =
             let z : k ≡ c - 1 = omega arith in
             ap (getD (set first (c - 1) p) k) refl
-            ∙ rw z (getD-set-same first (c - 1) p 0 (omega (arith, family-room)))
+            ∙ rw z (getD-set-same first (c - 1) p 0 (omega (arith, room)))
             ∙ sym (next-yes (family-name L k) ts p inside (named k b ∙ eq-eqb c (k + 1) (nonzero c n z)))
           where
             nonzero : (c : ℕ) → (c ≡ 0 → ⊥) → k ≡ c - 1 → c ≡ k + 1
             nonzero zero m z = absurd (m refl)
             nonzero (suc c) m z = omega arith
 
--- `chain_token`
+module _ (l t x table : List ℕ) (count p : ℕ) (ns first : List ℕ) (F : Finds (listing l t x) count table) (h : p < length t) (C : Chained l t x count (p + 1) ns first)
+    (f : ℕ) (e : f ≡ found (defined-families (listing l t x)) (fam-of (getD (token-list t x) p no-token))) where
+  abbrev families : List (List ℕ)
+  families = defined-families (listing l t x)
 
-pub kind-is : (kind k : ℕ) (y : Bool) → kind ≡ k → y ≡ eqb k 1 → y ≡ eqb kind 1
-kind-is kind k y e q = rw e q
+  abbrev token : Token
+  token = getD (token-list t x) p no-token
 
-pub kind-other : (kind : ℕ) → (kind ≡ 1 → ⊥) → false ≡ eqb kind 1
-kind-other kind h = sym (ne-eqb kind 1 h)
+  pub token-other : f < 2 → (v : ℕ) → v ≡ other-word f → Chained l t x count p (set ns p v) first
+  unfolding token-word waiting
+  token-other lt v w = kept-out l t x table count p ns first F h C 0 (sym (found-low families f (fam-of token) e lt)) refl v (go (fam-of token) e)
+    where
+      go : (o : Option Family) → f ≡ found families o → v ≡ (elim o [ none ↦ no-family | some y ↦ waiting l (token-list t x) families (y .name) p ])
+      go none q = w ∙ ap (λ (m : ℕ). other-word m) q
+      go (some y) q = w ∙ ap (λ (b : Bool). cond b no-family 0) (ne-eqb f 0 (λ z. omega (arith, q))) ∙ sym (rw (found-low families f (some y) q lt))
 
-pub token-plain : (l t x table : List ℕ) (count p : ℕ) (ns first : List ℕ) → Finds (listing l t x) count table → p < length t → Chained l t x count (p + 1) ns first
-    → (k : ℕ) (y : Bool) → k ≡ getD (token-list t x) p no-token .kind → y ≡ eqb k 1 → y ≡ false → Chained l t x count p (set ns p 4294967295) first
-unfolding fam-of other-word
-token-plain l t x table count p ns first F h C k y q a b =
-    token-other l t x table count p ns first F h C 0 (ap (place-of (defined-families (listing l t x))) (sym none-is)) refl Nothing (sym none-is) 4294967295 (λ s. refl)
-  where
-    none-is : fam-of (getD (token-list t x) p no-token) ≡ none
-    none-is = rw (← q, ← a, b)
+  module _ (n : 2 ≤ f) where
+    pub family-room : f - 1 ≤ length first
+    family-room = room l t x table count p ns first F h C (f - 1) (found-more families f (fam-of token) e n)
+
+    pub token-linked : (i : ℕ) → place-line l p ≡ i → (ns′ first′ : List ℕ) → Linked i p (f - 1) ns ns′ first first′ → Chained l t x count p ns′ first′
+    token-linked i at ns′ first′ K =
+        put-first l t x table count p ns first F h C (f - 1) (found-more families f (fam-of token) e n) (λ z. omega arith) i at ns′ first′ K
 
 -- `chain_line`
 
@@ -252,4 +212,4 @@ module _ (l t x : List ℕ) (count : ℕ) (B : Bounds l t) (ns first : List ℕ)
   unfolding start-from
   chained-end i h C = let z : i ≡ 0 = omega arith in rw z at C
 
-pub ruleset token-rules = (link-by, line-from, line-on, line-to, line-rises, chained-below, heads-start, heads-next, heads-end, chained-start, chained-next, chained-end, register-by, register-answer, family-some, family-none, other-some, other-none, family-room, token-other, token-linked, kind-is, kind-other, token-plain)
+pub ruleset token-rules = (link-by, line-from, line-on, line-to, line-rises, chained-below, heads-start, heads-next, heads-end, chained-start, chained-next, chained-end, family-room, token-other, token-linked)

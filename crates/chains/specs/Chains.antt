@@ -6,7 +6,7 @@
 --   chain-word i n            the word of a token on line i whose family's next token stands at place n
 --   waiting l ts fs f p       what stands at place p for a token of the family f: 0 where f has no definition
 --   token-word l ts fs p      the same, by the token there: 4,294,967,295 where it has no family
---   other-word o              the word of a token of the family o that is in no chain
+--   other-word f              the word of a token that is in no chain, where f is `found` of its family
 --   Bounds l t                the lines cover the tokens, and both are few
 --   Chained l t x count a ns first    the words ns from place a on stand, and `first` has the first place from a on of each family
 --   Chain l t x k ns first    the same of family k alone
@@ -17,18 +17,18 @@ use Prim.Native.Nat.{ℕ, suc, _+_, _*_, _-_, _/_, _<_, _≤_}
 use mathlib.Core.Path.{_≡_}
 use mathlib.Core.Bool.{Bool, true}
 use mathlib.Core.List.{List, [], _∷_}
-use mathlib.Core.Option.{Option, none, some}
+use mathlib.Core.Option.{none, some}
 use lib.Dec.{eqb, ltb}
 use lib.ListN.{length, getD, set, drop}
 use Rattle.definitions.specs.Lists.{if_then_else_}
 use Rattle.definitions.specs.Model.{Token, no-token}
-use Rattle.definitions.specs.Family.{Family, fam-of, names}
+use Rattle.definitions.specs.Family.{fam-of, names}
 use Rattle.definitions.specs.Columns.{token-list, listing}
 use Rattle.definitions.specs.Questions.{covers}
 use Rattle.definitions.specs.Recover.{defined-families}
 use Rattle.definitions.specs.Answers.{no-family}
-use Rattle.recover.specs.Families.{place}
-use Rattle.recover.specs.Tokens.{family-name}
+use Rattle.families.specs.Families.{place}
+use Rattle.families.specs.Tokens.{family-name}
 
 unfoldable pub gap : {A : Type 0} → (A → Bool) → List A → ℕ
 gap p [] = 0
@@ -50,9 +50,8 @@ waiting l ts fs f p = if eqb (place fs f) 0 then 0 else chain-word (place-line l
 unfoldable pub token-word : List ℕ → List Token → List (List ℕ) → ℕ → ℕ
 token-word l ts fs p = elim (fam-of (getD ts p no-token)) [ none ↦ no-family | some x ↦ waiting l ts fs (x .name) p ]
 
-unfoldable pub other-word : Option Family → ℕ
-other-word none = no-family
-other-word (some x) = 0
+abbrev pub other-word : ℕ → ℕ
+other-word f = if eqb f 0 then no-family else 0
 
 pub record Bounds (l t : List ℕ) : Type 0 where
   pub ok : covers 512 0 l (length t) ≡ true

@@ -4,11 +4,11 @@
 ghost use mathlib.Core.Path.{_≡_};
 ghost use Prim.Native.Nat.{_≤_};
 ghost use Rattle.definitions.specs.Calls.{choose-call};
-ghost use Rattle.model.specs.Refusals.{at-most};
+ghost use Rattle.questions.specs.Refusals.{at-most};
 ghost use Rattle.pseudo_ssa.specs.Answers.{lent};
 ghost use Rattle.choose.specs.Choices.{called, choose-call-of};
-use model::questions::Limits;
 use pseudo_ssa::Webs;
+use questions::Limits;
 
 // Webs, with the total of sweeps, or splits, or refused, with the number of the question.
 pub enum Choice {

@@ -3,12 +3,11 @@
 --   crosses-between         a goto crosses the lines behind the first of its lines up to and with the second
 --   joined, marked-join     `join` and `mark`: the first of the two lines joined with the second
 --   label-inside            a goto leads to a line of the listing
---   token-none, token-some  `mark_token`
---   tokens-start, tokens-next, tokens-end     the loop of `mark_tokens`
---   line-none               a line without a goto
+--   token-none, token-some  `mark_goto`
+--   gotos-at                the gotos of a line from the one at place k on
+--   tokens-start, tokens-next, tokens-end     the loop of `mark_line`
 --   lines-start, lines-next, lines-end        the loop of `mark_lines`
 --   marked-empty, empty-kept     what was marked in an empty column
---   goto-start, goto-found, goto-next, goto-end     the loop of `has_goto`
 --   no-gotos                a listing without gotos
 -- Assumes nothing.
 use Prim.Native.Nat.{ℕ, zero, suc, _+_, _-_, _<_, _≤_, max, min}
@@ -18,30 +17,28 @@ use mathlib.Core.Bool.{Bool, true, false, cond, _&&_, _||_, or-false, or-assoc}
 use mathlib.Core.List.{List, [], _∷_, _++_, map, map-append}
 use mathlib.Core.Option.{Option, none, some}
 use native.Mathlib.Decide.{ℕ-discrete}
-use native.Mathlib.Nat.{sub-zero, zero-add}
+use native.Mathlib.Nat.{sub-zero}
 use native.Mathlib.Omega.{arith}
-use borrow.Author.Tests.{le-leb, lt-ltb, leb-true, ltb-true}
+use borrow.Author.Tests.{le-leb, lt-ltb, le-ltb, leb-true, ltb-true}
 use lib.Dec.{leb, ltb}
-use lib.ListN.{length, getD, set, drop}
+use lib.ListN.{length, getD, set, take, drop}
 use lib.Seq.{getD-set-same, getD-set-other}
-use Rattle.definitions.specs.Lists.{_>>=_, to-list, any, concat, range, up-to, last-position, _==_, ascii}
-use Rattle.definitions.specs.Model.{Line, line, token, no-token}
-use Rattle.definitions.specs.Columns.{listing}
-use Rattle.definitions.specs.Statements.{is-kw, has-kw, is-label, label, first-symbol, targets}
+use Rattle.definitions.specs.Lists.{_>>=_, to-list, any, concat, part, range, up-to, last-position, _==_, ascii}
+use Rattle.definitions.specs.Model.{Token, Line}
+use Rattle.definitions.specs.Columns.{token-list, listing}
+use Rattle.definitions.specs.Statements.{is-kw, is-label, label, first-symbol, targets}
 use Rattle.definitions.specs.FlowGraph.{label-line, jumps}
 use Rattle.definitions.specs.SplitPoints.{Jump, all-jumps, crosses}
-use Rattle.text.proofs.Parts.{drop-step}
-use Rattle.text.proofs.Loops.{any-found as loop-found, any-next as loop-next, any-end as loop-end}
-use Rattle.model.proofs.Decode.{length-listing}
-use Rattle.line_keywords.proofs.NoGotos.{no-jumps}
-use Rattle.theory.proofs.Bools.{clash, same-test, and-both, and-split, or-left, or-right, or-cases, not-so, lt-or-ge}
-use Rattle.theory.proofs.ListLaws.{any-found, any-here, member-range, range-member, getD-range, length-range}
-use Rattle.labels.specs.Gotos.{jump, goto-line}
+use Rattle.text.proofs.Parts.{part-tail}
+use Rattle.model.specs.Places.{line-start, line-end}
+use Rattle.model.proofs.Decode.{length-listing, length-tokens}
+use Rattle.theory.proofs.Bools.{same-test, and-both, and-split, or-left, or-right, or-cases, not-so, lt-or-ge}
+use Rattle.theory.proofs.ListLaws.{any-found, any-here, member-range, range-member}
+use Rattle.labels.specs.Gotos.{targets-at, goto-line}
 use Rattle.labels.specs.Buckets.{line-of}
 use Rattle.labels.specs.declared.Label.{Label}
 use Rattle.labels.specs.declared.Label.the-variants.{At, Missing}
-use Rattle.labels.proofs.Leads.{leads-from}
-use Rattle.flow.proofs.Edges.{jumps-from, jumps-start, jumps-end}
+use Rattle.labels.proofs.Leads.{line-tokens, leads-at}
 use Rattle.crossings.specs.Crossed.{goto, gotos, line-gotos, crossed, Marked, Marking}
 
 -- One goto
@@ -127,7 +124,7 @@ module _ (far₀ far : List ℕ) (i q : ℕ) where
         (ap (λ (x : ℕ). ltb x k && leb k b) p ∙ ap (λ (x : ℕ). ltb (min i q) k && leb k x) r ∙ sym (crosses-between i q k) ∙ sym (or-false (crosses k (goto i q))));
   }
 
--- One token
+-- One goto
 
 last-inside : {A : Type 0} (p : A → Bool) (xs : List A) (k : ℕ) → last-position p xs ≡ some k → k < length xs
 unfolding last-position
@@ -140,18 +137,14 @@ last-inside p (x ∷ xs) k e = go (last-position p xs) (last-inside p xs) (p x) 
     go none r true e = let z : 0 ≡ k = cc in omega arith
     go none r false e = let z : _≡_ {A = ℕ} 0 1 = cc in absurd (omega arith)
 
-pub label-inside : (l t x far : List ℕ) (i j q : ℕ) (f : Label) → line-of f ≡ jump (listing l t x) (line (listing l t x) i) j → f ≡ At q → length l ≤ length far → q < length far
+pub label-inside : (l t x : List ℕ) (us : List Token) (far : List ℕ) (k e q : ℕ) (f : Label) → line-of f ≡ goto-line (listing l t x) us k e → f ≡ At q → length l ≤ length far → q < length far
 unfolding label-line
-label-inside l t x far i j q f e z h =
-    omega (arith, length-listing l t x, go (is-kw (ascii "goto") (token m j)) (first-symbol (drop (j + 1) (m .tokens))) (sym e ∙ ap line-of z))
+label-inside l t x us far k e q f w z h =
+    omega (arith, length-listing l t x, go (first-symbol (part k e us)) (sym w ∙ ap line-of z))
   where
-    m : Line
-    m = line (listing l t x) i
-
-    go : (b : Bool) (o : Option (List ℕ)) → cond b (o >>= label-line (listing l t x)) none ≡ some q → q < length (listing l t x)
-    go true (some s) e = last-inside (λ l. is-label l && (label l == s)) (listing l t x) q e
-    go true none e = let z : _≡_ {A = ℕ} 0 1 = cc in absurd (omega arith)
-    go false o e = let z : _≡_ {A = ℕ} 0 1 = cc in absurd (omega arith)
+    go : (o : Option (List ℕ)) → (o >>= label-line (listing l t x)) ≡ some q → q < length (listing l t x)
+    go (some s) e = last-inside (λ l. is-label l && (label l == s)) (listing l t x) q e
+    go none e = let z : _≡_ {A = ℕ} 0 1 = cc in absurd (omega arith)
 
 module _ (i : ℕ) (f : Label) (o : Option ℕ) (e : line-of f ≡ o) where
   pub token-none : f ≡ Missing → (far : List ℕ) → Marked far far (gotos i (to-list o))
@@ -162,10 +155,6 @@ module _ (i : ℕ) (f : Label) (o : Option ℕ) (e : line-of f ≡ o) where
   token-some q far₀ far z m = rw (← e, z) m
 
 -- One list of gotos after the other
-
-or-none : (a b : Bool) → (a || b) ≡ false → (a ≡ false) × (b ≡ false)
-or-none true b e = clash refl e
-or-none false b e = (refl, e)
 
 any-append : {A : Type 0} (p : A → Bool) (xs ys : List A) → any p (xs ++ ys) ≡ (any p xs || any p ys)
 unfolding any
@@ -189,37 +178,29 @@ module _ (far₀ far : List ℕ) (js ks : List Jump) (M : Marking far₀ far js 
     at = λ k. sym (or-false (crossed far k)) ∙ ap (λ (l : List Jump). crossed far k || any (crosses k) l) (sym e) ∙ M .at k;
   }
 
--- The gotos of line i from token j on
+-- The gotos of line i from the one at place k on
 
-unfoldable pub gotos-from : List Line → ℕ → ℕ → List Jump
-gotos-from L i j = gotos i (jumps-from L (line L i .tokens) j)
+unfoldable pub gotos-at : List Line → ℕ → List Token → ℕ → ℕ → List Jump
+gotos-at L i us k e = gotos i (concat (map to-list (leads-at L us k e)))
 
-pub tokens-start : (L : List Line) (i : ℕ) (far : List ℕ) → Marking far far (line-gotos L i) (gotos-from L i 0)
-unfolding gotos-from line-gotos
-tokens-start L i far = marking-start far (line-gotos L i) (gotos-from L i 0) (ap (gotos i) (jumps-start L i))
+pub tokens-start : (l t x : List ℕ) (i s e k : ℕ) (far : List ℕ) → s ≡ line-start l i → e ≡ line-end l t i → targets-at (token-list t x) k e ≡ targets (part s e (token-list t x))
+    → Marking far far (line-gotos (listing l t x) i) (gotos-at (listing l t x) i (token-list t x) k e)
+unfolding gotos-at line-gotos leads-at jumps
+tokens-start l t x i s e k far p q z =
+    marking-start far (line-gotos (listing l t x) i) (gotos-at (listing l t x) i (token-list t x) k e) (rw (line-tokens l t x i, ← p, ← q, z))
 
-jumps-step : (L : List Line) (l : Line) (j : ℕ) → j < length (l .tokens) → jumps-from L (l .tokens) j ≡ to-list (jump L l j) ++ jumps-from L (l .tokens) (j + 1)
-unfolding jumps-from leads-from targets concat
-jumps-step L l j h = rw (drop-step no-token (l .tokens) j h) (go (is-kw (ascii "goto") (token l j)))
-  where
-    rest : List (Option (List ℕ))
-    rest = targets (drop (j + 1) (l .tokens))
+module _ (L : List Line) (i : ℕ) (us : List Token) (k e : ℕ) (far₀ far : List ℕ) (js : List Jump) (M : Marking far₀ far js (gotos-at L i us k e)) where
+  pub tokens-next : (next : List ℕ) (m : ℕ) → k < e → Marked far next (gotos i (to-list (goto-line L us (k + 1) e))) → targets-at us m e ≡ targets (part (k + 1) e us)
+      → Marking far₀ next js (gotos-at L i us m e)
+  unfolding gotos-at leads-at targets-at concat
+  tokens-next next m h N z =
+      marking-next far₀ far js (gotos-at L i us k e) M next (gotos i (to-list (goto-line L us (k + 1) e))) (gotos-at L i us m e)
+      (rw (lt-ltb k e h) (map-append (goto i) (to-list (goto-line L us (k + 1) e)) (concat (map to-list (map (λ t. t >>= label-line L) (targets (part (k + 1) e us)))))
+      ∙ ap (λ (ts : List (Option (List ℕ))). gotos i (to-list (goto-line L us (k + 1) e)) ++ gotos i (concat (map to-list (map (λ t. t >>= label-line L) ts)))) (sym z))) N
 
-    go : (t : Bool) → concat (map to-list (map (λ t. t >>= label-line L) (cond t (first-symbol (drop (j + 1) (l .tokens)) ∷ rest) rest)))
-        ≡ to-list (cond t (goto-line L l j) none) ++ concat (map to-list (map (λ t. t >>= label-line L) rest))
-    go true = refl
-    go false = refl
-
-module _ (L : List Line) (i j : ℕ) (far₀ far : List ℕ) (js : List Jump) (M : Marking far₀ far js (gotos-from L i j)) (n : ℕ) (e : n ≡ length (line L i .tokens)) where
-  pub tokens-next : (next : List ℕ) → j < n → Marked far next (gotos i (to-list (jump L (line L i) j))) → Marking far₀ next js (gotos-from L i (j + 1))
-  unfolding gotos-from
-  tokens-next next h N =
-      marking-next far₀ far js (gotos-from L i j) M next (gotos i (to-list (jump L (line L i) j))) (gotos-from L i (j + 1))
-      (ap (gotos i) (jumps-step L (line L i) j (omega arith)) ∙ map-append (goto i) (to-list (jump L (line L i) j)) (jumps-from L (line L i .tokens) (j + 1))) N
-
-  pub tokens-end : n ≤ j → Marked far₀ far js
-  unfolding gotos-from
-  tokens-end h = marking-end far₀ far js (gotos-from L i j) M (ap (gotos i) (jumps-end L (line L i) j (omega arith)))
+  pub tokens-end : e ≤ k → Marked far₀ far js
+  unfolding gotos-at leads-at targets-at concat
+  tokens-end h = marking-end far₀ far js (gotos-at L i us k e) M (rw (le-ltb k e h))
 
 -- The gotos of the lines from i on
 
@@ -260,49 +241,44 @@ module _ (far₀ : List ℕ) (z : (b : ℕ) → getD far₀ b 0 ≡ 0) where
   unfolding any
   empty-kept js e k = none-crossed k ∙ ap (any (crosses k)) (sym e)
 
--- Lines with a goto, from line i on
+-- A listing without gotos
 
-unfoldable pub goto-in : List Line → ℕ → ℕ → Bool
-goto-in L n i = any (λ i. has-kw (line L i) (ascii "goto")) (drop i (up-to n))
+-- where there are no targets, there are none in a part
+no-targets-rest : (t : Token) (ts : List Token) → targets (t ∷ ts) ≡ [] → (is-kw (ascii "goto") t ≡ false) × (targets ts ≡ [])
+unfolding targets
+no-targets-rest t ts e = go (is-kw (ascii "goto") t) refl e
+  where
+    go : (b : Bool) → is-kw (ascii "goto") t ≡ b → cond b (first-symbol ts ∷ targets ts) (targets ts) ≡ [] → (is-kw (ascii "goto") t ≡ false) × (targets ts ≡ [])
+    go true q w = let z : _≡_ {A = ℕ} 0 1 = cc in absurd (omega arith)
+    go false q w = (q, w)
 
-pub goto-start : (L : List Line) (n : ℕ) → any (λ i. has-kw (line L i) (ascii "goto")) (up-to n) ≡ goto-in L n 0
-unfolding goto-in
-goto-start L n = refl
+no-targets-drop : (k : ℕ) (ts : List Token) → targets ts ≡ [] → targets (drop k ts) ≡ []
+no-targets-drop zero ts e = e
+no-targets-drop (suc k) [] e = e
+no-targets-drop (suc k) (t ∷ ts) e = no-targets-drop k ts (no-targets-rest t ts e .1)
 
-module _ (L : List Line) (n i : ℕ) (r : Bool) (inv : r ≡ goto-in L n i) where
-  module _ (b : Bool) (q : b ≡ has-kw (line L i) (ascii "goto")) (h : i < n) where
-    here : b ≡ has-kw (line L (getD (up-to n) i 0)) (ascii "goto")
-    here = q ∙ ap (λ (k : ℕ). has-kw (line L k) (ascii "goto")) (sym (getD-range 0 n i 0 h ∙ zero-add i))
+no-targets-take : (k : ℕ) (ts : List Token) → targets ts ≡ [] → targets (take k ts) ≡ []
+unfolding targets
+no-targets-take zero ts e = refl
+no-targets-take (suc k) [] e = refl
+no-targets-take (suc k) (t ∷ ts) e = let h = no-targets-rest t ts e in rw (h .0) (no-targets-take k ts (h .1))
 
-    pub goto-found : b ≡ true → true ≡ r
-    unfolding goto-in
-    goto-found z = loop-found (λ i. has-kw (line L i) (ascii "goto")) (up-to n) i n (sym (length-range 0 n)) r inv 0 b h here z
+no-jumps : (l t x : List ℕ) → targets (token-list t x) ≡ [] → (i : ℕ) → jumps (listing l t x) i ≡ []
+unfolding jumps concat
+no-jumps l t x e i =
+    rw (line-tokens l t x i, no-targets-take (line-end l t i - line-start l i) (drop (line-start l i) (token-list t x)) (no-targets-drop (line-start l i) (token-list t x) e))
 
-    pub goto-next : b ≡ false → r ≡ goto-in L n (i + 1)
-    unfolding goto-in
-    goto-next z = loop-next (λ i. has-kw (line L i) (ascii "goto")) (up-to n) i n (sym (length-range 0 n)) r inv 0 b h here z
+pub no-gotos : (l t x : List ℕ) (k n : ℕ) → n ≡ length t → targets-at (token-list t x) k n ≡ targets (part 0 n (token-list t x)) → n ≤ k → all-jumps (listing l t x) ≡ []
+unfolding all-jumps targets-at concat
+no-gotos l t x k n p q h = nothing (up-to (length (listing l t x)))
+  where
+    none-at-all : targets (token-list t x) ≡ []
+    none-at-all =
+        let z : n ≡ length (token-list t x) = omega (arith, length-tokens t x) in
+        ap targets (sym (part-tail (token-list t x) 0)) ∙ (rw (le-ltb k n h, z) at (sym q))
 
-  pub goto-end : n ≤ i → false ≡ r
-  unfolding goto-in
-  goto-end h = loop-end (λ i. has-kw (line L i) (ascii "goto")) (up-to n) i n (sym (length-range 0 n)) r inv h
+    nothing : (is : List ℕ) → concat (map (λ i. map (goto i) (jumps (listing l t x) i)) is) ≡ []
+    nothing [] = refl
+    nothing (i ∷ is) = rw (no-jumps l t x none-at-all i) (nothing is)
 
--- Lines without gotos
-
-pub line-none : (L : List Line) (i : ℕ) (b : Bool) (far : List ℕ) → b ≡ has-kw (line L i) (ascii "goto") → b ≡ false → Marked far far (line-gotos L i)
-unfolding line-gotos any
-line-none L i b far e f = rw (no-jumps L i (sym e ∙ f)) (record { at = λ k. sym (or-false (crossed far k)) })
-
-no-jumps-from : (L : List Line) (a n : ℕ) → any (λ i. has-kw (line L i) (ascii "goto")) (range a n) ≡ false → concat (map (λ i. map (goto i) (jumps L i)) (range a n)) ≡ []
-unfolding range concat any
-no-jumps-from L a zero e = refl
-no-jumps-from L a (suc n) e =
-    let h = or-none (has-kw (line L a) (ascii "goto")) (any (λ i. has-kw (line L i) (ascii "goto")) (range (suc a) n)) e in
-    rw (no-jumps L a (h .0)) (no-jumps-from L (suc a) n (h .1))
-
-pub no-gotos : (l t x : List ℕ) (y : Bool) → y ≡ any (λ i. has-kw (line (listing l t x) i) (ascii "goto")) (up-to (length l)) → y ≡ false → all-jumps (listing l t x) ≡ []
-unfolding all-jumps
-no-gotos l t x y q e =
-    no-jumps-from (listing l t x) 0 (length (listing l t x))
-    (ap (λ (n : ℕ). any (λ i. has-kw (line (listing l t x) i) (ascii "goto")) (up-to n)) (length-listing l t x) ∙ sym q ∙ e)
-
-pub ruleset joins = (joined, marked-join, label-inside, token-none, token-some, tokens-start, tokens-next, tokens-end, line-none, lines-start, lines-next, lines-end, goto-start, goto-found, goto-next, goto-end)
+pub ruleset joins = (joined, marked-join, label-inside, token-none, token-some, tokens-start, tokens-next, tokens-end, lines-start, lines-next, lines-end)

@@ -7,23 +7,21 @@ ghost use mathlib.Core.Path.{_≡_};
 ghost use mathlib.Core.List.{[], _∷_};
 ghost use Prim.Native.Nat.{ℕ, max, min, _≤_, _<_};
 ghost use lib.ListN.{length, getD, set};
-ghost use Rattle.definitions.specs.Lists.{to-list, any, up-to, ascii};
-ghost use Rattle.definitions.specs.Statements.{has-kw};
-ghost use Rattle.definitions.specs.Model.{line};
-ghost use Rattle.definitions.specs.Columns.{listing};
+ghost use Rattle.definitions.specs.Lists.{to-list, any};
+ghost use Rattle.definitions.specs.Columns.{token-list, listing};
 ghost use Rattle.definitions.specs.SplitPoints.{all-jumps, crosses};
-ghost use Rattle.line_keywords.specs.Masks.{Masks};
 ghost use Rattle.labels.specs.Buckets.{Indexed};
-ghost use Rattle.labels.specs.Gotos.{jump};
+ghost use Rattle.labels.specs.Gotos.{goto-line};
 ghost use Rattle.crossings.specs.Crossed.{goto, gotos, line-gotos, crossed, Marked};
 use labels::Label;
-use labels::gotos::jump;
+use labels::gotos::goto_line;
+use labels::gotos::next_goto;
 use labels::index;
-use line_keywords::has_goto;
-use model::columns::token_count;
-use recover::words::greater;
-use recover::words::narrow;
-use recover::words::word;
+use model::columns::line_end;
+use model::columns::line_start;
+use words::greater;
+use words::narrow;
+use words::word;
 
 fn later(a: u16, b: u16) -> u16
     ensures { λ r. ⌜ r ≡ max a b ⌝ }
@@ -56,8 +54,8 @@ fn mark(far: &mut [u16], i: usize, q: usize)
     join(far, a, b);
 }
 
-// Token j of line i, if it is a goto that leads to a label.
-fn mark_token(
+// A goto of line i, behind which the line's tokens stand from place `from` up to place e, if it leads to a label.
+fn mark_goto(
     lines: &[u32],
     tokens: &[u32],
     text: &[u8],
@@ -65,22 +63,23 @@ fn mark_token(
     nexts: &[u16],
     far: &mut [u16],
     i: usize,
-    j: usize,
+    from: usize,
+    e: usize,
 )
-    requires { ⌜ (256 ≤ length (now heads)) × (length (now lines) ≤ length (now nexts)) × (i < length (now lines)) × (length (now lines) ≤ length (now far)) × (length (now far) ≤ 1024) ⌝ }
+    requires { ⌜ (256 ≤ length (now heads)) × (length (now lines) ≤ length (now nexts)) × (i < length (now lines)) × (length (now lines) ≤ length (now far)) × (length (now far) ≤ 1024) × (e ≤ length (now tokens)) ⌝ }
     requires { ⌜ Indexed (listing (now lines) (now tokens) (now text)) (now heads) (now nexts) (length (now lines)) ⌝ }
     ensures { λ _.
         ⌜ (let L = listing (now (lines .entry)) (now (tokens .entry)) (now (text .entry)) in
-        Marked (now (far .entry)) (now (far .exit)) (gotos i (to-list (jump L (line L i) j)))) ⌝ }
+        Marked (now (far .entry)) (now (far .exit)) (gotos i (to-list (goto-line L (token-list (now (tokens .entry)) (now (text .entry))) from e)))) ⌝ }
 {
-    let Label::At(q) = jump(lines, tokens, text, heads, nexts, i, j) else {
+    let Label::At(q) = goto_line(lines, tokens, text, heads, nexts, from, e) else {
         return;
     };
     mark(far, i, q);
 }
 
-// The gotos of line i, token by token.
-fn mark_tokens(
+// The gotos of line i.
+fn mark_line(
     lines: &[u32],
     tokens: &[u32],
     text: &[u8],
@@ -93,34 +92,12 @@ fn mark_tokens(
     requires { ⌜ Indexed (listing (now lines) (now tokens) (now text)) (now heads) (now nexts) (length (now lines)) ⌝ }
     ensures { λ _. ⌜ Marked (now (far .entry)) (now (far .exit)) (line-gotos (listing (now (lines .entry)) (now (tokens .entry)) (now (text .entry))) i) ⌝ }
 {
-    let n = token_count(lines, tokens, text, i);
-    let mut j = 0;
-    while j < n {
-        mark_token(lines, tokens, text, heads, nexts, far, i, j);
-        j += 1;
-    }
-}
-
-// The same, asked only of a line that has a goto.
-fn mark_line(
-    lines: &[u32],
-    tokens: &[u32],
-    text: &[u8],
-    masks: &[u8],
-    heads: &[u16],
-    nexts: &[u16],
-    far: &mut [u16],
-    i: usize,
-)
-    requires { ⌜ (256 ≤ length (now heads)) × (length (now lines) ≤ length (now nexts)) × (i < length (now lines)) × (length (now lines) ≤ length (now far)) × (length (now far) ≤ 1024) × Masks (listing (now lines) (now tokens) (now text)) (now masks) ⌝ }
-    requires { ⌜ Indexed (listing (now lines) (now tokens) (now text)) (now heads) (now nexts) (length (now lines)) ⌝ }
-    ensures { λ _.
-        ⌜ (let L = listing (now (lines .entry)) (now (tokens .entry)) (now (text .entry)) in
-        Marked (now (far .entry)) (now (far .exit)) (line-gotos L i)) ⌝ }
-{
-    if has_goto(lines, tokens, text, masks, i) {
-        mark_tokens(lines, tokens, text, heads, nexts, far, i);
-        return;
+    let e = line_end(lines, tokens, i);
+    let mut k = next_goto(tokens, text, line_start(lines, i), e);
+    while k < e {
+        let b = k + 1;
+        mark_goto(lines, tokens, text, heads, nexts, far, i, b, e);
+        k = next_goto(tokens, text, b, e);
     }
 }
 
@@ -129,19 +106,18 @@ fn mark_lines(
     lines: &[u32],
     tokens: &[u32],
     text: &[u8],
-    masks: &[u8],
     heads: &[u16],
     nexts: &[u16],
     far: &mut [u16],
 )
-    requires { ⌜ (256 ≤ length (now heads)) × (length (now lines) ≤ length (now nexts)) × (length (now lines) ≤ length (now far)) × (length (now far) ≤ 1024) × Masks (listing (now lines) (now tokens) (now text)) (now masks) ⌝ }
+    requires { ⌜ (256 ≤ length (now heads)) × (length (now lines) ≤ length (now nexts)) × (length (now lines) ≤ length (now far)) × (length (now far) ≤ 1024) ⌝ }
     requires { ⌜ Indexed (listing (now lines) (now tokens) (now text)) (now heads) (now nexts) (length (now lines)) ⌝ }
     ensures { λ _. ⌜ Marked (now (far .entry)) (now (far .exit)) (all-jumps (listing (now (lines .entry)) (now (tokens .entry)) (now (text .entry)))) ⌝ }
 {
     let n = lines.len();
     let mut i = 0;
     while i < n {
-        mark_line(lines, tokens, text, masks, heads, nexts, far, i);
+        mark_line(lines, tokens, text, heads, nexts, far, i);
         i += 1;
     }
 }
@@ -151,68 +127,40 @@ fn mark_all_in(
     lines: &[u32],
     tokens: &[u32],
     text: &[u8],
-    masks: &[u8],
     heads: &mut [u16],
     nexts: &mut [u16],
     far: &mut [u16],
 )
-    requires { ⌜ (256 ≤ length (now heads)) × (length (now lines) ≤ length (now nexts)) × (length (now lines) ≤ length (now far)) × (length (now far) ≤ 1024) × Masks (listing (now lines) (now tokens) (now text)) (now masks) ⌝ }
+    requires { ⌜ (256 ≤ length (now heads)) × (length (now lines) ≤ length (now nexts)) × (length (now lines) ≤ length (now far)) × (length (now far) ≤ 1024) ⌝ }
     requires { ⌜ ((b : ℕ) → getD (now heads) b 0 ≡ 0) ⌝ }
     ensures { λ _. ⌜ Marked (now (far .entry)) (now (far .exit)) (all-jumps (listing (now (lines .entry)) (now (tokens .entry)) (now (text .entry)))) ⌝ }
 {
     index(lines, tokens, text, heads, nexts);
-    mark_lines(lines, tokens, text, masks, heads, nexts, far);
+    mark_lines(lines, tokens, text, heads, nexts, far);
 }
 
 // The gotos of every line, the labels looked for first.
-fn mark_all(lines: &[u32], tokens: &[u32], text: &[u8], masks: &[u8], far: &mut [u16])
-    requires { ⌜ (length (now lines) ≤ length (now far)) × (length (now far) ≤ 1024) × Masks (listing (now lines) (now tokens) (now text)) (now masks) ⌝ }
+fn mark_all(lines: &[u32], tokens: &[u32], text: &[u8], far: &mut [u16])
+    requires { ⌜ (length (now lines) ≤ length (now far)) × (length (now far) ≤ 1024) ⌝ }
     ensures { λ _. ⌜ Marked (now (far .entry)) (now (far .exit)) (all-jumps (listing (now (lines .entry)) (now (tokens .entry)) (now (text .entry)))) ⌝ }
 {
     let mut heads = [0u16; 256];
     let mut nexts = [0u16; 1024];
-    mark_all_in(lines, tokens, text, masks, &mut heads, &mut nexts, far);
+    mark_all_in(lines, tokens, text, &mut heads, &mut nexts, far);
 }
 
-// A line has a goto.
-fn any_goto(lines: &[u32], tokens: &[u32], text: &[u8], masks: &[u8]) -> bool
-    requires { ⌜ Masks (listing (now lines) (now tokens) (now text)) (now masks) ⌝ }
-    ensures { λ y.
-        ⌜ (let L = listing (now (lines .entry)) (now (tokens .entry)) (now (text .entry)) in
-        y ≡ any (λ i. has-kw (line L i) (ascii "goto")) (up-to (length (now (lines .entry))))) ⌝ }
-{
-    let n = lines.len();
-    let mut i = 0;
-    while i < n {
-        if has_goto(lines, tokens, text, masks, i) {
-            return true;
-        }
-        i += 1;
-    }
-    false
-}
-
-// The same as `crossings`, with the masks of the lines lent. Labels are looked for only where there is a goto.
-fn crossings_in(lines: &[u32], tokens: &[u32], text: &[u8], masks: &[u8], far: &mut [u16])
-    requires { ⌜ (length (now lines) ≤ length (now far)) × (length (now far) ≤ 1024) × Masks (listing (now lines) (now tokens) (now text)) (now masks) ⌝ }
-    requires { ⌜ ((b : ℕ) → getD (now far) b 0 ≡ 0) ⌝ }
-    ensures { λ _.
-        ⌜ ((k : ℕ) → crossed (now (far .exit)) k ≡ any (crosses k) (all-jumps (listing (now (lines .entry)) (now (tokens .entry)) (now (text .entry))))) ⌝ }
-{
-    if any_goto(lines, tokens, text, masks) {
-        mark_all(lines, tokens, text, masks, far);
-        return;
-    }
-}
-
-// The lines that the gotos of a listing cross. The column is empty, and there is an entry for each line.
+// The lines that the gotos of a listing cross. The column is empty, and there is an entry for each line. Labels are looked for only where there
+// is a goto.
 pub fn crossings(lines: &[u32], tokens: &[u32], text: &[u8], far: &mut [u16])
     requires { ⌜ (length (now lines) ≤ length (now far)) × (length (now far) ≤ 1024) ⌝ }
     requires { ⌜ ((b : ℕ) → getD (now far) b 0 ≡ 0) ⌝ }
     ensures { λ _.
         ⌜ ((k : ℕ) → crossed (now (far .exit)) k ≡ any (crosses k) (all-jumps (listing (now (lines .entry)) (now (tokens .entry)) (now (text .entry))))) ⌝ }
 {
-    let mut masks = [0u8; 1024];
-    line_keywords::masks(lines, tokens, text, &mut masks);
-    crossings_in(lines, tokens, text, &masks, far);
+    let n = tokens.len();
+    let k = next_goto(tokens, text, 0, n);
+    if k < n {
+        mark_all(lines, tokens, text, far);
+        return;
+    }
 }

@@ -21,6 +21,8 @@ use append::add;
 use append_pieces::conditions::add_condition;
 use append_pieces::tokens::add_piece;
 use append_pieces::tokens::add_plain;
+use plan::initialiser;
+use plan::step;
 use write::Cursor;
 
 // `while (..) {` over the condition of the guard on line i.
@@ -113,20 +115,6 @@ fn add_for_end(
     let e = add(words, bytes, d, b"; ", 6, true);
     let f = add_piece(lines, tokens, text, step(w), true, words, bytes, e, true);
     add(words, bytes, f, b") {", 6, true)
-}
-
-// The piece of a word's initialiser.
-fn initialiser(w: usize) -> usize
-    ensures { λ r. ⌜ r ≡ initialiser-at w ⌝ }
-{
-    w / 256 / 8 / 4096 / 4096 % 4096
-}
-
-// The piece of a word's step.
-fn step(w: usize) -> usize
-    ensures { λ r. ⌜ r ≡ step-at w ⌝ }
-{
-    w / 256 / 8 / 4096 / 4096 / 4096 % 4096
 }
 
 // The tokens of the line that the word w stands for.

@@ -21,10 +21,11 @@ use Rattle.definitions.specs.Model.{Token, tok}
 use Rattle.definitions.specs.Family.{Family, legacy, family, fam-of, names}
 use Rattle.definitions.specs.Statements.{is-var}
 use Rattle.text.proofs.Texts.{==-sym}
-use Rattle.family.proofs.Table.{below}
+use Rattle.legacy.proofs.Table.{below}
 use Rattle.family.specs.declared.Register.{Register}
 use Rattle.family.specs.declared.Register.the-variants.{Legacy, Numbered, Var, Nothing}
-use Rattle.family.specs.Register.{family-of, row, row-name, own-name, same-name, names-family, named, is-rsp, is-var-family, is-wide}
+use Rattle.legacy.specs.Table.{row-name}
+use Rattle.family.specs.Register.{family-of, row, own-name, same-name, names-family, named, is-rsp, is-var-family, is-wide}
 
 -- `row`, `own_name` and `is_wide`
 

@@ -1,4 +1,3 @@
-pub mod Table
 pub mod Places
 pub mod Digits
 pub mod FamilyNames

@@ -17,8 +17,9 @@ use Rattle.definitions.specs.Family.{Family, legacy, widths, legacy-family, is-
 use Rattle.text.proofs.Texts.{==-eq}
 use Rattle.family.specs.declared.Register.{Register}
 use Rattle.family.specs.declared.Register.the-variants.{Legacy}
-use Rattle.family.specs.Register.{all-names, name-at, number-end, found, family-of, rest-family}
-use Rattle.family.proofs.Table.{below, position-at, name-count}
+use Rattle.legacy.specs.Table.{all-names, name-at, found}
+use Rattle.family.specs.Register.{number-end, family-of, rest-family}
+use Rattle.legacy.proofs.Table.{below, position-at, name-count}
 use Rattle.family.proofs.Digits.{flag, other-numbered}
 
 -- A name of the table

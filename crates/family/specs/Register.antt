@@ -1,15 +1,9 @@
 -- What an answer of the code says of a text, as the definitions' families.
---   letters cell         the name in a cell of three bytes: without a 0 at its end
---   all-names            the legacy names, row by row, and behind them ah bh ch dh
---   name-at p            the name at place p of them
---   hash s               a number that tells these names from each other
---   found n k            k, where it is below n
 --   digit-count s        how many digits s starts with
 --   number-end s         how many bytes `r` and digits at the start of s are, 0 without an `r`
 --   above-zero w         w, where it is not 0
 --   family-of s r        the family and the width that the answer r gives the text s
 --   rest-family s        the family of a text that is none of the names
---   row-name i           the name of the family in row i of the table
 --   row r                where the name of r's family stands: its row of the table; 8, in the text; 9, nowhere
 --   own-name s r         the part of the text s that is its family's name, where it stands there
 --   same-name o p        both are families, of one name
@@ -17,33 +11,19 @@
 --   named p o            o is a family, and p holds of its name
 --   is-rsp o, is-var-family o, is-wide o    o is the family rsp; a `var_`; a family, of width 32 or more
 -- Assumes nothing.
-use Prim.Native.Nat.{ℕ, _+_, _*_, _/_, _%_}
+use Prim.Native.Nat.{ℕ, _+_}
 use mathlib.Core.Bool.{Bool, false}
-use mathlib.Core.List.{List, [], _∷_, _++_}
+use mathlib.Core.List.{List, []}
 use mathlib.Core.Option.{Option, none, some}
 use lib.Dec.{eqb, leb, ltb}
-use lib.ListN.{length, take, drop, getD}
-use Rattle.definitions.specs.Lists.{if_then_else_, part, concat, _==_, starts-with, ascii}
+use lib.ListN.{length, drop}
+use Rattle.definitions.specs.Lists.{if_then_else_, part, _==_, starts-with, ascii}
 use Rattle.definitions.specs.Model.{Token}
-use Rattle.definitions.specs.Family.{Family, legacy, digits, is-numbered, numbered-family, names}
+use Rattle.definitions.specs.Family.{Family, digits, is-numbered, numbered-family, names}
 use Rattle.definitions.specs.Statements.{is-var}
+use Rattle.legacy.specs.Table.{row-name}
 use Rattle.family.specs.declared.Register.{Register}
 use Rattle.family.specs.declared.Register.the-variants.{Legacy, Numbered, Var, Nothing}
-
-abbrev pub letters : List ℕ → List ℕ
-letters cell = if eqb (getD cell 2 0) 0 then take 2 cell else cell
-
-unfoldable pub all-names : List (List ℕ)
-all-names = concat legacy ++ (ascii "ah" ∷ ascii "bh" ∷ ascii "ch" ∷ ascii "dh" ∷ [])
-
-abbrev pub name-at : ℕ → List ℕ
-name-at p = getD all-names p []
-
-unfoldable pub hash : List ℕ → ℕ
-hash s = (20 * getD s 0 0 + 7 * getD s 1 0 + 12 * getD s 2 0) / 4 % 64
-
-abbrev pub found : ℕ → ℕ → Option ℕ
-found n k = if ltb k n then some k else none
 
 unfoldable pub digit-count : List ℕ → ℕ
 digit-count s = length (digits s)
@@ -53,9 +33,6 @@ number-end s = if starts-with (ascii "r") s then 1 + digit-count (drop 1 s) else
 
 abbrev pub above-zero : ℕ → Option ℕ
 above-zero w = if eqb w 0 then none else some w
-
-abbrev pub row-name : ℕ → List ℕ
-row-name i = getD (getD legacy i []) 0 []
 
 abbrev pub family-of : List ℕ → Register → Option Family
 family-of s (Legacy i w) = if ltb i 8 then some (record { name = row-name i; width = w }) else none

@@ -3,10 +3,10 @@
 --   graph-drawn                      the matrices have the flow graph
 --   graph-predecessors               and stand for its predecessor lists
 --   refused-brace, refused-label, not-refused    the answers
---   some-none, zeros                 a refusal is an answer; the buckets are empty at first
+--   some-none                        a refusal is an answer
 --   webs-refusal-flow                questions 8 and 9 within `webs-refusal`
 -- Assumes nothing.
-use Prim.Native.Nat.{ℕ, zero, suc, _+_, _<_, _≤_}
+use Prim.Native.Nat.{ℕ, suc, _+_, _<_, _≤_}
 use mathlib.Core.Path.{_≡_, refl, sym, ap, ap₂, _∙_}
 use mathlib.Core.Bool.{Bool, true, false, cond, _&&_, _||_, or-true, or-false, and-true, and-or-distrib-right}
 use mathlib.Core.List.{List, [], _∷_, _++_, map}
@@ -15,7 +15,7 @@ use native.Mathlib.Decide.{ℕ-discrete, decLe}
 use native.Mathlib.Omega.{arith}
 use borrow.Author.Tests.{eq-eqb, ne-eqb, le-leb, lt-leb, lt-ltb}
 use lib.Dec.{eqb, leb, ltb}
-use lib.ListN.{length, getD, replicate}
+use lib.ListN.{length, getD}
 use Rattle.definitions.specs.Lists.{is-some, any, filter, up-to, member}
 use Rattle.definitions.specs.Model.{Line}
 use Rattle.definitions.specs.Blocks.{Blocks, blocks}
@@ -26,9 +26,9 @@ use Rattle.theory.proofs.ListLaws.{member-filter, member-range, getD-map-up-to}
 use Rattle.theory.proofs.Graph.{flow-length, predecessor-lists}
 use Rattle.bits.specs.Edges.{edges, preds-of, NoEdges}
 use Rattle.blocks.specs.Structure.{blocks-of}
-use Rattle.flow.specs.Drawing.{Drawn, from, back, own, line-edges, rest}
+use Rattle.line_steps.specs.Drawing.{Drawn, from, back, own, line-edges, rest}
 use Rattle.flow.specs.Graph.{Graph, flow-refusal}
-use Rattle.flow.proofs.Drawings.{member-append}
+use Rattle.line_steps.proofs.Drawings.{member-append}
 
 -- What is left to draw
 
@@ -150,8 +150,3 @@ webs-refusal-flow L h = rw (le-leb 2 (length L) h)
 
 pub some-none : {A : Type 0} (k : ℕ) → some k ≡ none → A
 some-none k e = let z : _≡_ {A = ℕ} 0 1 = cc in absurd (omega arith)
-
-pub zeros : (n b : ℕ) → _≡_ {A = ℕ} (getD (replicate n 0) b 0) 0
-zeros zero b = refl
-zeros (suc n) zero = refl
-zeros (suc n) (suc b) = zeros n b

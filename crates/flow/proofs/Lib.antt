@@ -1,5 +1,1 @@
-pub mod Tests
-pub mod Drawings
-pub mod Falls
-pub mod Edges
 pub mod Graphs

@@ -1,5 +1,4 @@
 -- The flow graph as the code draws it, and its answer.
---   Read l t x ms es ps hs ns  the column ms has the keywords of the listing, es and ps have its blocks, hs and ns its labels
 --   Graph L n r l₀ l           the words l have the flow graph of L in the two matrices, and are as l₀ behind them
 --   flow-refusal L             questions 8 and 9: does every brace match, and does every goto lead to a label?
 --   refused f                  the refusal that the code answers
@@ -9,28 +8,14 @@ use mathlib.Core.Path.{_≡_}
 use mathlib.Core.Bool.{not}
 use mathlib.Core.List.{List}
 use mathlib.Core.Option.{Option, none, some}
-use lib.ListN.{length, getD}
+use lib.ListN.{getD}
 use Rattle.definitions.specs.Lists.{if_then_else_, is-some}
 use Rattle.definitions.specs.Model.{Line}
-use Rattle.definitions.specs.Columns.{listing}
 use Rattle.definitions.specs.Blocks.{blocks}
 use Rattle.definitions.specs.FlowGraph.{gotos-lead, flow-graph, steps}
 use Rattle.bits.specs.Edges.{edges, Agree}
-use Rattle.line_keywords.specs.Masks.{Masks}
-use Rattle.blocks.specs.Structure.{blocks-of, Ended, Enclosed}
-use Rattle.labels.specs.Buckets.{Indexed}
 use Rattle.flow.specs.declared.graph.Flow.{Flow}
 use Rattle.flow.specs.declared.graph.Flow.the-variants.{Drawn, UnmatchedBrace, UnknownLabel}
-
-pub record Read (l t x ms es ps hs ns : List ℕ) : Type 0 where
-  pub masks : Masks (listing l t x) ms
-  pub ends-room : length l ≤ length es
-  pub parents-room : length l ≤ length ps
-  pub heads-room : 256 ≤ length hs
-  pub nexts-room : length l ≤ length ns
-  pub ends : Ended (listing l t x) (blocks-of (listing l t x)) es
-  pub parents : Enclosed (listing l t x) (blocks-of (listing l t x)) ps
-  pub labels : Indexed (listing l t x) hs ns (length l)
 
 pub record Graph (L : List Line) (n r : ℕ) (l₀ l : List ℕ) : Type 0 where
   pub graph : List (List ℕ)

@@ -13,12 +13,13 @@ ghost use Rattle.definitions.specs.FlowGraph.{successors};
 ghost use Rattle.bits.specs.Edges.{Matrices};
 ghost use Rattle.line_keywords.specs.Masks.{Masks};
 ghost use Rattle.blocks.specs.Structure.{blocks-of, Matched};
-ghost use Rattle.flow.specs.Drawing.{Drawn};
-ghost use Rattle.flow.specs.Graph.{Read, Graph, flow-refusal, refused};
-use crate::steps::line_steps;
+ghost use Rattle.line_steps.specs.Drawing.{Drawn};
+ghost use Rattle.line_steps.specs.Read.{Read};
+ghost use Rattle.flow.specs.Graph.{Graph, flow-refusal, refused};
 use blocks::blocks;
 use labels::gotos::gotos_lead;
 use labels::index;
+use line_steps::steps::line_steps;
 
 // What `flow_graph` answers: the graph is drawn, or question 8 or question 9 is answered no.
 pub enum Flow {

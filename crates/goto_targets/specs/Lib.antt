@@ -1,3 +1,2 @@
 pub mod Seek
 pub mod Targets
-pub mod Marks

@@ -8,7 +8,7 @@ ghost use Rattle.definitions.specs.Questions.{question-2};
 ghost use Rattle.definitions.specs.Statements.{goto-target};
 ghost use Rattle.definitions.specs.ToFor.{popped};
 ghost use Rattle.definitions.specs.RecoverGotoLoops.{leading-test, one};
-ghost use Rattle.plan.specs.Plan.{header-at, initialiser-at, step-at, line-of};
+ghost use Rattle.plan.specs.Plan.{header-at, line-of};
 ghost use Rattle.plan.specs.Changes.{is-goto};
 ghost use Rattle.pieces.specs.Pieces.{piece};
 ghost use Rattle.goto_targets.specs.Seek.{seek, target, told};
@@ -20,7 +20,9 @@ use crate::seeking::seek_tokens;
 use model::columns::text_at;
 use pieces::reading::cut_place;
 use plan::header;
+use plan::initialiser;
 use plan::piece;
+use plan::step;
 use plan::test;
 use pseudo_opt::Found;
 
@@ -76,19 +78,6 @@ fn seek_over(lines: &[u32], tokens: &[u32], text: &[u8], h: usize, t: usize, s: 
         return seek_condition(lines, tokens, text, t, s);
     }
     s
-}
-
-// The pieces that a for header is made of.
-pub fn initialiser(w: usize) -> usize
-    ensures { λ r. ⌜ (r ≡ initialiser-at w) × (r < 4096) ⌝ }
-{
-    w / 256 / 8 / 4096 / 4096 % 4096
-}
-
-pub fn step(w: usize) -> usize
-    ensures { λ r. ⌜ (r ≡ step-at w) × (r < 4096) ⌝ }
-{
-    w / 256 / 8 / 4096 / 4096 / 4096 % 4096
 }
 
 // The target of the line of w, which is a header.

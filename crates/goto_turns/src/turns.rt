@@ -10,10 +10,10 @@ ghost use Rattle.definitions.specs.RecoverGotoLoops.{goto-turn, recover-goto-lo
 ghost use Rattle.plan.specs.Changes.{Ahead};
 ghost use Rattle.plan.specs.Source.{Source};
 ghost use Rattle.loops.specs.Turns.{planned};
-ghost use Rattle.goto_targets.specs.Marks.{Marked};
+ghost use Rattle.enters.specs.Marks.{Marked};
 ghost use Rattle.goto_turns.specs.Turns.{Turn-of, Emitted};
 use crate::labels::find_loop;
-use goto_targets::marks::mark_lines;
+use enters::marks::mark_lines;
 use gotos::words::label_word;
 use loops::turns::Planned;
 use plan::indent;

@@ -7,10 +7,10 @@ mod tokens;
 
 use crate::lines::put_listing;
 use crate::sizes::listing_size;
-use model::questions::Limits;
-use model::questions::question_1;
-use model::questions::question_2;
-use model::questions::question_3;
+use questions::Limits;
+use questions::question_1;
+use questions::question_2;
+use questions::question_3;
 ghost use mathlib.Core.Path.{_≡_};
 ghost use Rattle.json_definitions.specs.Writer.{write};
 ghost use Rattle.json_definitions.specs.JsonCalls.{write-call};

@@ -1,98 +1,142 @@
 -- Gotos, as rules for `search`.
---   target-none, target-some            the label that the symbol after a goto names
---   jump-yes, jump-no                   a token that is a goto, and one that is not
---   leads-yes, leads-no, leads-other    whether it leads to a label
+--   line-tokens                         the tokens of a line, by their places among all tokens
+--   goto-found, goto-next, goto-end     the loop of `next_goto`
+--   symbol-found, symbol-next, symbol-end    the loop of `next_symbol`
+--   line-some, line-none                the label that the symbol behind a goto names
+--   leads-yes, leads-no                 whether there is one
+--   leads-at                            where the gotos from place k on lead, at a goto
 --   lead-start, lead-next, lead-fail, lead-end        the loop of `tokens_lead`
 --   leads-none                          a line without a goto
 --   lines-start, lines-next, lines-fail, lines-end    the loop of `gotos_lead`
 -- Assumes nothing.
-use Prim.Native.Nat.{ℕ, _+_, _<_, _≤_}
+use Prim.Native.Nat.{ℕ, _+_, _/_, _<_, _≤_}
 use mathlib.Core.Path.{_≡_, refl, sym, ap, _∙_}
-use mathlib.Core.Bool.{Bool, true, false, cond, _&&_, _||_, not}
-use mathlib.Core.List.{List, _∷_, map}
-use mathlib.Core.Option.{Option, none}
+use mathlib.Core.Bool.{Bool, true, false, cond, _&&_}
+use mathlib.Core.List.{List, [], _∷_, map}
+use mathlib.Core.Option.{Option, none, some}
 use native.Mathlib.Nat.{zero-add}
+use native.Mathlib.Decide.{decLe}
 use native.Mathlib.Omega.{arith}
+use borrow.Author.Tests.{lt-ltb, le-ltb}
+use lib.Dec.{eqb}
 use lib.ListN.{length, getD, drop}
-use Rattle.definitions.specs.Lists.{if_then_else_, _>>=_, is-some, all, up-to, ascii}
-use Rattle.definitions.specs.Model.{Token, Line, line, token, no-token}
-use Rattle.definitions.specs.Columns.{listing}
+use Rattle.definitions.specs.Lists.{_>>=_, is-some, all, find, part, up-to, ascii}
+use Rattle.definitions.specs.Model.{Token, Line, line, no-token, Symbol}
+use Rattle.definitions.specs.Columns.{token-list, listing}
 use Rattle.definitions.specs.Statements.{is-kw, has-kw, first-symbol, targets}
 use Rattle.definitions.specs.FlowGraph.{label-line, leads, gotos-lead}
-use Rattle.text.proofs.Parts.{drop-step, drop-end}
+use Rattle.text.proofs.Parts.{part-step, part-none, part-clamp}
 use Rattle.text.proofs.Loops.{all-found, all-next, all-end}
-use Rattle.model.proofs.Decode.{length-listing}
-use Rattle.pseudo_opt.specs.Places.{text-at}
-use Rattle.pseudo_opt.specs.declared.Found.{Found}
-use Rattle.pseudo_opt.specs.declared.Found.the-variants.{At, Nothing}
+use Rattle.model.specs.Places.{line-start, line-end}
+use Rattle.model.proofs.Decode.{line-at, length-listing, length-tokens}
 use Rattle.line_keywords.proofs.NoGotos.{no-leads}
 use Rattle.theory.proofs.ListLaws.{getD-range, length-range}
 use Rattle.labels.specs.Buckets.{line-of}
+use Rattle.labels.specs.Gotos.{symbol-at, targets-at, goto-line}
 use Rattle.labels.specs.declared.Label.{Label}
 use Rattle.labels.specs.declared.Label.the-variants as label
 
+pub line-tokens : (l t x : List ℕ) (i : ℕ) → line (listing l t x) i .tokens ≡ part (line-start l i) (line-end l t i) (token-list t x)
+line-tokens l t x i = ap (λ m. m .tokens) (line-at l t x i) ∙ go (decLe (getD l i 0 / 512) (length t))
+  where
+    go : Dec (getD l i 0 / 512 ≤ length t) → part (line-start l i) (getD l i 0 / 512) (token-list t x) ≡ part (line-start l i) (line-end l t i) (token-list t x)
+    go (yes h) = let z : line-end l t i ≡ getD l i 0 / 512 = omega arith in rw z
+    go (no h) =
+        let z : line-end l t i ≡ length (token-list t x) = omega (arith, length-tokens t x) in
+        rw z (sym (part-clamp (token-list t x) (line-start l i) (getD l i 0 / 512) (omega (arith, length-tokens t x))))
+
+-- The next goto and the next symbol
+
+module _ (t x : List ℕ) (k e : ℕ) where
+  module _ (r : List (Option (List ℕ))) (inv : r ≡ targets (part k e (token-list t x))) where
+    module _ (b : Bool) (h : k < e) (fits : e ≤ length t) (q : b ≡ is-kw (ascii "goto") (getD (token-list t x) k no-token)) where
+      goto-step : r ≡ cond b (first-symbol (part (k + 1) e (token-list t x)) ∷ targets (part (k + 1) e (token-list t x))) (targets (part (k + 1) e (token-list t x)))
+      unfolding targets
+      goto-step = inv ∙ rw (part-step no-token (token-list t x) k e h (omega (arith, length-tokens t x)), q)
+
+      pub goto-found : b ≡ true → targets-at (token-list t x) k e ≡ r
+      unfolding targets-at
+      goto-found f = sym (goto-step ∙ rw (f, lt-ltb k e h))
+
+      pub goto-next : b ≡ false → r ≡ targets (part (k + 1) e (token-list t x))
+      goto-next f = goto-step ∙ rw f
+
+    pub goto-end : e ≤ k → targets-at (token-list t x) k e ≡ r
+    unfolding targets-at targets
+    goto-end h = sym (inv ∙ rw (part-none (token-list t x) k e h, le-ltb k e h))
+
+  module _ (r : Option (List ℕ)) (inv : r ≡ first-symbol (part k e (token-list t x))) where
+    module _ (b : Bool) (h : k < e) (fits : e ≤ length t) (q : b ≡ eqb (getD (token-list t x) k no-token .kind) Symbol) where
+      symbol-step : r ≡ cond b (some (getD (token-list t x) k no-token .text)) (first-symbol (part (k + 1) e (token-list t x)))
+      unfolding first-symbol find
+      symbol-step = inv ∙ rw (part-step no-token (token-list t x) k e h (omega (arith, length-tokens t x)), q) (go (eqb (getD (token-list t x) k no-token .kind) Symbol))
+        where
+          rest : Option Token
+          rest = find (λ t. eqb (t .kind) Symbol) (part (k + 1) e (token-list t x))
+
+          go : (b : Bool) → (cond b (some (getD (token-list t x) k no-token)) rest >>= λ t. some (t .text)) ≡ cond b (some (getD (token-list t x) k no-token .text)) (rest >>= λ t. some (t .text))
+          go true = refl
+          go false = refl
+
+      pub symbol-found : b ≡ true → symbol-at (token-list t x) k e ≡ r
+      unfolding symbol-at
+      symbol-found f = sym (symbol-step ∙ rw (f, lt-ltb k e h))
+
+      pub symbol-next : b ≡ false → r ≡ first-symbol (part (k + 1) e (token-list t x))
+      symbol-next f = symbol-step ∙ rw f
+
+    pub symbol-end : e ≤ k → symbol-at (token-list t x) k e ≡ r
+    unfolding symbol-at first-symbol find
+    symbol-end h = sym (inv ∙ rw (part-none (token-list t x) k e h, le-ltb k e h))
+
+pub ruleset seeking = (goto-found, goto-next, goto-end, symbol-found, symbol-next, symbol-end)
+
 -- One goto
 
-module _ (l : Line) (f : Found) (o : Option (List ℕ)) (g : List ℕ → Option ℕ) (e : text-at l f ≡ o) where
-  pub target-none : f ≡ Nothing → none ≡ (o >>= g)
-  target-none q = rw (← e, q)
+module _ (us : List Token) (k e : ℕ) (o : Option (List ℕ)) (g : List ℕ → Option ℕ) (q : symbol-at us k e ≡ o) where
+  pub line-none : e ≤ k → none ≡ (o >>= g)
+  unfolding symbol-at
+  line-none h = rw (← q, le-ltb k e h)
 
-  pub target-some : (k : ℕ) (s : List ℕ) (r : Option ℕ) → f ≡ At k → s ≡ token l k .text → r ≡ g s → r ≡ (o >>= g)
-  target-some k s r q h z = rw (← e, q) (z ∙ ap g h)
+  pub line-some : (s : List ℕ) (r : Option ℕ) → k < e → s ≡ getD us k no-token .text → r ≡ g s → r ≡ (o >>= g)
+  unfolding symbol-at
+  line-some s r h z y = rw (← q, lt-ltb k e h) (y ∙ ap g z)
 
-module _ (b x : Bool) (e : b ≡ x) (o : Option ℕ) where
-  pub jump-yes : (r : Option ℕ) → b ≡ true → r ≡ o → r ≡ (if x then o else none)
-  jump-yes r q h = rw (← e, q) h
+module _ (f : Label) (o : Option ℕ) (h : line-of f ≡ o) where
+  pub leads-yes : (k : ℕ) → f ≡ label.At k → true ≡ is-some o
+  leads-yes k z = rw (← h, z)
 
-  pub jump-no : b ≡ false → none ≡ (if x then o else none)
-  jump-no q = rw (← e, q)
+  pub leads-no : f ≡ label.Missing → false ≡ is-some o
+  leads-no z = rw (← h, z)
 
-  pub leads-other : b ≡ false → true ≡ (not x || is-some o)
-  leads-other q = rw (← e, q)
+pub ruleset jumping = (line-none, line-some, leads-yes, leads-no)
 
-  module _ (f : Label) (h : line-of f ≡ o) (q : b ≡ true) where
-    pub leads-yes : (k : ℕ) → f ≡ label.At k → true ≡ (not x || is-some o)
-    leads-yes k z = rw (← e, q, ← h, z)
+-- The gotos of a line, from the one at place k on
 
-    pub leads-no : f ≡ label.Missing → false ≡ (not x || is-some o)
-    leads-no z = rw (← e, q, ← h, z)
+unfoldable pub leads-at : List Line → List Token → ℕ → ℕ → List (Option ℕ)
+leads-at L us k e = map (λ t. t >>= label-line L) (targets-at us k e)
 
-pub ruleset jumping = (target-none, target-some, jump-yes, jump-no, leads-other, leads-yes, leads-no)
+pub lead-start : (l t x : List ℕ) (i s e k : ℕ) → s ≡ line-start l i → e ≡ line-end l t i → targets-at (token-list t x) k e ≡ targets (part s e (token-list t x))
+    → all is-some (leads (listing l t x) i) ≡ all is-some (leads-at (listing l t x) (token-list t x) k e)
+unfolding leads-at
+lead-start l t x i s e k p q z = rw (line-tokens l t x i, ← p, ← q, z)
 
--- The gotos of a line, from token j on
+module _ (L : List Line) (us : List Token) (k e : ℕ) (r : Bool) (inv : r ≡ all is-some (leads-at L us k e)) where
+  module _ (b : Bool) (q : b ≡ is-some (goto-line L us (k + 1) e)) (h : k < e) where
+    lead-step : r ≡ (b && all is-some (map (λ t. t >>= label-line L) (targets (part (k + 1) e us))))
+    unfolding leads-at targets-at all
+    lead-step = inv ∙ rw (lt-ltb k e h, q)
 
-unfoldable pub leads-from : List Line → List Token → ℕ → List (Option ℕ)
-leads-from L ts j = map (λ t. t >>= label-line L) (targets (drop j ts))
-
-pub lead-start : (L : List Line) (i : ℕ) → all is-some (leads L i) ≡ all is-some (leads-from L (line L i .tokens) 0)
-unfolding leads-from
-lead-start L i = refl
-
-module _ (L : List Line) (ts : List Token) (j n : ℕ) (r : Bool) (inv : r ≡ all is-some (leads-from L ts j)) (e : n ≡ length ts) where
-  module _ (b : Bool) (q : b ≡ (not (is-kw (ascii "goto") (getD ts j no-token)) || is-some (first-symbol (drop (j + 1) ts) >>= label-line L))) (h : j < n) where
-    lead-step : r ≡ (b && all is-some (leads-from L ts (j + 1)))
-    unfolding leads-from targets all
-    lead-step =
-        let g : j < length ts = omega arith in
-        inv ∙ rw (drop-step no-token ts j, q) (go (is-kw (ascii "goto") (getD ts j no-token)))
-      where
-        rest : List (Option ℕ)
-        rest = map (λ t. t >>= label-line L) (targets (drop (j + 1) ts))
-
-        go : (t : Bool) → all is-some (map (λ t. t >>= label-line L) (cond t (first-symbol (drop (j + 1) ts) ∷ targets (drop (j + 1) ts)) (targets (drop (j + 1) ts))))
-            ≡ ((not t || is-some (first-symbol (drop (j + 1) ts) >>= label-line L)) && all is-some rest)
-        go true = refl
-        go false = refl
-
-    pub lead-next : b ≡ true → r ≡ all is-some (leads-from L ts (j + 1))
-    lead-next z = lead-step ∙ rw z
+    pub lead-next : (n : ℕ) → b ≡ true → targets-at us n e ≡ targets (part (k + 1) e us) → r ≡ all is-some (leads-at L us n e)
+    unfolding leads-at
+    lead-next n z y = lead-step ∙ rw (z, y)
 
     pub lead-fail : b ≡ false → false ≡ r
     lead-fail z = sym (lead-step ∙ rw z)
 
-  pub lead-end : n ≤ j → true ≡ r
-  unfolding leads-from targets all
-  lead-end h = sym (inv ∙ rw (drop-end ts j (omega arith)))
+  pub lead-end : e ≤ k → true ≡ r
+  unfolding leads-at targets-at all
+  lead-end h = sym (inv ∙ rw (le-ltb k e h))
 
 pub ruleset leading = (lead-start, lead-next, lead-fail, lead-end)
 

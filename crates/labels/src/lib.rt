@@ -6,13 +6,16 @@
 ghost use mathlib.Core.Path.{_≡_};
 ghost use Prim.Native.Nat.{ℕ, _+_, _≤_, _<_};
 ghost use lib.ListN.{length, getD};
+ghost use Rattle.definitions.specs.Model.{line};
 ghost use Rattle.definitions.specs.Columns.{listing};
+ghost use Rattle.definitions.specs.Statements.{is-label};
 ghost use Rattle.definitions.specs.FlowGraph.{label-line};
 ghost use Rattle.labels.specs.Buckets.{bucket, Indexed, line-of};
 
 pub mod gotos;
 
 use model::columns::text_at;
+use model::columns::token_count;
 use pseudo_opt::labels::is_label;
 
 // The line of a label.
@@ -40,6 +43,16 @@ fn bucket(s: &[u8]) -> usize
     h
 }
 
+// Line i is a label: of a line that has not two tokens only its word is read.
+fn has_label(lines: &[u32], tokens: &[u32], text: &[u8], i: usize) -> bool
+    ensures { λ r. ⌜ r ≡ is-label (line (listing (now (lines .entry)) (now (tokens .entry)) (now (text .entry))) i) ⌝ }
+{
+    if token_count(lines, tokens, text, i) != 2 {
+        return false;
+    }
+    is_label(lines, tokens, text, i)
+}
+
 // Line i more.
 fn index_line(
     lines: &[u32],
@@ -55,7 +68,7 @@ fn index_line(
         ⌜ (let L = listing (now (lines .entry)) (now (tokens .entry)) (now (text .entry)) in
         Indexed L (now (heads .exit)) (now (nexts .exit)) (i + 1)) ⌝ }
 {
-    if is_label(lines, tokens, text, i) {
+    if has_label(lines, tokens, text, i) {
         let b = bucket(text_at(lines, tokens, text, i, 0));
         nexts[i] = heads[b];
         heads[b] = (i + 1) as u16;

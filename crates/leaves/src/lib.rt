@@ -5,8 +5,8 @@ use assignment::Assigned;
 use assignment::definition::Defined;
 use condition::Conditional;
 use family::Register;
-use model::questions::Limits;
 use pseudo_opt::Found;
+use questions::Limits;
 
 fn put(out: &mut [u64], k: usize, v: usize) {
     if k < out.len() {
@@ -48,7 +48,7 @@ pub extern "C" fn leaves_refusal(lines: &[u32], tokens: &[u32], text: &[u8]) -> 
         tokens: 16384,
         text: 262144,
     };
-    model::questions::refusal(lines, tokens, text, most)
+    questions::refusal(lines, tokens, text, most)
 }
 
 // Question 3 alone, of the whole text as one token.
@@ -161,7 +161,7 @@ pub extern "C" fn leaves_braces(
     i: usize,
     out: &mut [u64],
 ) {
-    let b = pseudo_opt::braces::line_braces(lines, tokens, text, i);
+    let b = braces::line_braces(lines, tokens, text, i);
     put_three(out, 1, b.opens, b.closes);
 }
 

@@ -1,4 +1,4 @@
--- The bit of a keyword, from its first byte, as rules for `search`.
+-- The bits of a keyword, from its first byte, as rules for `search`.
 --   class-empty, class-g, class-e, class-w, class-f, class-d, class-s, class-b, class-c, class-other
 --   class-of    what is said of a part, said of the text that the part is
 -- Assumes nothing.
@@ -46,9 +46,9 @@ module _ (s : List ℕ) where
     unfolding class _==_
     class-f e h = h ∙ first 102 (λ s. cond (s == ascii "for") 8 0 ≡ class s) (λ z. omega arith) (λ xs. refl) e
 
-    pub class-d : getD s 0 0 ≡ 100 → r ≡ cond (s == ascii "do") 8 (cond (s == ascii "default") 64 0) → r ≡ class s
+    pub class-d : getD s 0 0 ≡ 100 → r ≡ cond (s == ascii "do") 9 (cond (s == ascii "default") 64 0) → r ≡ class s
     unfolding class _==_
-    class-d e h = h ∙ first 100 (λ s. cond (s == ascii "do") 8 (cond (s == ascii "default") 64 0) ≡ class s) (λ z. omega arith) (λ xs. refl) e
+    class-d e h = h ∙ first 100 (λ s. cond (s == ascii "do") 9 (cond (s == ascii "default") 64 0) ≡ class s) (λ z. omega arith) (λ xs. refl) e
 
     pub class-s : getD s 0 0 ≡ 115 → r ≡ cond (s == ascii "switch") 16 0 → r ≡ class s
     unfolding class _==_
@@ -58,9 +58,9 @@ module _ (s : List ℕ) where
     unfolding class _==_
     class-b e h = h ∙ first 98 (λ s. cond (s == ascii "break") 32 0 ≡ class s) (λ z. omega arith) (λ xs. refl) e
 
-    pub class-c : getD s 0 0 ≡ 99 → r ≡ cond (s == ascii "continue") 32 (cond (s == ascii "case") 64 0) → r ≡ class s
+    pub class-c : getD s 0 0 ≡ 99 → r ≡ cond (s == ascii "continue") 160 (cond (s == ascii "case") 64 0) → r ≡ class s
     unfolding class _==_
-    class-c e h = h ∙ first 99 (λ s. cond (s == ascii "continue") 32 (cond (s == ascii "case") 64 0) ≡ class s) (λ z. omega arith) (λ xs. refl) e
+    class-c e h = h ∙ first 99 (λ s. cond (s == ascii "continue") 160 (cond (s == ascii "case") 64 0) ≡ class s) (λ z. omega arith) (λ xs. refl) e
 
   pub class-other : (getD s 0 0 ≡ 103 → ⊥) → (getD s 0 0 ≡ 101 → ⊥) → (getD s 0 0 ≡ 119 → ⊥) → (getD s 0 0 ≡ 102 → ⊥) → (getD s 0 0 ≡ 100 → ⊥)
       → (getD s 0 0 ≡ 115 → ⊥) → (getD s 0 0 ≡ 98 → ⊥) → (getD s 0 0 ≡ 99 → ⊥) → 0 ≡ class s

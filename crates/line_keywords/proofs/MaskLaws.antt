@@ -1,10 +1,11 @@
 -- What the bits of a mask say, as rules for `search`: ms has the masks of L, and m is the one of line i.
---   mask-goto, mask-else, mask-loop, mask-switch, mask-leaves, mask-case
+--   mask-goto, mask-else, mask-loop, mask-do, mask-switch, mask-leaves, mask-continue, mask-case
 -- Assumes nothing.
 use Prim.Native.Nat.{ℕ, _/_, _%_}
 use mathlib.Core.Path.{_≡_, refl, sym, ap, _∙_, fun-ext}
 use mathlib.Core.Bool.{Bool, true, false, cond, _&&_, _||_, or-false, or-assoc}
 use mathlib.Core.List.{List, [], _∷_}
+use native.Mathlib.Nat.{div-one}
 use lib.Bits.{bitOr}
 use lib.Dec.{eqb}
 use lib.ListN.{getD}
@@ -28,12 +29,13 @@ fold-bit k m (t ∷ ts) = fold-bit k (bitOr m (key t)) ts ∙ ap (_|| any (λ t.
 -- The keywords by their bits
 
 abbrev bits : ℕ → List Bool
-bits m = word-bit m 1 ∷ (word-bit m 2 ∷ (word-bit m 3 ∷ (word-bit m 4 ∷ (word-bit m 5 ∷ (word-bit m 6 ∷ [])))))
+bits m = word-bit m 1 ∷ (word-bit m 2 ∷ (word-bit m 3 ∷ (word-bit m 4 ∷ (word-bit m 5 ∷ (word-bit m 6 ∷ (word-bit m 0 ∷ (word-bit m 7 ∷ [])))))))
 
 abbrev tests : List ℕ → List Bool
 tests s =
     (s == ascii "goto") ∷ ((s == ascii "else") ∷ (((s == ascii "while") || (s == ascii "for") || (s == ascii "do"))
-    ∷ ((s == ascii "switch") ∷ (((s == ascii "break") || (s == ascii "continue")) ∷ (((s == ascii "case") || (s == ascii "default")) ∷ [])))))
+    ∷ ((s == ascii "switch") ∷ (((s == ascii "break") || (s == ascii "continue")) ∷ (((s == ascii "case") || (s == ascii "default"))
+    ∷ ((s == ascii "do") ∷ ((s == ascii "continue") ∷ [])))))))
 
 by-test : (s w : List ℕ) (a b : ℕ) → bits a ≡ tests w → ((s == w) ≡ false → bits b ≡ tests s) → bits (cond (s == w) a b) ≡ tests s
 by-test s w a b p q = go (s == w) refl
@@ -49,11 +51,11 @@ class-bits s =
     by-test s (ascii "else") 4 _ refl (λ e.
     by-test s (ascii "while") 8 _ refl (λ w.
     by-test s (ascii "for") 8 _ refl (λ f.
-    by-test s (ascii "do") 8 _ refl (λ d.
+    by-test s (ascii "do") 9 _ refl (λ d.
     by-test s (ascii "default") 64 _ refl (λ t.
     by-test s (ascii "switch") 16 _ refl (λ z.
     by-test s (ascii "break") 32 _ refl (λ b.
-    by-test s (ascii "continue") 32 _ refl (λ c.
+    by-test s (ascii "continue") 160 _ refl (λ c.
     by-test s (ascii "case") 64 0 refl (λ k.
     rw (g, e, w, f, d, t, z, b, c, k) refl))))))))))
 
@@ -103,6 +105,12 @@ module _ (L : List Line) (ms : List ℕ) (M : Masks L ms) (m i : ℕ) (e : m ≡
       ∙ any-or (λ s. (s == ascii "while") || (s == ascii "for")) (_== ascii "do") (line L i .tokens)
       ∙ ap (_|| has-kw (line L i) (ascii "do")) (any-or (_== ascii "while") (_== ascii "for") (line L i .tokens))
 
+  pub mask-do : eqb (m % 2) 1 ≡ has-kw (line L i) (ascii "do")
+  unfolding word-bit has-kw
+  mask-do =
+      rw (e, M .at i, ← div-one (mask (line L i)))
+      (mask-bit 0 (_== ascii "do") refl (λ s. ap (λ (bs : List Bool). getD bs 6 false) (class-bits s)) (line L i))
+
   pub mask-switch : eqb (m / 16 % 2) 1 ≡ is-switch (line L i)
   unfolding word-bit has-kw
   mask-switch = rw (e, M .at i) (mask-bit 4 (_== ascii "switch") refl (λ s. ap (λ (bs : List Bool). getD bs 3 false) (class-bits s)) (line L i))
@@ -113,10 +121,14 @@ module _ (L : List Line) (ms : List ℕ) (M : Masks L ms) (m i : ℕ) (e : m ≡
       rw (e, M .at i) (mask-bit 5 (λ s. (s == ascii "break") || (s == ascii "continue")) refl (λ s. ap (λ (bs : List Bool). getD bs 4 false) (class-bits s)) (line L i))
       ∙ any-or (_== ascii "break") (_== ascii "continue") (line L i .tokens)
 
+  pub mask-continue : eqb (m / 128 % 2) 1 ≡ has-kw (line L i) (ascii "continue")
+  unfolding word-bit has-kw
+  mask-continue = rw (e, M .at i) (mask-bit 7 (_== ascii "continue") refl (λ s. ap (λ (bs : List Bool). getD bs 7 false) (class-bits s)) (line L i))
+
   pub mask-case : eqb (m / 64 % 2) 1 ≡ (has-kw (line L i) (ascii "case") || has-kw (line L i) (ascii "default"))
   unfolding word-bit has-kw
   mask-case =
       rw (e, M .at i) (mask-bit 6 (λ s. (s == ascii "case") || (s == ascii "default")) refl (λ s. ap (λ (bs : List Bool). getD bs 5 false) (class-bits s)) (line L i))
       ∙ any-or (_== ascii "case") (_== ascii "default") (line L i .tokens)
 
-pub ruleset asking = (mask-goto, mask-else, mask-loop, mask-switch, mask-leaves, mask-case)
+pub ruleset asking = (mask-goto, mask-else, mask-loop, mask-do, mask-switch, mask-leaves, mask-continue, mask-case)

@@ -1,6 +1,7 @@
 -- The keywords of a line as bits of one number.
---   class s        the bit of the keyword s: 2 for goto, 4 for else, 8 for a loop, 16 for switch, 32 for break and continue, 64 for case and default
---   key t          the bit of the token t, 0 where it is no keyword or another one
+--   class s        the bits of the keyword s: 2 for goto, 4 for else, 8 for a loop, 16 for switch, 32 for break and continue, 64 for case and default;
+--                  1 too for do, 128 too for continue
+--   key t          the bits of the token t, 0 where it is no keyword or another one
 --   mask l         the bits of the tokens of line l
 --   Masks L ms     ms has the mask of each line of L, and 0 behind them
 -- Assumes nothing.
@@ -19,11 +20,11 @@ class s =
     else if s == ascii "else" then 4
     else if s == ascii "while" then 8
     else if s == ascii "for" then 8
-    else if s == ascii "do" then 8
+    else if s == ascii "do" then 9
     else if s == ascii "default" then 64
     else if s == ascii "switch" then 16
     else if s == ascii "break" then 32
-    else if s == ascii "continue" then 32
+    else if s == ascii "continue" then 160
     else if s == ascii "case" then 64
     else 0
 

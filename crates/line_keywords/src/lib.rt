@@ -1,4 +1,4 @@
-// The keywords of a line as bits of one byte, for the flow graph and for crossings.
+// The keywords of a line as bits of one byte, for the flow graph and for `recover_loops`.
 //
 // `mask` passes over the words of a line's tokens once: of a token that is no keyword only the word is read, of a keyword also its text.
 // `masks` makes a column of them; each question of a line is then a test of one bit. Contracts cite `mask` of specs/Masks.antt, `has-kw` of
@@ -20,21 +20,21 @@ use model::columns::token_text;
 
 // Masks
 
-// The bit b for the text w.
+// The bits b for the text w.
 fn named(s: &[u8], w: &[u8], b: u8) -> u8
     ensures { λ r. ⌜ r ≡ cond (now (s .entry) == now (w .entry)) b 0 ⌝ }
 {
     if text::equal(s, w) { b } else { 0 }
 }
 
-// The bit a for the text v, the bit b for the text w.
+// The bits a for the text v, the bits b for the text w.
 fn either(s: &[u8], v: &[u8], a: u8, w: &[u8], b: u8) -> u8
     ensures { λ r. ⌜ r ≡ cond (now (s .entry) == now (v .entry)) a (cond (now (s .entry) == now (w .entry)) b 0) ⌝ }
 {
     if text::equal(s, v) { a } else { named(s, w, b) }
 }
 
-// The bit of a keyword: its first byte leaves at most two.
+// The bits of a keyword: its first byte leaves at most two.
 fn class(s: &[u8]) -> u8
     ensures { λ r. ⌜ r ≡ class (now (s .entry)) ⌝ }
 {
@@ -46,15 +46,15 @@ fn class(s: &[u8]) -> u8
         b'e' => named(s, b"else", 4),
         b'w' => named(s, b"while", 8),
         b'f' => named(s, b"for", 8),
-        b'd' => either(s, b"do", 8, b"default", 64),
+        b'd' => either(s, b"do", 9, b"default", 64),
         b's' => named(s, b"switch", 16),
         b'b' => named(s, b"break", 32),
-        b'c' => either(s, b"continue", 32, b"case", 64),
+        b'c' => either(s, b"continue", 160, b"case", 64),
         _ => 0,
     }
 }
 
-// The bit of token k of all.
+// The bits of token k of all.
 fn key(tokens: &[u32], text: &[u8], k: usize) -> u8
     ensures { λ r. ⌜ r ≡ key (getD (token-list (now (tokens .entry)) (now (text .entry))) k no-token) ⌝ }
 {
@@ -123,6 +123,13 @@ pub fn is_loop(lines: &[u32], tokens: &[u32], text: &[u8], masks: &[u8], i: usiz
     at(masks, i) / 8 % 2 == 1
 }
 
+pub fn has_do(lines: &[u32], tokens: &[u32], text: &[u8], masks: &[u8], i: usize) -> bool
+    requires { ⌜ Masks (listing (now lines) (now tokens) (now text)) (now masks) ⌝ }
+    ensures { λ r. ⌜ r ≡ has-kw (line (listing (now (lines .entry)) (now (tokens .entry)) (now (text .entry))) i) (ascii "do") ⌝ }
+{
+    at(masks, i) % 2 == 1
+}
+
 pub fn is_switch(lines: &[u32], tokens: &[u32], text: &[u8], masks: &[u8], i: usize) -> bool
     requires { ⌜ Masks (listing (now lines) (now tokens) (now text)) (now masks) ⌝ }
     ensures { λ r. ⌜ r ≡ is-switch (line (listing (now (lines .entry)) (now (tokens .entry)) (now (text .entry))) i) ⌝ }
@@ -138,6 +145,13 @@ pub fn leaves_block(lines: &[u32], tokens: &[u32], text: &[u8], masks: &[u8], i:
         r ≡ (has-kw (line L i) (ascii "break") || has-kw (line L i) (ascii "continue"))) ⌝ }
 {
     at(masks, i) / 32 % 2 == 1
+}
+
+pub fn has_continue(lines: &[u32], tokens: &[u32], text: &[u8], masks: &[u8], i: usize) -> bool
+    requires { ⌜ Masks (listing (now lines) (now tokens) (now text)) (now masks) ⌝ }
+    ensures { λ r. ⌜ r ≡ has-kw (line (listing (now (lines .entry)) (now (tokens .entry)) (now (text .entry))) i) (ascii "continue") ⌝ }
+{
+    at(masks, i) / 128 % 2 == 1
 }
 
 // A case or default, wherever it stands on the line.

@@ -1,5 +1,5 @@
 -- The words and the lines of a guard rebuilt.
---   words-tests, words-moved           the three changes that the code makes one after the other
+--   words-tests, words-moved           the changes that the code makes one after the other
 --   cleared-lines                      the words with the guard rebuilt stand for `unwrapped` of the lines
 --   out-lines, moved-lines             the body can move out; it moved out
 --   header-kept, unwrapped-ready       the header of the words then, and that they are ready
@@ -33,22 +33,20 @@ use Rattle.loops.proofs.Lines.{kept-reads, guard-test, condition-same}
 
 -- The code's changes
 
-module _ (n i w : ℕ) (ws ws₂ ws₃ : List ℕ) (h : i + 2 ≤ w) (lt : w < n)
-    (e₁ : take (n - 1) ws₂ ≡ remove w (take n (set ws i (getD ws i 0 + 256)))) (e₂ : take (n - 1 - 1) ws₃ ≡ remove (i + 1) (take (n - 1) ws₂)) where
-  gone : take (n - 1 - 1) ws₃ ≡ cleared (take n ws) i w
+module _ (n i w : ℕ) (ws ws₂ : List ℕ) (h : i + 2 ≤ w) (lt : w < n)
+    (e : take (n - 2) ws₂ ≡ remove (i + 1) (remove w (take n (set ws i (getD ws i 0 + 256))))) where
+  gone : take (n - 2) ws₂ ≡ cleared (take n ws) i w
   unfolding cleared
   gone =
-      e₂
-      ∙ ap (remove (i + 1))
-      (e₁ ∙ ap (remove w) (take-set-lt n ws i (getD ws i 0 + 256) (omega arith) ∙ ap (λ v. set (take n ws) i (v + 256)) (sym (getD-take n ws i 0 (omega arith)))))
+      e
+      ∙ ap (λ ys. remove (i + 1) (remove w ys))
+      (take-set-lt n ws i (getD ws i 0 + 256) (omega arith) ∙ ap (λ v. set (take n ws) i (v + 256)) (sym (getD-take n ws i 0 (omega arith))))
 
-  pub words-tests : (r : Bool) → r ≡ all is-out (part (i + 1) (w - 1) (take (n - 1 - 1) ws₃)) → r ≡ all is-out (part (i + 1) (w - 1) (cleared (take n ws) i w))
+  pub words-tests : (r : Bool) → r ≡ all is-out (part (i + 1) (w - 1) (take (n - 2) ws₂)) → r ≡ all is-out (part (i + 1) (w - 1) (cleared (take n ws) i w))
   words-tests r q = rw (← gone) q
 
-  pub words-moved : (ws₄ : List ℕ) → take (n - 1 - 1) ws₄ ≡ on-part (i + 1) (w - 1) moved-out (take (n - 1 - 1) ws₃) → take (n - 2) ws₄ ≡ unwrapped-words (take n ws) i w
-  words-moved ws₄ q =
-      let m : n - 2 ≡ n - 1 - 1 = omega arith in
-      rw (m, ← gone) q
+  pub words-moved : (ws₃ : List ℕ) → take (n - 2) ws₃ ≡ on-part (i + 1) (w - 1) moved-out (take (n - 2) ws₂) → take (n - 2) ws₃ ≡ unwrapped-words (take n ws) i w
+  words-moved ws₃ q = rw (← gone) q
 
 -- Words at a place
 

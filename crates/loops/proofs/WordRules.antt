@@ -5,19 +5,19 @@
 --   init-places      the same of a word, and the search for the initialiser
 --   for-words        the tests of a for header
 -- Assumes nothing.
-use mathlib.Core.Path.{_≡_, sym, ap, _∙_}
+use mathlib.Core.Path.{_≡_, refl, sym, ap, _∙_}
 use mathlib.Core.Bool.{Bool, true, false, _&&_, _||_, cond}
-use mathlib.Core.List.{List, []}
+use mathlib.Core.List.{List, [], _∷_}
 use mathlib.Core.Option.{Option, none, some}
 use Prim.Native.Nat.{ℕ, suc, _+_, _-_, _/_, _≤_, _<_}
 use native.Mathlib.Omega.{arith}
 use borrow.Author.Tests.{le-leb, lt-leb, eq-eqb, ne-eqb}
-use lib.ListN.{length, getD, take}
+use lib.ListN.{length, getD, take, drop}
 use lib.Seq.{getD-take, length-take-le}
 use Rattle.definitions.specs.Lists.{or-else, any, part, position-from, ascii}
-use Rattle.definitions.specs.Model.{Token, Line, token, line}
+use Rattle.definitions.specs.Model.{Token, Line, no-token, token, line}
 use Rattle.definitions.specs.Statements.{is-label, has-kw, call-at, assignment}
-use Rattle.definitions.specs.Family.{fam-of}
+use Rattle.definitions.specs.Family.{Family, fam-of, names}
 use Rattle.definitions.specs.Condition.{condition}
 use Rattle.definitions.specs.ToFor.{is-step}
 use Rattle.definitions.specs.Passes.{lone-brace}
@@ -34,7 +34,9 @@ use Rattle.family.specs.declared.Register.{Register}
 use Rattle.pseudo_types.specs.Cuts.{text-from}
 use Rattle.plan.specs.Plan.{indent-at, piece-at}
 use Rattle.plan.specs.ForLoop.{inits, passes}
-use Rattle.loops.specs.Words.{source-line, at-indent, ends-word, continue-word, closed-words, steps-words, counts-words, init-words, counted-words, place-words}
+use Rattle.loops.specs.declared.for_loops.Ahead.{Ahead}
+use Rattle.loops.specs.declared.for_loops.Ahead.the-variants.{Init, Passing, Other}
+use Rattle.loops.specs.Words.{source-line, at-indent, is-init, is-passing, ends-word, continue-word, closed-words, steps-words, counts-words, init-words, counted-words, place-words}
 
 -- Ends of blocks
 
@@ -97,6 +99,21 @@ pub ruleset continue-words = (continue-at, part-found, part-next, part-end)
 
 -- Initialisers
 
+no-family : (t : Token) → (t .kind ≡ 1 → ⊥) → fam-of t ≡ none
+unfolding fam-of
+no-family t h = rw (ne-eqb (t .kind) 1 h)
+
+pub names-other : (o : Option Family) (t : Token) (k : ℕ) → k ≡ t .kind → (k ≡ 1 → ⊥) → false ≡ names-family o t
+unfolding names
+names-other none t k e h = refl
+names-other (some f) t k e h = rw (no-family t (λ z. h (e ∙ z)), names)
+
+-- where the first token does not, the others do
+rest-whole : (p : Token → Bool) (ts : List Token) → p (getD ts 0 no-token) ≡ false → any p (drop 1 ts) ≡ any p ts
+unfolding any
+rest-whole p [] e = refl
+rest-whole p (t ∷ ts) e = rw e
+
 module _ (p : Token → Bool) (l : Line) (a : Assigned) (e : assigned l a ≡ assignment l) where
   pub inits-none : a ≡ No → false ≡ inits p l
   unfolding inits
@@ -124,19 +141,22 @@ module _ (p : Token → Bool) (l : Line) (a : Assigned) (e : assigned l a ≡ as
     unfolding passes
     passes-own f = rw (← e, q, passes, ← n, f)
 
-    module _ (f : b ≡ false) (c : Bool) (m : c ≡ any p (l .tokens)) where
+    module _ (f : b ≡ false) (c : Bool) (m : c ≡ any p (drop 1 (l .tokens))) where
+      whole : c ≡ any p (l .tokens)
+      whole = m ∙ rest-whole p (l .tokens) (sym n ∙ f)
+
       pub passes-names : c ≡ true → false ≡ passes p l
       unfolding passes
-      passes-names g = rw (← e, q, passes, ← n, f, ← m, g)
+      passes-names g = rw (← e, q, passes, ← n, f, ← whole, g)
 
       module _ (g : c ≡ false) (o : Found) (u : found o ≡ call-at l) where
         pub passes-calls : (k : ℕ) → o ≡ At k → false ≡ passes p l
         unfolding passes
-        passes-calls k t = rw (← e, q, passes, ← n, f, ← m, g, ← u, t)
+        passes-calls k t = rw (← e, q, passes, ← n, f, ← whole, g, ← u, t)
 
         pub passes-is : o ≡ Nothing → true ≡ passes p l
         unfolding passes
-        passes-is t = rw (← e, q, passes, ← n, f, ← m, g, ← u, t)
+        passes-is t = rw (← e, q, passes, ← n, f, ← whole, g, ← u, t)
 
 pub ruleset init-lines = (inits-none, inits-other, inits-reads, inits-is, passes-none, passes-own, passes-names, passes-calls, passes-is)
 
@@ -165,23 +185,23 @@ module _ (C : List Line) (p : Token → Bool) (ws : List ℕ) (ind n k : ℕ) (r
   unfolding init-words
   init-top h e = let z : n ≡ suc (n - 1) = omega arith in sym (inv ∙ rw (z, e))
 
-  module _ (h : 0 < n) (g : k ≡ 0 → ⊥) (b : Bool) (e : b ≡ (at-indent ind (getD ws (k - 1) 0) && inits p (source-line C (getD ws (k - 1) 0)))) where
-    look : r ≡ cond b (some (k - 1)) (cond (at-indent ind (getD ws (k - 1) 0) && passes p (source-line C (getD ws (k - 1) 0))) (init-words C p ws ind (n - 1) (k - 1)) none)
+  module _ (h : 0 < n) (g : k ≡ 0 → ⊥) (a : Ahead) (e : is-init a ≡ (at-indent ind (getD ws (k - 1) 0) && inits p (source-line C (getD ws (k - 1) 0))))
+      (q : is-passing a ≡ (at-indent ind (getD ws (k - 1) 0) && passes p (source-line C (getD ws (k - 1) 0)))) where
+    look : r ≡ cond (is-init a) (some (k - 1)) (cond (is-passing a) (init-words C p ws ind (n - 1) (k - 1)) none)
     unfolding init-words
     look =
         let y : n ≡ suc (n - 1) = omega arith in
         let z : k ≡ suc (k - 1) = omega arith in
-        inv ∙ ap (λ m. init-words C p ws ind m k) y ∙ ap (init-words C p ws ind (suc (n - 1))) z ∙ rw (← e)
+        inv ∙ ap (λ m. init-words C p ws ind m k) y ∙ ap (init-words C p ws ind (suc (n - 1))) z ∙ rw (← e, ← q)
 
-    pub init-here : b ≡ true → some (k - 1) ≡ r
+    pub init-here : a ≡ Init → some (k - 1) ≡ r
     init-here f = sym (look ∙ rw f)
 
-    module _ (f : b ≡ false) (c : Bool) (q : c ≡ (at-indent ind (getD ws (k - 1) 0) && passes p (source-line C (getD ws (k - 1) 0)))) where
-      pub init-next : c ≡ true → r ≡ init-words C p ws ind (n - 1) (k - 1)
-      init-next u = look ∙ rw (f, ← q, u)
+    pub init-next : a ≡ Passing → r ≡ init-words C p ws ind (n - 1) (k - 1)
+    init-next f = look ∙ rw f
 
-      pub init-stop : c ≡ false → none ≡ r
-      init-stop u = sym (look ∙ rw (f, ← q, u))
+    pub init-stop : a ≡ Other → none ≡ r
+    init-stop f = sym (look ∙ rw f)
 
 pub ruleset init-places = (inits-away, passes-away, inits-there, passes-there, init-over, init-top, init-here, init-next, init-stop)
 
@@ -225,17 +245,27 @@ module _ (C : List Line) (ws : List ℕ) (w e : ℕ) (p : Token → Bool) (s : �
     unfolding counts-words
     counts-is g = rw (← q, ← u, f, ← v, g)
 
+both-none : (b : Bool) → _≡_ {A = Option ℕ} (cond b none none) none
+both-none true = refl
+both-none false = refl
+
 module _ (C : List Line) (ws : List ℕ) (w e : ℕ) (m : Line) (r : Register) (g : family-of (token m 0 .text) r ≡ fam-of (token m 0)) (s : List ℕ) (q : s ≡ token m 0 .text)
-    (b : Bool) (u : b ≡ counts-words C ws w e (names-family (family-of s r))) where
+    (i : ℕ) (d : i ≡ indent-at (getD ws w 0)) (o : Found) (v : found o ≡ init-words C (names-family (family-of s r)) ws i 4 w) where
   same-family : family-of s r ≡ fam-of (token m 0)
   same-family = ap (λ s. family-of s r) q ∙ g
 
-  pub counted-no : b ≡ false → none ≡ counted-words C ws w e (names-family (fam-of (token m 0)))
-  counted-no f = rw (← same-family, ← u, f)
+  placed : found o ≡ init-words C (names-family (fam-of (token m 0))) ws (indent-at (getD ws w 0)) 4 w
+  placed = v ∙ rw (← same-family, d)
 
-  pub counted-is : b ≡ true → (i : ℕ) → i ≡ indent-at (getD ws w 0) → (o : Option ℕ) → o ≡ init-words C (names-family (family-of s r)) ws i 4 w
-      → o ≡ counted-words C ws w e (names-family (fam-of (token m 0)))
-  counted-is f i d o v = v ∙ rw (← same-family, ← u, f, d)
+  pub counted-none : o ≡ Nothing → none ≡ counted-words C ws w e (names-family (fam-of (token m 0)))
+  counted-none u = sym (rw (← placed, u) (both-none (counts-words C ws w e (names-family (fam-of (token m 0))))))
+
+  module _ (k : ℕ) (u : o ≡ At k) (b : Bool) (t : b ≡ counts-words C ws w e (names-family (family-of s r))) where
+    pub counted-no : b ≡ false → none ≡ counted-words C ws w e (names-family (fam-of (token m 0)))
+    counted-no f = rw (← same-family, ← t, f)
+
+    pub counted-is : b ≡ true → some k ≡ counted-words C ws w e (names-family (fam-of (token m 0)))
+    counted-is f = ap found (sym u) ∙ placed ∙ rw (← same-family, ← t, f)
 
 module _ (C : List Line) (ws : List ℕ) (w e : ℕ) (b : Bool) (u : b ≡ closed-words C ws w e) where
   pub place-open : b ≡ false → none ≡ place-words C ws w e
@@ -252,4 +282,4 @@ module _ (C : List Line) (ws : List ℕ) (w e : ℕ) (b : Bool) (u : b ≡ close
     unfolding place-words
     place-is g s q o d = d ∙ rw (← u, f, ← v, g, q)
 
-pub ruleset for-words = (closed-short, closed-other, closed-is, steps-other, steps-is, counts-no, counts-continue, counts-is, counted-no, counted-is, place-open, place-still, place-is)
+pub ruleset for-words = (closed-short, closed-other, closed-is, steps-other, steps-is, counts-no, counts-continue, counts-is, counted-none, counted-no, counted-is, place-open, place-still, place-is)

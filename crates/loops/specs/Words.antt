@@ -6,6 +6,7 @@
 --   ends-word C ind w          `ends` of a kept line
 --   continue-word C w          it has the keyword continue
 --   closed-words, steps-words, counts-words, for-words    the tests of `for-tests`
+--   is-init a, is-passing a    the answer a says that a line is an initialiser; that it may stand behind one
 --   init-words C p ws ind n k  `init-from` of the lines before place k
 --   counted-words C ws w e p   the same, where the header at w counts p
 --   place-words C ws w e       the place of the initialiser, where the header at w becomes a for header
@@ -16,7 +17,7 @@
 -- Assumes nothing.
 use Prim.Native.Nat.{ℕ, zero, suc, _+_, _-_, _/_}
 use mathlib.Core.Path.{_≡_}
-use mathlib.Core.Bool.{Bool, true, cond, _&&_, not}
+use mathlib.Core.Bool.{Bool, true, false, cond, _&&_, not}
 use mathlib.Core.List.{List, []}
 use mathlib.Core.Option.{Option, none, some}
 use lib.Dec.{eqb, leb, ltb}
@@ -34,6 +35,8 @@ use Rattle.pseudo_types.specs.Cuts.{text-from, same-condition}
 use Rattle.plan.specs.Plan.{indent-at, header-at, piece-at}
 use Rattle.plan.specs.Changes.{is-plain}
 use Rattle.plan.specs.ForLoop.{inits, passes, has-continue}
+use Rattle.loops.specs.declared.for_loops.Ahead.{Ahead}
+use Rattle.loops.specs.declared.for_loops.Ahead.the-variants.{Init, Passing, Other}
 
 abbrev pub source-line : List Line → ℕ → Line
 source-line C w = line C (piece-at w / 4)
@@ -64,6 +67,16 @@ counts-words C ws w e p =
 
 abbrev pub at-indent : ℕ → ℕ → Bool
 at-indent ind w = eqb (indent-at w) ind && eqb (header-at w) 0
+
+abbrev pub is-init : Ahead → Bool
+is-init Init = true
+is-init Passing = false
+is-init Other = false
+
+abbrev pub is-passing : Ahead → Bool
+is-passing Init = false
+is-passing Passing = true
+is-passing Other = false
 
 unfoldable pub init-words : List Line → (Token → Bool) → List ℕ → ℕ → ℕ → ℕ → Option ℕ
 init-words C p ws ind zero k = none

@@ -3,18 +3,19 @@
 ghost use mathlib.Core.Path.{_≡_};
 ghost use mathlib.Core.Bool.{true, _&&_};
 ghost use Prim.Native.Nat.{_+_, _≤_, _<_};
-ghost use lib.ListN.{length, getD, take};
+ghost use lib.ListN.{length, getD, take, drop};
 ghost use Rattle.definitions.specs.Lists.{any, part, position-from};
-ghost use Rattle.definitions.specs.Model.{Line, token, line};
+ghost use Rattle.definitions.specs.Model.{token, line};
 ghost use Rattle.definitions.specs.Columns.{listing};
 ghost use Rattle.definitions.specs.Questions.{question-2};
 ghost use Rattle.definitions.specs.Family.{fam-of};
 ghost use Rattle.family.specs.Register.{family-of, names-family};
+ghost use Rattle.line_keywords.specs.Masks.{Masks};
 ghost use Rattle.pseudo_opt.specs.Places.{found};
 ghost use Rattle.plan.specs.Plan.{header-at};
 ghost use Rattle.plan.specs.ForLoop.{inits, passes};
 ghost use Rattle.loops.specs.Turns.{ToFor};
-ghost use Rattle.loops.specs.Words.{source-line, Ready, at-indent, ends-word, continue-word, closed-words, steps-words, counts-words, init-words, counted-words, place-words};
+ghost use Rattle.loops.specs.Words.{source-line, Ready, at-indent, is-init, is-passing, ends-word, continue-word, closed-words, steps-words, counts-words, init-words, counted-words, place-words};
 use assignment::Assigned;
 use assignment::assignment;
 use family::Register;
@@ -65,21 +66,31 @@ pub fn first_end(
     Found::Nothing
 }
 
-fn continues_at(lines: &[u32], tokens: &[u32], text: &[u8], w: usize) -> bool
+fn continues_at(lines: &[u32], tokens: &[u32], text: &[u8], masks: &[u8], w: usize) -> bool
+    requires { ⌜ Masks (listing (now lines) (now tokens) (now text)) (now masks) ⌝ }
     ensures { λ r. ⌜ r ≡ continue-word (listing (now (lines .entry)) (now (tokens .entry)) (now (text .entry))) w ⌝ }
 {
-    pseudo_opt::keywords::has_kw(lines, tokens, text, source(w), b"continue")
+    line_keywords::has_continue(lines, tokens, text, masks, source(w))
 }
 
 // A line from place a up to place e has the keyword continue.
-fn continues(lines: &[u32], tokens: &[u32], text: &[u8], plan: &[usize], a: usize, e: usize) -> bool
+fn continues(
+    lines: &[u32],
+    tokens: &[u32],
+    text: &[u8],
+    masks: &[u8],
+    plan: &[usize],
+    a: usize,
+    e: usize,
+) -> bool
     requires { ⌜ e ≤ length (now plan) ⌝ }
+    requires { ⌜ Masks (listing (now lines) (now tokens) (now text)) (now masks) ⌝ }
     ensures { λ r. ⌜ r ≡ any (continue-word (listing (now (lines .entry)) (now (tokens .entry)) (now (text .entry)))) (part a e (now (plan .entry))) ⌝ }
 {
     let mut j = a;
     while j < e {
         let w = plan[j];
-        if continues_at(lines, tokens, text, w) {
+        if continues_at(lines, tokens, text, masks, w) {
             return true;
         }
         j += 1;
@@ -87,44 +98,76 @@ fn continues(lines: &[u32], tokens: &[u32], text: &[u8], plan: &[usize], a: usiz
     false
 }
 
-// Line i assigns the family that the answer r of the text s is, and its right side does not name it.
-fn inits(lines: &[u32], tokens: &[u32], text: &[u8], i: usize, s: &[u8], r: Register) -> bool
+// What a line before a header is: the initialiser, an assignment that may stand behind it, or neither.
+pub enum Ahead {
+    Init,
+    Passing,
+    Other,
+}
+
+// Token j of line i names the family that the answer r of the text s is. Only a register is looked up.
+fn names_at(
+    lines: &[u32],
+    tokens: &[u32],
+    text: &[u8],
+    i: usize,
+    j: usize,
+    s: &[u8],
+    r: Register,
+) -> bool
     ensures { λ y.
-        ⌜ (let C = listing (now (lines .entry)) (now (tokens .entry)) (now (text .entry)) in
-        y ≡ inits (names-family (family-of (now (s .entry)) r)) (line C i)) ⌝ }
+        ⌜ (let l = line (listing (now (lines .entry)) (now (tokens .entry)) (now (text .entry))) i in
+        y ≡ names-family (family-of (now (s .entry)) r) (token l j)) ⌝ }
 {
-    let Assigned::Side { from, to } = assignment(lines, tokens, text, i) else {
-        return false;
-    };
-    if pseudo_opt::registers::token_names(lines, tokens, text, i, 0, s, r) {
-        if assignment::definition::side_names(lines, tokens, text, i, from, to, s, r) {
-            false
-        } else {
-            true
-        }
+    if model::columns::kind(lines, tokens, text, i, j) == 1 {
+        pseudo_opt::registers::token_names(lines, tokens, text, i, j, s, r)
     } else {
         false
     }
 }
 
-// Line i assigns another family, does not name this one, and does not call.
-fn passes(lines: &[u32], tokens: &[u32], text: &[u8], i: usize, s: &[u8], r: Register) -> bool
+// A token of line i behind the first names it.
+fn rest_names(lines: &[u32], tokens: &[u32], text: &[u8], i: usize, s: &[u8], r: Register) -> bool
+    ensures { λ y.
+        ⌜ (let l = line (listing (now (lines .entry)) (now (tokens .entry)) (now (text .entry))) i in
+        y ≡ any (names-family (family-of (now (s .entry)) r)) (drop 1 (l .tokens))) ⌝ }
+{
+    let n = model::columns::token_count(lines, tokens, text, i);
+    let mut j = 1;
+    while j < n {
+        if names_at(lines, tokens, text, i, j, s, r) {
+            return true;
+        }
+        j += 1;
+    }
+    false
+}
+
+// What line i is: it assigns this family, and its right side does not name it; or it assigns another, does not name this one, and does not
+// call; or neither.
+fn before(lines: &[u32], tokens: &[u32], text: &[u8], i: usize, s: &[u8], r: Register) -> Ahead
     ensures { λ y.
         ⌜ (let C = listing (now (lines .entry)) (now (tokens .entry)) (now (text .entry)) in
-        y ≡ passes (names-family (family-of (now (s .entry)) r)) (line C i)) ⌝ }
+        is-init y ≡ inits (names-family (family-of (now (s .entry)) r)) (line C i)) ⌝ }
+    ensures { λ y.
+        ⌜ (let C = listing (now (lines .entry)) (now (tokens .entry)) (now (text .entry)) in
+        is-passing y ≡ passes (names-family (family-of (now (s .entry)) r)) (line C i)) ⌝ }
 {
-    let Assigned::Side { from: _, to: _ } = assignment(lines, tokens, text, i) else {
-        return false;
+    let Assigned::Side { from, to } = assignment(lines, tokens, text, i) else {
+        return Ahead::Other;
     };
     if pseudo_opt::registers::token_names(lines, tokens, text, i, 0, s, r) {
-        return false;
+        if assignment::definition::side_names(lines, tokens, text, i, from, to, s, r) {
+            return Ahead::Other;
+        }
+        return Ahead::Init;
     }
-    if pseudo_opt::registers::line_names(lines, tokens, text, i, s, r) {
-        return false;
+    if rest_names(lines, tokens, text, i, s, r) {
+        return Ahead::Other;
     }
     match pseudo_opt::calls::call_at(lines, tokens, text, i) {
-        Found::At(_) => false,
-        Found::Nothing => true,
+        Found::At(_) => Ahead::Other,
+        Found::Nothing => Ahead::Passing,
     }
 }
 
@@ -139,8 +182,8 @@ fn at_indent(w: usize, ind: usize) -> bool
     }
 }
 
-// The line of w, at indent `ind`, is an initialiser.
-fn inits_at(
+// The same of the line of w, which is neither where it does not stand at indent `ind` or is a header.
+fn before_at(
     lines: &[u32],
     tokens: &[u32],
     text: &[u8],
@@ -148,36 +191,18 @@ fn inits_at(
     ind: usize,
     s: &[u8],
     r: Register,
-) -> bool
+) -> Ahead
     ensures { λ y.
         ⌜ (let C = listing (now (lines .entry)) (now (tokens .entry)) (now (text .entry)) in
-        y ≡ (at-indent ind w && inits (names-family (family-of (now (s .entry)) r)) (source-line C w))) ⌝ }
-{
-    if at_indent(w, ind) {
-        inits(lines, tokens, text, source(w), s, r)
-    } else {
-        false
-    }
-}
-
-// It may stand between the initialiser and the header.
-fn passes_at(
-    lines: &[u32],
-    tokens: &[u32],
-    text: &[u8],
-    w: usize,
-    ind: usize,
-    s: &[u8],
-    r: Register,
-) -> bool
+        is-init y ≡ (at-indent ind w && inits (names-family (family-of (now (s .entry)) r)) (source-line C w))) ⌝ }
     ensures { λ y.
         ⌜ (let C = listing (now (lines .entry)) (now (tokens .entry)) (now (text .entry)) in
-        y ≡ (at-indent ind w && passes (names-family (family-of (now (s .entry)) r)) (source-line C w))) ⌝ }
+        is-passing y ≡ (at-indent ind w && passes (names-family (family-of (now (s .entry)) r)) (source-line C w))) ⌝ }
 {
     if at_indent(w, ind) {
-        passes(lines, tokens, text, source(w), s, r)
+        before(lines, tokens, text, source(w), s, r)
     } else {
-        false
+        Ahead::Other
     }
 }
 
@@ -204,14 +229,13 @@ fn initialiser(
             return Found::Nothing;
         }
         let v = plan[k - 1];
-        if inits_at(lines, tokens, text, v, ind, s, r) {
-            return Found::At(k - 1);
-        }
-        if passes_at(lines, tokens, text, v, ind, s, r) {
-            k -= 1;
-            left -= 1;
-        } else {
-            return Found::Nothing;
+        match before_at(lines, tokens, text, v, ind, s, r) {
+            Ahead::Init => return Found::At(k - 1),
+            Ahead::Passing => {
+                k -= 1;
+                left -= 1;
+            }
+            Ahead::Other => return Found::Nothing,
         }
     }
     Found::Nothing
@@ -258,6 +282,7 @@ fn counts(
     lines: &[u32],
     tokens: &[u32],
     text: &[u8],
+    masks: &[u8],
     plan: &[usize],
     w: usize,
     e: usize,
@@ -265,13 +290,14 @@ fn counts(
     r: Register,
 ) -> bool
     requires { ⌜ (w < length (now plan)) × (e < length (now plan)) ⌝ }
+    requires { ⌜ Masks (listing (now lines) (now tokens) (now text)) (now masks) ⌝ }
     ensures { λ y.
         ⌜ (let C = listing (now (lines .entry)) (now (tokens .entry)) (now (text .entry)) in
         y ≡ counts-words C (now (plan .entry)) w e (names-family (family-of (now (s .entry)) r))) ⌝ }
 {
     let h = plan[w];
     if pseudo_types::conditions::condition_names(lines, tokens, text, source(h), s, r) {
-        if continues(lines, tokens, text, plan, w + 1, e) {
+        if continues(lines, tokens, text, masks, plan, w + 1, e) {
             false
         } else {
             true
@@ -281,17 +307,20 @@ fn counts(
     }
 }
 
-// The place of the initialiser of the register that line i steps, where the header at place w counts it.
+// The place of the initialiser of the register that line i steps, where the header at place w counts it. The initialiser is asked for first:
+// it stands among four lines, and `counts` looks through the whole body.
 fn counted_place(
     lines: &[u32],
     tokens: &[u32],
     text: &[u8],
+    masks: &[u8],
     plan: &[usize],
     w: usize,
     e: usize,
     i: usize,
 ) -> Found
     requires { ⌜ (w < length (now plan)) × (e < length (now plan)) ⌝ }
+    requires { ⌜ Masks (listing (now lines) (now tokens) (now text)) (now masks) ⌝ }
     ensures { λ y.
         ⌜ (let C = listing (now (lines .entry)) (now (tokens .entry)) (now (text .entry)) in
         let p = names-family (fam-of (token (line C i) 0)) in
@@ -299,9 +328,12 @@ fn counted_place(
 {
     let r = pseudo_opt::registers::register_at(lines, tokens, text, i, 0);
     let s = model::columns::text_at(lines, tokens, text, i, 0);
-    if counts(lines, tokens, text, plan, w, e, s, r) {
-        let h = plan[w];
-        initialiser(lines, tokens, text, plan, w, indent(h), s, r)
+    let h = plan[w];
+    let Found::At(k) = initialiser(lines, tokens, text, plan, w, indent(h), s, r) else {
+        return Found::Nothing;
+    };
+    if counts(lines, tokens, text, masks, plan, w, e, s, r) {
+        Found::At(k)
     } else {
         Found::Nothing
     }
@@ -312,18 +344,20 @@ fn for_place(
     lines: &[u32],
     tokens: &[u32],
     text: &[u8],
+    masks: &[u8],
     plan: &[usize],
     w: usize,
     e: usize,
 ) -> Found
     requires { ⌜ (w < length (now plan)) × (e < length (now plan)) × (question-2 (now lines) (now tokens) (now text) ≡ true) × (w < e) ⌝ }
+    requires { ⌜ Masks (listing (now lines) (now tokens) (now text)) (now masks) ⌝ }
     ensures { λ y. ⌜ found y ≡ place-words (listing (now (lines .entry)) (now (tokens .entry)) (now (text .entry))) (now (plan .entry)) w e ⌝ }
 {
     if closed_body(lines, tokens, text, plan, w, e) {
         let h = plan[w];
         let z = plan[e - 1];
         if steps(lines, tokens, text, h, z) {
-            return counted_place(lines, tokens, text, plan, w, e, source(z));
+            return counted_place(lines, tokens, text, masks, plan, w, e, source(z));
         }
     }
     Found::Nothing
@@ -334,12 +368,14 @@ pub fn to_for(
     lines: &[u32],
     tokens: &[u32],
     text: &[u8],
+    masks: &[u8],
     plan: &mut [usize],
     n: usize,
     w: usize,
 ) -> usize
     requires { ⌜ (w < n) × (n ≤ length (now plan)) × (question-2 (now lines) (now tokens) (now text) ≡ true) ⌝ }
     requires { ⌜ (header-at (getD (now plan) w 0) ≡ 1) × Ready (w + 1) (take n (now plan)) ⌝ }
+    requires { ⌜ Masks (listing (now lines) (now tokens) (now text)) (now masks) ⌝ }
     ensures { λ r. ⌜ ToFor (now (lines .entry)) (now (tokens .entry)) (now (text .entry)) w n (now (plan .entry)) r (now (plan .exit)) ⌝ }
 {
     if w == 0 {
@@ -349,7 +385,7 @@ pub fn to_for(
     let Found::At(e) = first_end(lines, tokens, text, plan, n, w + 1, indent(h)) else {
         return n;
     };
-    let Found::At(k) = for_place(lines, tokens, text, plan, w, e) else {
+    let Found::At(k) = for_place(lines, tokens, text, masks, plan, w, e) else {
         return n;
     };
     make_for(plan, n, w, e, k);

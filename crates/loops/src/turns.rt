@@ -10,6 +10,7 @@ ghost use Rattle.definitions.specs.Columns.{listing};
 ghost use Rattle.definitions.specs.Questions.{question-2};
 ghost use Rattle.definitions.specs.Condition.{condition};
 ghost use Rattle.definitions.specs.RecoverLoops.{unwrapped, rebuilt, close-at, close, loop-turn, recover-loops};
+ghost use Rattle.line_keywords.specs.Masks.{Masks};
 ghost use Rattle.plan.specs.Plan.{header-at};
 ghost use Rattle.plan.specs.Changes.{is-out};
 ghost use Rattle.plan.specs.Source.{Source};
@@ -87,9 +88,8 @@ fn unwrap(plan: &mut [usize], n: usize, i: usize, w: usize) -> bool
 {
     let g = plan[i];
     plan[i] = g + 256;
-    plan::remove(plan, n, w);
-    plan::remove(plan, n - 1, i + 1);
-    plan::move_out(plan, n - 1 - 1, i + 1, w - 1)
+    plan::remove_two(plan, n, i + 1, w);
+    plan::move_out(plan, n - 2, i + 1, w - 1)
 }
 
 // The same, and the while header becomes a for header, where it can.
@@ -97,6 +97,7 @@ fn rebuild(
     lines: &[u32],
     tokens: &[u32],
     text: &[u8],
+    masks: &[u8],
     plan: &mut [usize],
     n: usize,
     i: usize,
@@ -104,12 +105,13 @@ fn rebuild(
 ) -> Turn
     requires { ⌜ (i + 2 ≤ w) × (w + 1 < n) × (n ≤ length (now plan)) × (question-2 (now lines) (now tokens) (now text) ≡ true) ⌝ }
     requires { ⌜ Ready i (take n (now plan)) ⌝ }
+    requires { ⌜ Masks (listing (now lines) (now tokens) (now text)) (now masks) ⌝ }
     ensures { λ r.
         ⌜ Turn-of (now (lines .entry)) (now (tokens .entry)) (now (text .entry))
         (λ M. rebuilt (unwrapped M i w (or-else (condition (line M i) (ascii "if")) [])) i (w - 1)) n i (now (plan .entry)) r (now (plan .exit)) ⌝ }
 {
     if unwrap(plan, n, i, w) {
-        let m = to_for(lines, tokens, text, plan, n - 2, i);
+        let m = to_for(lines, tokens, text, masks, plan, n - 2, i);
         Turn::Go(m)
     } else {
         Turn::Beyond
@@ -121,6 +123,7 @@ fn close_at(
     lines: &[u32],
     tokens: &[u32],
     text: &[u8],
+    masks: &[u8],
     plan: &mut [usize],
     n: usize,
     i: usize,
@@ -128,20 +131,30 @@ fn close_at(
 ) -> Turn
     requires { ⌜ (i + 2 ≤ w) × (w < n) × (n ≤ length (now plan)) × (question-2 (now lines) (now tokens) (now text) ≡ true) ⌝ }
     requires { ⌜ Ready i (take n (now plan)) ⌝ }
+    requires { ⌜ Masks (listing (now lines) (now tokens) (now text)) (now masks) ⌝ }
     ensures { λ r.
         ⌜ Turn-of (now (lines .entry)) (now (tokens .entry)) (now (text .entry)) (λ M. close-at M i w) n i (now (plan .entry)) r (now (plan .exit)) ⌝ }
 {
     if guarded(lines, tokens, text, plan, n, i, w) {
-        rebuild(lines, tokens, text, plan, n, i, w)
+        rebuild(lines, tokens, text, masks, plan, n, i, w)
     } else {
         Turn::Go(n)
     }
 }
 
 // The close is the first non-label line from i + 2 with indent at most one above the guard's; if there is none the whole pass stops.
-fn close(lines: &[u32], tokens: &[u32], text: &[u8], plan: &mut [usize], n: usize, i: usize) -> Turn
+fn close(
+    lines: &[u32],
+    tokens: &[u32],
+    text: &[u8],
+    masks: &[u8],
+    plan: &mut [usize],
+    n: usize,
+    i: usize,
+) -> Turn
     requires { ⌜ (i + 1 < n) × (n ≤ length (now plan)) × (question-2 (now lines) (now tokens) (now text) ≡ true) ⌝ }
     requires { ⌜ Ready i (take n (now plan)) ⌝ }
+    requires { ⌜ Masks (listing (now lines) (now tokens) (now text)) (now masks) ⌝ }
     ensures { λ r.
         ⌜ Turn-of (now (lines .entry)) (now (tokens .entry)) (now (text .entry)) (λ M. close M i) n i (now (plan .entry)) r (now (plan .exit)) ⌝ }
 {
@@ -149,7 +162,7 @@ fn close(lines: &[u32], tokens: &[u32], text: &[u8], plan: &mut [usize], n: usiz
     let Found::At(w) = first_end(lines, tokens, text, plan, n, i + 2, indent(g) + 1) else {
         return Turn::Stop;
     };
-    close_at(lines, tokens, text, plan, n, i, w)
+    close_at(lines, tokens, text, masks, plan, n, i, w)
 }
 
 // The line of g is a guard, and the line of d one indent deeper.
@@ -165,10 +178,11 @@ fn opens(lines: &[u32], tokens: &[u32], text: &[u8], g: usize, d: usize) -> bool
 }
 
 // The line of d has the keyword do.
-fn is_do(lines: &[u32], tokens: &[u32], text: &[u8], d: usize) -> bool
+fn is_do(lines: &[u32], tokens: &[u32], text: &[u8], masks: &[u8], d: usize) -> bool
+    requires { ⌜ Masks (listing (now lines) (now tokens) (now text)) (now masks) ⌝ }
     ensures { λ r. ⌜ r ≡ do-word (listing (now (lines .entry)) (now (tokens .entry)) (now (text .entry))) d ⌝ }
 {
-    pseudo_opt::keywords::has_kw(lines, tokens, text, source(d), b"do")
+    line_keywords::has_do(lines, tokens, text, masks, source(d))
 }
 
 // One turn at place i.
@@ -176,31 +190,40 @@ fn loop_turn(
     lines: &[u32],
     tokens: &[u32],
     text: &[u8],
+    masks: &[u8],
     plan: &mut [usize],
     n: usize,
     i: usize,
 ) -> Turn
     requires { ⌜ (i + 1 < n) × (n ≤ length (now plan)) × (question-2 (now lines) (now tokens) (now text) ≡ true) ⌝ }
     requires { ⌜ Ready i (take n (now plan)) ⌝ }
+    requires { ⌜ Masks (listing (now lines) (now tokens) (now text)) (now masks) ⌝ }
     ensures { λ r.
         ⌜ Turn-of (now (lines .entry)) (now (tokens .entry)) (now (text .entry)) (λ M. loop-turn M i) n i (now (plan .entry)) r (now (plan .exit)) ⌝ }
 {
     let g = plan[i];
     let d = plan[i + 1];
-    if is_do(lines, tokens, text, d) {
+    if is_do(lines, tokens, text, masks, d) {
         if indent(g) == 255 {
             return Turn::Beyond;
         }
         if opens(lines, tokens, text, g, d) {
-            return close(lines, tokens, text, plan, n, i);
+            return close(lines, tokens, text, masks, plan, n, i);
         }
     }
     Turn::Go(n)
 }
 
 // The pass, turn by turn.
-pub fn plan_loops(lines: &[u32], tokens: &[u32], text: &[u8], plan: &mut [usize]) -> Planned
+pub fn plan_loops(
+    lines: &[u32],
+    tokens: &[u32],
+    text: &[u8],
+    masks: &[u8],
+    plan: &mut [usize],
+) -> Planned
     requires { ⌜ (length (now lines) ≤ 1024) × (length (now lines) ≤ length (now plan)) × (question-2 (now lines) (now tokens) (now text) ≡ true) ⌝ }
+    requires { ⌜ Masks (listing (now lines) (now tokens) (now text)) (now masks) ⌝ }
     ensures { λ r.
         ⌜ ((S : List Line) → Source S (now (lines .entry)) (now (tokens .entry)) (now (text .entry)) → planned S (now (plan .exit)) r ≡ recover-loops S) ⌝ }
     ensures { λ r. ⌜ Emitted (length (now (lines .entry))) (now (plan .exit)) r ⌝ }
@@ -209,7 +232,7 @@ pub fn plan_loops(lines: &[u32], tokens: &[u32], text: &[u8], plan: &mut [usize]
     let mut n = lines.len();
     let mut i = 0;
     while i + 1 < n {
-        match loop_turn(lines, tokens, text, plan, n, i) {
+        match loop_turn(lines, tokens, text, masks, plan, n, i) {
             Turn::Go(m) => {
                 n = m;
             }

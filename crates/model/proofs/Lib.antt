@@ -2,5 +2,3 @@ pub mod Ands
 pub mod Decode
 pub mod Formed
 pub mod Access
-pub mod Asked
-pub mod Ascii

@@ -1,4 +1,2 @@
 pub mod Places
 pub mod Addresses
-pub mod Refusals
-pub mod Bounds

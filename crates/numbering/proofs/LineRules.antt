@@ -25,15 +25,15 @@ use Rattle.text.specs.Zeroed.{zeroed}
 use Rattle.definitions.specs.Questions.{space-words}
 use Rattle.definitions.specs.Sweeps.{sweeps}
 use Rattle.bits.specs.Edges.{row-words, Agree, preds-of}
-use Rattle.sweep.specs.Layout.{Room}
-use Rattle.sweep.specs.Numbers.{defining-lines, Numbered, Counted}
+use Rattle.visit.specs.Layout.{Room}
+use Rattle.visit.specs.Numbers.{defining-lines, Numbered, Counted}
 use Rattle.sweep.specs.Solved.{Solved, answer}
 use Rattle.sweep.specs.declared.Sweeps.{Sweeps}
 use Rattle.sweep.specs.declared.Sweeps.the-variants.{Done, OverBudget}
-use Rattle.sweep.proofs.LayoutLaws.{room, room-same, kept-preds, kept-both}
+use Rattle.visit.proofs.LayoutLaws.{room, room-same, kept-preds, kept-both}
 use Rattle.recover.specs.Numbers.{earlier}
 use Rattle.recover.specs.Reaching.{Swept, Sized, reach-numbers, linked, FamilyReps, ReadWeb}
-use Rattle.recover.proofs.Lists.{any-snoc}
+use Rattle.families.proofs.Lists.{any-snoc}
 use Rattle.numbering.specs.Lines.{own-number, read-number, Below, Owned, Reads, LineNumbers, SolvedLines, FamilyLines}
 
 -- `number_defs`

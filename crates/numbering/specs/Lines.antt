@@ -17,7 +17,7 @@ use lib.ListN.{length, getD}
 use Rattle.definitions.specs.Lists.{up-to, member, or-else, first}
 use Rattle.definitions.specs.Sweeps.{sweeps}
 use Rattle.bits.specs.Edges.{preds-of}
-use Rattle.sweep.specs.Numbers.{defining-lines, lines-of, Numbered}
+use Rattle.visit.specs.Numbers.{defining-lines, lines-of, Numbered}
 use Rattle.sweep.specs.Solved.{answer}
 use Rattle.sweep.specs.declared.Sweeps.{Sweeps}
 use Rattle.recover.specs.Numbers.{earlier}

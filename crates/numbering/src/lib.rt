@@ -7,18 +7,18 @@ ghost use Prim.Native.Nat.{_+_, _/_, _<_, _≤_};
 ghost use lib.ListN.{length};
 ghost use Rattle.definitions.specs.Questions.{space-words};
 ghost use Rattle.bits.specs.Edges.{row-words, Agree};
-ghost use Rattle.sweep.specs.Layout.{Room};
-ghost use Rattle.sweep.specs.Numbers.{Numbered};
+ghost use Rattle.visit.specs.Layout.{Room};
+ghost use Rattle.visit.specs.Numbers.{Numbered};
 ghost use Rattle.recover.specs.Numbers.{Ranked};
 ghost use Rattle.recover.specs.Reaching.{Swept, Sized};
 ghost use Rattle.numbering.specs.Lines.{Below, Owned, Reads, LineNumbers, SolvedLines, FamilyLines, Scratch};
 use recover::numbers::family_reps;
 use recover::numbers::read_web;
 use recover::numbers::web_of;
-use recover::words::narrow;
-use recover::words::number;
-use recover::words::zero;
 use sweep::Sweeps;
+use words::narrow;
+use words::number;
+use words::zero;
 
 // The number of the definition on each line.
 fn number_defs(nums: &[u16], rep: &[u16], rank: &[u16], own: &mut [u16])

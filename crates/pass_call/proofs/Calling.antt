@@ -31,7 +31,7 @@ use Rattle.text.specs.Zeroed.{zeroed}
 use Rattle.model.specs.Places.{token-start}
 use Rattle.model.proofs.Decode.{length-listing, length-tokens}
 use Rattle.model.proofs.Formed.{formed-lines, formed-tokens, all-tokens-listing, run-text}
-use Rattle.model.specs.Refusals.{refused as number}
+use Rattle.questions.specs.Refusals.{refused as number}
 use Rattle.write.specs.State.{done}
 use Rattle.write.specs.Holds.{columns, Holds, Room, Finished}
 use Rattle.write.specs.declared.Cursor.{Cursor}

@@ -12,12 +12,12 @@ ghost use Rattle.definitions.specs.Lists.{all};
 ghost use Rattle.definitions.specs.Questions.{question-2};
 ghost use Rattle.definitions.specs.Answers.{accepted, refused as refuse};
 ghost use Rattle.definitions.specs.Calls.{has-room, pass-refusal, passed, zero-columns};
-ghost use Rattle.model.specs.Refusals.{at-most, refused};
+ghost use Rattle.questions.specs.Refusals.{at-most, refused};
 ghost use Rattle.plan.specs.Plan.{render};
 ghost use Rattle.emit.specs.Lines.{is-sound};
 ghost use Rattle.write.specs.Holds.{columns};
 ghost use Rattle.pass_call.specs.Answers.{answered, passed-with, pass-questions, source, Writable};
-use model::questions::Limits;
+use questions::Limits;
 
 // What a call answers: the counts of lines, tokens and bytes, or which question was answered no.
 pub enum Answer {
@@ -65,7 +65,7 @@ fn is_formed(lines: &[u32], addresses: &[u64], tokens: &[u32], text: &[u8]) -> b
         r ≡ (eqb (length (now (addresses .entry))) (length l) && question-2 l (now (tokens .entry)) (now (text .entry)))) ⌝ }
 {
     if addresses.len() == lines.len() {
-        model::questions::question_2(lines, tokens, text)
+        questions::question_2(lines, tokens, text)
     } else {
         false
     }
@@ -89,9 +89,9 @@ fn pass_refusal(
         (columns (now (rows .entry)) (now (places .entry)) (now (words .entry)) (now (bytes .entry))) ⌝ }
     ensures { λ r. ⌜ r ≤ 4 ⌝ }
 {
-    if model::questions::question_1(lines, tokens, text, most) {
+    if questions::question_1(lines, tokens, text, most) {
         if is_formed(lines, addresses, tokens, text) {
-            if model::questions::question_3(tokens, text) {
+            if questions::question_3(tokens, text) {
                 if has_room(lines, addresses, tokens, text, rows, places, words, bytes) {
                     return 0;
                 }

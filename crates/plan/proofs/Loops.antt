@@ -1,13 +1,15 @@
 -- The loops over a plan's words; each invariant is what is left to do.
 --   Removing n i ws₀ ws j    removing word j of ws is removing word i of ws₀, of the first n
+--   Sliding n i w ws₀ ws j    the same with word w removed too
+--   Closing n w ws₀ ws k    removing words k and k + 1 of ws is removing words w - 1 and w of ws₀
 --   Moving n a e ws₀ ws k    moving out the lines from k on of ws is moving out those from a on of ws₀
 --   Starting l ws k          the first k words are those of the first k lines
---   removing, moving, starting    the rules for `search`
+--   removing, sliding, closing, moving, starting    the rules for `search`
 --   length-kept, kept-at     the words of the lines as they are
---   made-for                 a word removed, the header stored, a word removed: a for header is made
+--   made-for                 the header stored, two words removed: a for header is made
 -- Assumes nothing.
 use Prim.Native.Nat.{ℕ, zero, suc, _+_, _-_, _*_, _%_, _≤_, _<_}
-use mathlib.Core.Path.{_≡_, refl, sym, ap, subst, _∙_}
+use mathlib.Core.Path.{_≡_, refl, sym, ap, ap₂, subst, _∙_}
 use mathlib.Core.List.{List, [], _∷_, _++_, map}
 use mathlib.Core.Bool.{Bool, true, false, _&&_}
 use native.Mathlib.Omega.{arith}
@@ -41,6 +43,42 @@ module _ {A : Type 0} where
       go zero (x ∷ xs) h = refl
       go (suc n) (x ∷ xs) h = ap (λ ys. x ∷ ys) (go n xs (omega arith))
 
+  -- a removal as `take` and `drop` go by their clauses
+  abbrev cut : ℕ → List A → List A
+  cut k xs = take k xs ++ drop (suc k) xs
+
+  remove-cut : (k : ℕ) (xs : List A) → remove k xs ≡ cut k xs
+  remove-cut k xs = simp add-one
+
+  two-cut : (i k : ℕ) (xs : List A) → remove i (remove k xs) ≡ cut i (cut k xs)
+  two-cut i k xs = remove-cut i (remove k xs) ∙ ap (cut i) (remove-cut k xs)
+
+  -- word j + 1 moved to j, and then j + 1 removed, is j removed: before w, which is removed too
+  slide-shift : (d : A) (j w : ℕ) (xs : List A) → suc j < w → w < length xs → cut (suc j) (cut w (set xs j (getD xs (suc j) d))) ≡ cut j (cut w xs)
+  slide-shift d j w [] h b = absurd (omega arith)
+  slide-shift d j zero (x ∷ xs) h b = absurd (omega arith)
+  slide-shift d zero (suc zero) (x ∷ xs) h b = absurd (omega arith)
+  slide-shift d zero (suc (suc w)) (x ∷ []) h b = absurd (omega arith)
+  slide-shift d zero (suc (suc w)) (x ∷ (y ∷ xs)) h b = refl
+  slide-shift d (suc j) (suc w) (x ∷ xs) h b = ap (λ ys. x ∷ ys) (slide-shift d j w xs (omega arith) (omega arith))
+
+  -- the same of two words side by side
+  two-shift : (d : A) (j : ℕ) (xs : List A) → suc (suc j) < length xs → cut (suc j) (cut (suc (suc j)) (set xs j (getD xs (suc (suc j)) d))) ≡ cut j (cut (suc j) xs)
+  two-shift d j [] h = absurd (omega arith)
+  two-shift d zero (x ∷ []) h = absurd (omega arith)
+  two-shift d zero (x ∷ (y ∷ [])) h = absurd (omega arith)
+  two-shift d zero (x ∷ (y ∷ (z ∷ xs))) h = refl
+  two-shift d (suc j) (x ∷ xs) h = ap (λ ys. x ∷ ys) (two-shift d j xs (omega arith))
+
+  cut-set : (j w : ℕ) (v : A) (xs : List A) → j < w → cut w (set xs j v) ≡ set (cut w xs) j v
+  cut-set j zero v xs h = absurd (omega arith)
+  cut-set j (suc w) v [] h = refl
+  cut-set zero (suc w) v (x ∷ xs) h = refl
+  cut-set (suc j) (suc w) v (x ∷ xs) h = ap (λ ys. x ∷ ys) (cut-set j w v xs (omega arith))
+
+  remove-set : (j w : ℕ) (v : A) (xs : List A) → j < w → remove w (set xs j v) ≡ set (remove w xs) j v
+  remove-set j w v xs h = remove-cut w (set xs j v) ∙ cut-set j w v xs h ∙ ap (λ ys. set ys j v) (sym (remove-cut w xs))
+
 pub record Removing (n i : ℕ) (ws₀ ws : List ℕ) (j : ℕ) : Type 0 where
   pub below : j < n
   pub size : length ws ≡ length ws₀
@@ -72,6 +110,83 @@ module _ (n i : ℕ) (ws₀ : List ℕ) where
         rw p (sym (remove-last j ws (omega arith)) ∙ l)
 
 pub ruleset removing = (removing-start, removing-next, removing-end)
+
+-- Two words removed
+
+pub record Sliding (n i w : ℕ) (ws₀ ws : List ℕ) (j : ℕ) : Type 0 where
+  pub below : j < w
+  pub size : length ws ≡ length ws₀
+  pub left : remove j (remove w (take n ws)) ≡ remove i (remove w (take n ws₀))
+
+module _ (n i w : ℕ) (ws₀ : List ℕ) where
+  pub sliding-start : i < w → Sliding n i w ws₀ ws₀ i
+  sliding-start h = record { below = h; size = refl; left = refl }
+
+  module _ (ws : List ℕ) (j : ℕ) (r : Sliding n i w ws₀ ws j) where
+    pub sliding-next : w < n → n ≤ length ws₀ → j + 1 < w → Sliding n i w ws₀ (set ws j (getD ws (j + 1) 0)) (j + 1)
+    sliding-next wn le lt =
+        let s = r .size in
+        let v = getD ws (j + 1) 0 in
+        let m : w < length (take n ws) = rw length-take (omega arith) in
+        record {
+          below = lt;
+          size = length-set ws j v ∙ s;
+          left =
+              rw (take-set-lt n ws j v (omega arith), ← getD-take n ws (j + 1) 0 (omega arith), add-one)
+              (two-cut (suc j) w (set (take n ws) j (getD (take n ws) (suc j) 0)) ∙ slide-shift 0 j w (take n ws) (omega arith) m ∙ sym (two-cut j w (take n ws)) ∙ r .left);
+        }
+
+    pub sliding-end : w ≤ j + 1 → remove (w - 1) (remove w (take n ws)) ≡ remove i (remove w (take n ws₀))
+    sliding-end ge = let b = r .below in let q : w - 1 ≡ j = omega arith in rw q (r .left)
+
+pub ruleset sliding = (sliding-start, sliding-next, sliding-end)
+
+pub record Closing (n w : ℕ) (ws₀ ws : List ℕ) (k : ℕ) : Type 0 where
+  pub fits : n ≤ length ws₀
+  pub below : k + 1 < n
+  pub size : length ws ≡ length ws₀
+  pub left : remove k (remove (k + 1) (take n ws)) ≡ remove (w - 1) (remove w (take n ws₀))
+
+module _ (n w : ℕ) (ws₀ : List ℕ) where
+  pub closing-start : 0 < w → w < n → n ≤ length ws₀ → Closing n w ws₀ ws₀ (w - 1)
+  closing-start p h le =
+      let q : w - 1 + 1 ≡ w = omega arith in
+      record { fits = le; below = omega arith; size = refl; left = ap (λ j. remove (w - 1) (remove j (take n ws₀))) q }
+
+  module _ (ws : List ℕ) (k : ℕ) (r : Closing n w ws₀ ws k) where
+    pub closing-next : k + 2 < n → Closing n w ws₀ (set ws k (getD ws (k + 2) 0)) (k + 1)
+    closing-next lt =
+        let f = r .fits in
+        let s = r .size in
+        let v = getD ws (k + 2) 0 in
+        let m : suc (suc k) < length (take n ws) = rw length-take (omega arith) in
+        let a : k + 1 ≡ suc k = omega arith in
+        let b : k + 2 ≡ suc (suc k) = omega arith in
+        let c : k + 1 + 1 ≡ suc (suc k) = omega arith in
+        let l : remove k (remove (suc k) (take n ws)) ≡ remove (w - 1) (remove w (take n ws₀)) = subst (λ j. remove k (remove j (take n ws)) ≡ remove (w - 1) (remove w (take n ws₀))) a (r .left) in
+        let g : getD ws (k + 2) 0 ≡ getD (take n ws) (suc (suc k)) 0 = sym (getD-take n ws (k + 2) 0 lt) ∙ ap (λ j. getD (take n ws) j 0) b in
+        record {
+          fits = f;
+          below = omega arith;
+          size = length-set ws k v ∙ s;
+          left =
+              ap (λ ys. remove (k + 1) (remove (k + 1 + 1) ys)) (take-set-lt n ws k v (omega arith) ∙ ap (set (take n ws) k) g)
+              ∙ (ap₂ (λ i j. remove i (remove j (set (take n ws) k (getD (take n ws) (suc (suc k)) 0)))) a c ∙ two-cut (suc k) (suc (suc k)) (set (take n ws) k (getD (take n ws) (suc (suc k)) 0))
+              ∙ (two-shift 0 k (take n ws) m ∙ (sym (two-cut k (suc k) (take n ws)) ∙ l)));
+        }
+
+    pub closing-end : n ≤ k + 2 → (ys : List ℕ) → remove (w - 1) (remove w (take n ws₀)) ≡ ys → take (n - 2) ws ≡ ys
+    closing-end ge ys e =
+        let f = r .fits in
+        let b = r .below in
+        let s = r .size in
+        let q : n ≡ suc (suc k) = omega arith in
+        let p : n - 2 ≡ k = omega arith in
+        let a : k + 1 ≡ suc k = omega arith in
+        let l : remove k (remove (suc k) (take (suc (suc k)) ws)) ≡ remove (w - 1) (remove w (take n ws₀)) = subst (λ j. remove k (remove j (take (suc (suc k)) ws)) ≡ remove (w - 1) (remove w (take n ws₀))) a (subst (λ m. remove k (remove (k + 1) (take m ws)) ≡ remove (w - 1) (remove w (take n ws₀))) q (r .left)) in
+        rw p (sym (ap (remove k) (remove-last (suc k) ws (omega arith)) ∙ remove-last k ws (omega arith)) ∙ (l ∙ e))
+
+pub ruleset closing = (closing-start, closing-next, closing-end)
 
 -- A part changed from the front
 
@@ -202,11 +317,10 @@ pub ruleset starting = (starting-start, starting-next, starting-end)
 
 -- Making a for
 
-pub made-for : (n w e k h : ℕ) (ws₀ ws₁ ws₂ : List ℕ) → k < w → w + 2 ≤ e → e < n → n ≤ length ws₀
-    → h ≡ for-word (getD ws₀ w 0) (getD ws₀ k 0) (getD ws₀ (e - 1) 0) → take (n - 1) ws₁ ≡ remove (e - 1) (take n ws₀)
-    → take (n - 1 - 1) ws₂ ≡ remove k (take (n - 1) (set ws₁ w h)) → take (n - 2) ws₂ ≡ with-for (take n ws₀) w e k
+pub made-for : (n w e k h : ℕ) (ws₀ ws₁ : List ℕ) → k < w → w + 2 ≤ e → e < n → n ≤ length ws₀
+    → h ≡ for-word (getD ws₀ w 0) (getD ws₀ k 0) (getD ws₀ (e - 1) 0)
+    → take (n - 2) ws₁ ≡ remove k (remove (e - 1) (take n (set ws₀ w h))) → take (n - 2) ws₁ ≡ with-for (take n ws₀) w e k
 unfolding with-for
-made-for n w e k h ws₀ ws₁ ws₂ kw we en le q e₁ e₂ =
-    let m : n - 2 ≡ n - 1 - 1 = omega arith in
-    rw (m, getD-take n ws₀ w 0 (omega arith), getD-take n ws₀ k 0 (omega arith), getD-take n ws₀ (e - 1) 0 (omega arith), ← q)
-    (e₂ ∙ ap (remove k) (take-set-lt (n - 1) ws₁ w h (omega arith) ∙ ap (λ ys. set ys w h) e₁))
+made-for n w e k h ws₀ ws₁ kw we en le q e₁ =
+    rw (getD-take n ws₀ w 0 (omega arith), getD-take n ws₀ k 0 (omega arith), getD-take n ws₀ (e - 1) 0 (omega arith), ← q)
+    (e₁ ∙ ap (remove k) (ap (remove (e - 1)) (take-set-lt n ws₀ w h (omega arith)) ∙ remove-set w (e - 1) h (take n ws₀) (omega arith)))

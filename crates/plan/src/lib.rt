@@ -1,13 +1,13 @@
 // The plan of a loop pass: a word for each current line of the vector that the Rust edits, in a lent slice. Its first n words count.
 //
-// `remove`, `move_out` and `make_for` take a step for each word that they pass, as `Vec::remove` and the Rust's loops do, the others
+// `remove`, `remove_two`, `move_out` and `make_for` take a step for each word that they pass, as `Vec::remove` and the Rust's loops do, the others
 // constant time. Contracts cite specs/Plan.antt, and `remove`, `part`, `all` and `on-part` of Rattle.definitions.specs.Lists.
 ghost use mathlib.Core.Path.{_≡_};
 ghost use mathlib.Core.Bool.{true};
 ghost use Prim.Native.Nat.{_+_, _-_, _/_, _%_, _<_, _≤_};
 ghost use lib.ListN.{length, take};
 ghost use Rattle.definitions.specs.Lists.{part, all, remove, on-part};
-ghost use Rattle.plan.specs.Plan.{indent-at, header-at, piece-at, test-at};
+ghost use Rattle.plan.specs.Plan.{indent-at, header-at, piece-at, test-at, initialiser-at, step-at};
 ghost use Rattle.plan.specs.Changes.{is-out, moved-out, for-word, with-for, kept-words};
 
 // Reading a word
@@ -34,6 +34,18 @@ pub fn test(w: usize) -> usize
     ensures { λ r. ⌜ (r ≡ test-at w) × (r < 4096) ⌝ }
 {
     w / 256 / 8 / 4096 % 4096
+}
+
+pub fn initialiser(w: usize) -> usize
+    ensures { λ r. ⌜ (r ≡ initialiser-at w) × (r < 4096) ⌝ }
+{
+    w / 256 / 8 / 4096 / 4096 % 4096
+}
+
+pub fn step(w: usize) -> usize
+    ensures { λ r. ⌜ (r ≡ step-at w) × (r < 4096) ⌝ }
+{
+    w / 256 / 8 / 4096 / 4096 / 4096 % 4096
 }
 
 // The line that the word's piece is made of.
@@ -67,6 +79,33 @@ pub fn remove(plan: &mut [usize], n: usize, i: usize)
         let v = plan[j + 1];
         plan[j] = v;
         j += 1;
+    }
+}
+
+// The words from i up to w move up by one, over word i: what was removed at i is then removed at w - 1.
+fn slide(plan: &mut [usize], n: usize, i: usize, w: usize)
+    requires { ⌜ (i < w) × (w < n) × (n ≤ length (now plan)) ⌝ }
+    ensures { λ _. ⌜ remove (w - 1) (remove w (take n (now (plan .exit)))) ≡ remove i (remove w (take n (now (plan .entry)))) ⌝ }
+{
+    let mut k = i;
+    while k + 1 < w {
+        let v = plan[k + 1];
+        plan[k] = v;
+        k += 1;
+    }
+}
+
+// Removes words i and w. Each word moves once.
+pub fn remove_two(plan: &mut [usize], n: usize, i: usize, w: usize)
+    requires { ⌜ (i < w) × (w < n) × (n ≤ length (now plan)) ⌝ }
+    ensures { λ _. ⌜ take (n - 2) (now (plan .exit)) ≡ remove i (remove w (take n (now (plan .entry)))) ⌝ }
+{
+    slide(plan, n, i, w);
+    let mut k = w - 1;
+    while k + 2 < n {
+        let v = plan[k + 2];
+        plan[k] = v;
+        k += 1;
     }
 }
 
@@ -108,7 +147,6 @@ pub fn make_for(plan: &mut [usize], n: usize, w: usize, e: usize, k: usize)
     let a = plan[k];
     let z = plan[e - 1];
     let h = for_word(v, a, z);
-    remove(plan, n, e - 1);
     plan[w] = h;
-    remove(plan, n - 1, k);
+    remove_two(plan, n, k, e - 1);
 }

@@ -3,4 +3,3 @@ pub mod Passes
 pub mod Named
 pub mod Symbols
 pub mod Callees
-pub mod Counts

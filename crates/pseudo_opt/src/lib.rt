@@ -1,8 +1,7 @@
-// What a line says: its keywords, label, goto, call, registers and braces.
+// What a line says: its keywords, label, goto, call and registers.
 //
 // Each function reads line i of the lent columns, copies nothing, and takes time linear in the bytes that it looks at. Contracts cite
-// Rattle.definitions.specs.Statements and Blocks.
-pub mod braces;
+// Rattle.definitions.specs.Statements.
 pub mod calls;
 pub mod keywords;
 pub mod labels;

@@ -16,7 +16,7 @@ use borrow.Author.Tests.{leb-true}
 use lib.Dec.{leb}
 use lib.ListN.{length}
 use Rattle.definitions.specs.Questions.{Limits, question-1, question-2, question-3, question-4, question-5, space-words, refusal}
-use Rattle.model.specs.Refusals.{refused, first-questions}
+use Rattle.questions.specs.Refusals.{refused, first-questions}
 use Rattle.model.proofs.Ands.{both}
 use Rattle.pseudo_ssa.specs.Asked.{Asked}
 use Rattle.pseudo_ssa.specs.Within.{web-refusal-within}

@@ -27,8 +27,8 @@ use Rattle.theory.proofs.Graph.{predecessor-lists, predecessors-length}
 use Rattle.theory.proofs.Accepted.{accepted-flow, accepted-lines, all-webs}
 use Rattle.model.proofs.Ands.{both}
 use Rattle.model.proofs.Decode.{length-listing}
-use Rattle.recover.specs.Families.{families-before}
-use Rattle.recover.proofs.Numbered.{families-all, families-few}
+use Rattle.families.specs.Families.{families-before}
+use Rattle.families.proofs.Numbered.{families-all, families-few}
 use Rattle.pseudo_ssa.proofs.Asking.{refusal-yes}
 use Rattle.pseudo_ssa.proofs.Written.{accepted-webs, refused-webs}
 use Rattle.pseudo_ssa.specs.Within.{web-refusal-within, web-call-of, within-budget, web-call-within}

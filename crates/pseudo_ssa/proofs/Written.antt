@@ -29,7 +29,7 @@ use Rattle.definitions.specs.Answers.{Answer, refused, accepted, Numbered, numb
 use Rattle.definitions.specs.Calls.{Lent, Called, zeros, filled, webs-written}
 use Rattle.bits.specs.Edges.{row-words}
 use Rattle.text.specs.Zeroed.{zeroed}
-use Rattle.model.specs.Refusals.{refused as asked-refused}
+use Rattle.questions.specs.Refusals.{refused as asked-refused}
 use Rattle.model.proofs.Decode.{length-listing}
 use Rattle.sweep.specs.declared.Sweeps.{Sweeps}
 use Rattle.sweep.specs.declared.Sweeps.the-variants.{Done, OverBudget}

@@ -15,13 +15,13 @@ ghost use Rattle.definitions.specs.Questions.{question-4, question-5, space-wor
 ghost use Rattle.definitions.specs.Recover.{recover};
 ghost use Rattle.definitions.specs.Answers.{Answer, accepted, webs, numbered-webs};
 ghost use Rattle.definitions.specs.Calls.{zeros, filled, webs-written, web-call};
-ghost use Rattle.model.specs.Refusals.{at-most, refused};
+ghost use Rattle.questions.specs.Refusals.{at-most, refused};
 ghost use Rattle.text.specs.Zeroed.{zeroed};
 ghost use Rattle.pseudo_ssa.specs.Asked.{Asked, Ready};
 ghost use Rattle.pseudo_ssa.specs.Within.{web-refusal-within, within-budget, web-call-within};
 ghost use Rattle.pseudo_ssa.specs.Answers.{answer-of, lent, called, Demand-3-over};
 use flow::graph::Flow;
-use model::questions::Limits;
+use questions::Limits;
 use sweep::Sweeps;
 
 // Accepted, with the total of sweeps, or refused, with the number of the question.
@@ -68,7 +68,7 @@ fn refusal(
     requires { ⌜ most .lines ≤ 1024 ⌝ }
     ensures { λ q. ⌜ refused q ≡ web-refusal-within (at-most most) (now (lines .entry)) (now (tokens .entry)) (now (text .entry)) (lent (now (numbers .entry)) (now (marks .entry)) (now (space .entry))) ⌝ }
 {
-    let q = model::questions::refusal(lines, tokens, text, most);
+    let q = questions::refusal(lines, tokens, text, most);
     if q == 0 {
         if question_4(tokens.len(), numbers, marks) {
             if question_5(lines.len(), space) { 0 } else { 5 }

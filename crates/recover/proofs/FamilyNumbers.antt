@@ -21,11 +21,11 @@ use Rattle.theory.proofs.ListLaws.{member-head, member-filter, filter-passes, m
 use Rattle.theory.proofs.Ranks.{Rising, rising-range, rising-filter}
 use Rattle.theory.proofs.FamilyWebs.{def-line-inside, read-line-inside}
 use Rattle.bits.specs.Edges.{preds-of}
-use Rattle.sweep.specs.Numbers.{defining-lines}
-use Rattle.sweep.proofs.ListFacts.{getD-member}
+use Rattle.visit.specs.Numbers.{defining-lines}
+use Rattle.visit.proofs.ListFacts.{getD-member}
 use Rattle.recover.specs.Numbers.{earlier}
 use Rattle.recover.specs.Reaching.{reach-numbers, linked}
-use Rattle.recover.proofs.Lists.{filter-same}
+use Rattle.families.proofs.Lists.{filter-same}
 use Rattle.recover.proofs.Renaming.{line-of, Renamed, renamed-start, renamed-fold, renamed-number, filter-renamed}
 
 abbrev pub lines-of-family : List Line → List ℕ → List ℕ

@@ -1,12 +1,7 @@
-pub mod Lists
 pub mod Linking
 pub mod Ranks
 pub mod RepresentativeRules
 pub mod Renaming
-pub mod Finding
-pub mod Hashes
-pub mod Numbered
-pub mod TokenWords
 pub mod SetRules
 pub mod LinkReads
 pub mod FamilyNumbers

@@ -21,14 +21,14 @@ use Rattle.definitions.specs.Recover.{link}
 use Rattle.theory.proofs.Bools.{lt-or-ge}
 use Rattle.theory.proofs.ListLaws.{member-range, getD-range, length-range, getD-map-up-to}
 use Rattle.bits.specs.Edges.{preds-of}
-use Rattle.sweep.specs.Layout.{making, Room}
-use Rattle.sweep.specs.Numbers.{defining-lines}
+use Rattle.visit.specs.Layout.{making, Room}
+use Rattle.visit.specs.Numbers.{defining-lines}
 use Rattle.sweep.specs.Solved.{Incoming}
-use Rattle.sweep.proofs.LayoutLaws.{room-same, kept-preds, kept-both}
+use Rattle.visit.proofs.LayoutLaws.{room-same, kept-preds, kept-both}
 use Rattle.sweep.proofs.Counting.{incoming-kept, incoming-holds}
 use Rattle.recover.specs.Numbers.{Within, earlier, Ranked}
 use Rattle.recover.specs.Reaching.{bits-from, Reached, Swept, Sized, Slices, reach-numbers, linked, Links, FamilyReps, ReadWeb}
-use Rattle.recover.proofs.Lists.{filter-same}
+use Rattle.families.proofs.Lists.{filter-same}
 use Rattle.recover.proofs.Linking.{link-length, link-within}
 
 module _ (n r w i : ℕ) (nums l₀ l : List ℕ) (S : Swept n r w nums l₀) (I : Incoming n r w i l₀ l) where

@@ -13,7 +13,7 @@ use borrow.Author.Tests.{lt-ltb, le-ltb}
 use lib.ListN.{length, getD}
 use Rattle.definitions.specs.Lists.{filter, count, range, up-to}
 use Rattle.recover.specs.Numbers.{earlier}
-use Rattle.recover.proofs.Lists.{range-snoc, count-snoc}
+use Rattle.families.proofs.Lists.{range-snoc, count-snoc}
 
 module _ (p : ℕ → Bool) (r : ℕ) where
   abbrev low : ℕ → Bool

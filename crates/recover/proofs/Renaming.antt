@@ -24,7 +24,7 @@ use Rattle.theory.proofs.Bools.{same-test, lt-or-ge}
 use Rattle.theory.proofs.ListLaws.{member-head, member-tail, member-cases, getD-range, length-range, member-range}
 use Rattle.theory.proofs.Ranks.{Rising}
 use Rattle.recover.specs.Numbers.{touched, Least, earlier}
-use Rattle.recover.proofs.Lists.{filter-same}
+use Rattle.families.proofs.Lists.{filter-same}
 use Rattle.recover.proofs.Linking.{touched-by, link-merged, link-length}
 use Rattle.recover.proofs.RepresentativeRules.{least-one, least-next}
 

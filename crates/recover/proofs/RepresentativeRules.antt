@@ -28,7 +28,7 @@ use Rattle.text.specs.Zeroed.{zeroed}
 use Rattle.text.proofs.Parts.{drop-step, drop-end}
 use Rattle.text.proofs.Fills.{filled, fill-next, fill-end}
 use Rattle.recover.specs.Numbers.{touched, Least, Within, marked, merged, earlier}
-use Rattle.recover.proofs.Lists.{any-snoc, member-snoc, map-within, fill-start, fill-rest}
+use Rattle.families.proofs.Lists.{any-snoc, member-snoc, map-within, fill-start, fill-rest}
 use Rattle.recover.proofs.Linking.{link-merged}
 use Rattle.recover.proofs.Ranks.{earlier-zero, earlier-next}
 

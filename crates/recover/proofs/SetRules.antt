@@ -15,10 +15,10 @@ use lib.ListN.{length, set, take}
 use lib.Seq.{take-suc-set}
 use Rattle.definitions.specs.Lists.{filter, range, up-to}
 use Rattle.bits.specs.Rows.{bit, First}
-use Rattle.sweep.specs.Layout.{making, Room}
+use Rattle.visit.specs.Layout.{making, Room}
 use Rattle.sweep.specs.Solved.{Incoming}
 use Rattle.recover.specs.Reaching.{bits-from, Put, Reached}
-use Rattle.recover.proofs.Lists.{range-snoc}
+use Rattle.families.proofs.Lists.{range-snoc}
 
 module _ (s : List ℕ) (m b : ℕ) (y : Bool) where
   pub put-yes : (v : ℕ) → y ≡ true → m < length s → v ≡ b → Put s (set s m v) m b y (m + 1)

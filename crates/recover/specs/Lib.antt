@@ -1,4 +1,2 @@
 pub mod Numbers
-pub mod Families
-pub mod Tokens
 pub mod Reaching

@@ -21,8 +21,8 @@ use Rattle.definitions.specs.Sweeps.{incoming, sweeps}
 use Rattle.definitions.specs.Recover.{link}
 use Rattle.bits.specs.Rows.{bit}
 use Rattle.bits.specs.Edges.{Agree, preds-of}
-use Rattle.sweep.specs.Layout.{making, Room}
-use Rattle.sweep.specs.Numbers.{defining-lines, line-of, Numbered}
+use Rattle.visit.specs.Layout.{making, Room}
+use Rattle.visit.specs.Numbers.{defining-lines, line-of, Numbered}
 use Rattle.sweep.specs.Solved.{Holds, Incoming}
 use Rattle.recover.specs.Numbers.{Within, earlier, Ranked}
 

@@ -11,8 +11,8 @@ use crate::representatives::alone;
 use crate::representatives::ranks;
 use crate::sets::link_reads;
 use crate::sets::reaching;
-use crate::words::number;
-use crate::words::word;
+use words::number;
+use words::word;
 
 // The number of the web of definition d.
 pub fn web_of(rep: &[u16], rank: &[u16], d: usize) -> u16

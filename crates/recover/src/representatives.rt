@@ -11,10 +11,10 @@ ghost use lib.ListN.{length, getD, set};
 ghost use Rattle.definitions.specs.Lists.{up-to};
 ghost use Rattle.definitions.specs.Recover.{link};
 ghost use Rattle.recover.specs.Numbers.{Least, Within, marked, merged, earlier};
-use crate::words::narrow;
-use crate::words::number;
-use crate::words::wide;
-use crate::words::word;
+use words::narrow;
+use words::number;
+use words::wide;
+use words::word;
 
 // Each definition is its own representative.
 pub fn alone(rep: &mut [u16])

@@ -7,11 +7,11 @@ ghost use mathlib.Core.List.{[], _∷_};
 ghost use Prim.Native.Nat.{ℕ, _+_, _*_, _≤_, _<_};
 ghost use lib.ListN.{length, getD, take};
 ghost use Rattle.bits.specs.Edges.{Agree};
-ghost use Rattle.sweep.specs.Layout.{Room};
+ghost use Rattle.visit.specs.Layout.{Room};
 ghost use Rattle.recover.specs.Reaching.{bits-from, Put, Reached, Swept, Slices, Links};
 use crate::representatives::link;
-use crate::words::narrow;
-use crate::words::number;
+use words::narrow;
+use words::number;
 
 // b at place m, where `yes`; answers the place behind.
 pub fn put(set: &mut [u16], m: usize, b: usize, yes: bool) -> usize

@@ -25,7 +25,7 @@ fn passed_in(
     words: &mut [u32],
     bytes: &mut [u8],
 ) -> Answer
-    requires { ⌜ 1024 ≤ length (now plan) ⌝ }
+    requires { ⌜ length (now lines) ≤ length (now plan) ⌝ }
     requires { ⌜ pass-refusal (columns (now lines) (now addresses) (now tokens) (now text)) (columns (now rows) (now places) (now words) (now bytes)) ≡ none ⌝ }
     ensures { λ r.
         ⌜ (let c = columns (now (lines .entry)) (now (addresses .entry)) (now (tokens .entry)) (now (text .entry)) in
@@ -51,7 +51,7 @@ fn passed_in(
 }
 
 // Questions 1 to 4 are answered yes.
-fn passed(
+fn passed_long(
     lines: &[u32],
     addresses: &[u64],
     tokens: &[u32],
@@ -79,6 +79,62 @@ fn passed(
         words,
         bytes,
     )
+}
+
+// The same of a listing of at most 64 lines: shorter arrays to zero.
+fn passed_short(
+    lines: &[u32],
+    addresses: &[u64],
+    tokens: &[u32],
+    text: &[u8],
+    rows: &mut [u32],
+    places: &mut [u64],
+    words: &mut [u32],
+    bytes: &mut [u8],
+) -> Answer
+    requires { ⌜ length (now lines) ≤ 64 ⌝ }
+    requires { ⌜ pass-refusal (columns (now lines) (now addresses) (now tokens) (now text)) (columns (now rows) (now places) (now words) (now bytes)) ≡ none ⌝ }
+    ensures { λ r.
+        ⌜ (let c = columns (now (lines .entry)) (now (addresses .entry)) (now (tokens .entry)) (now (text .entry)) in
+        passed-with r (columns (now (rows .exit)) (now (places .exit)) (now (words .exit)) (now (bytes .exit)))
+        ≡ pass-call goto-loops c (columns (now (rows .entry)) (now (places .entry)) (now (words .entry)) (now (bytes .entry)))) ⌝ }
+{
+    let mut plan = [0usize; 64];
+    passed_in(
+        lines,
+        addresses,
+        tokens,
+        text,
+        &mut plan,
+        rows,
+        places,
+        words,
+        bytes,
+    )
+}
+
+// The same, with arrays that fit the listing.
+fn passed(
+    lines: &[u32],
+    addresses: &[u64],
+    tokens: &[u32],
+    text: &[u8],
+    rows: &mut [u32],
+    places: &mut [u64],
+    words: &mut [u32],
+    bytes: &mut [u8],
+) -> Answer
+    requires { ⌜ pass-refusal (columns (now lines) (now addresses) (now tokens) (now text)) (columns (now rows) (now places) (now words) (now bytes)) ≡ none ⌝ }
+    ensures { λ r.
+        ⌜ (let c = columns (now (lines .entry)) (now (addresses .entry)) (now (tokens .entry)) (now (text .entry)) in
+        passed-with r (columns (now (rows .exit)) (now (places .exit)) (now (words .exit)) (now (bytes .exit)))
+        ≡ pass-call goto-loops c (columns (now (rows .entry)) (now (places .entry)) (now (words .entry)) (now (bytes .entry)))) ⌝ }
+{
+    if lines.len() <= 64 {
+        passed_short(lines, addresses, tokens, text, rows, places, words, bytes)
+    } else {
+        passed_long(lines, addresses, tokens, text, rows, places, words, bytes)
+    }
 }
 
 // Label and goto loops made while or for loops.

@@ -19,7 +19,8 @@ use Rattle.definitions.specs.Lists.{ascii, part, concat, range}
 use Rattle.definitions.specs.Model.{Token, tok, no-token}
 use Rattle.definitions.specs.Columns.{token-list}
 use Rattle.definitions.specs.Family.{legacy, fam-of}
-use Rattle.family.specs.Register.{row-name, family-of}
+use Rattle.legacy.specs.Table.{row-name}
+use Rattle.family.specs.Register.{family-of}
 use Rattle.family.specs.declared.Register.{Register}
 use Rattle.family.specs.declared.Register.the-variants.{Legacy, Numbered, Var, Nothing}
 use Rattle.model.specs.Places.{line-start, line-end}

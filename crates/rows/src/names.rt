@@ -2,7 +2,8 @@
 use family::Register;
 use json_append::bytes::put;
 ghost use Prim.Native.Nat.{_<_};
-ghost use Rattle.family.specs.Register.{row-name, family-of};
+ghost use Rattle.legacy.specs.Table.{row-name};
+ghost use Rattle.family.specs.Register.{family-of};
 ghost use Rattle.json_append.specs.Appended.{Appended};
 ghost use Rattle.rows.specs.Rows.{name-of};
 

@@ -22,8 +22,8 @@ use Rattle.text.proofs.Parts.{length-part, drop-end}
 use Rattle.model.specs.Places.{line-start, line-end, start-from}
 use Rattle.model.proofs.Decode.{line-at, length-listing, length-tokens, start-zero}
 use Rattle.model.proofs.Formed.{line-order, line-within, all-tokens-listing, tokens-before}
-use Rattle.recover.proofs.Lists.{range-snoc}
-use Rattle.recover.proofs.TokenWords.{map-places}
+use Rattle.families.proofs.Lists.{range-snoc}
+use Rattle.families.proofs.TokenWords.{map-places}
 use Rattle.splits.specs.Tokens.{over, by-line}
 
 -- Lines one after the other

@@ -29,13 +29,13 @@ use Rattle.definitions.specs.Answers.{no-family, per-token, mark, accepted, spl
 use Rattle.definitions.specs.Answers as Answers
 use Rattle.definitions.specs.Calls.{Lent, Called, filled, written, split-call}
 use Rattle.text.specs.Zeroed.{zeroed}
-use Rattle.model.specs.Refusals.{first-questions, refused}
+use Rattle.questions.specs.Refusals.{first-questions, refused}
 use Rattle.model.proofs.Ands.{both}
 use Rattle.model.proofs.Decode.{length-listing}
 use Rattle.model.proofs.Formed.{formed-lines}
-use Rattle.recover.specs.Families.{Numbered, Defs, families-before}
-use Rattle.recover.specs.Tokens.{Finds}
-use Rattle.recover.proofs.Numbered.{families-all}
+use Rattle.families.specs.Families.{Numbered, Defs, families-before}
+use Rattle.families.specs.Tokens.{Finds}
+use Rattle.families.proofs.Numbered.{families-all}
 use Rattle.splits.specs.Starts.{Starts}
 use Rattle.splits.specs.Tokens.{tally, token-number, token-mark, by-line}
 use Rattle.splits.specs.declared.call.Splits.the-variants.{Written, Refused}

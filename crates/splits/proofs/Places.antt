@@ -21,11 +21,12 @@ use Rattle.definitions.specs.SplitPoints.{all-jumps, crosses, split-points, spl
 use Rattle.definitions.specs.Answers.{no-family, mark}
 use Rattle.theory.proofs.Bools.{same-test, not-so}
 use Rattle.theory.proofs.ListLaws.{member-range, count-none, ==-true, ==-self}
-use Rattle.recover.specs.Families.{place, place-defined, defined-at, families-before}
-use Rattle.recover.proofs.Lists.{filter-same}
-use Rattle.recover.proofs.Numbered.{families-all, families-few, place-cases, defined-known}
+use Rattle.families.specs.Families.{place, place-defined, defined-at, families-before}
+use Rattle.families.proofs.Lists.{filter-same}
+use Rattle.families.proofs.Numbered.{families-all, families-few, place-cases, defined-known}
 use Rattle.splits.specs.Starts.{start-at, starts, start-place, Starts}
-use Rattle.splits.specs.Tokens.{found, tally, number-of, mark-of}
+use Rattle.memo.specs.Found.{found}
+use Rattle.splits.specs.Tokens.{tally, number-of, mark-of}
 use Rattle.splits.proofs.Points.{split-key-is, split-starts-is}
 
 -- Places

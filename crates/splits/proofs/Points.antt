@@ -19,7 +19,7 @@ use Rattle.definitions.specs.Recover.{from-line-1}
 use Rattle.definitions.specs.SplitPoints.{Split, all-jumps, crosses, split-points, split-key, split-starts}
 use Rattle.theory.proofs.Bools.{clash, same-test, and-both, and-split, lt-or-ge}
 use Rattle.theory.proofs.ListLaws.{any-found, any-here, range-member}
-use Rattle.recover.specs.Families.{defined-at}
+use Rattle.families.specs.Families.{defined-at}
 use Rattle.splits.specs.Starts.{start-at, starts}
 
 -- Options one after the other

@@ -21,8 +21,8 @@ use Rattle.definitions.specs.Recover.{defined-families}
 use Rattle.definitions.specs.SplitPoints.{all-jumps, crosses}
 use Rattle.theory.proofs.Bools.{lt-or-ge, eq-or-lt}
 use Rattle.model.proofs.Decode.{length-listing}
-use Rattle.recover.specs.Families.{Defs, defined-at, place-defined}
-use Rattle.recover.proofs.Lists.{any-snoc, range-snoc}
+use Rattle.families.specs.Families.{Defs, defined-at, place-defined}
+use Rattle.families.proofs.Lists.{any-snoc, range-snoc}
 use Rattle.crossings.specs.Crossed.{crossed}
 use Rattle.crossings.proofs.Joins.{leb-max}
 use Rattle.splits.specs.Starts.{start-at, start-place, Starts, Starting}

@@ -1,80 +1,42 @@
 -- Rules for the needs of `tokens`.
---   register-some, register-none, register-fits     `search_place`
---   token-register, token-other, token-kind   `token_place`
 --   number-none, number-zero, number-some     `number_of`
---   mark-zero, mark-yes, mark-no              `mark_of`
+--   mark-none, mark-zero, mark-yes, mark-no   `mark_of`
 --   number-by, mark-by, over-start, over-next, over-done     the loop of `write_part`
---   line-order-by, end-within, line-by        `write_line`
+--   over-join                                 one part after the other
+--   line-order-by, line-by                    `write_line`
 --   count-fits, count-by                      `count_line`
 --   Tallied ds i cs             cs has how many of the first i entries of ds are c, for each c
 --   Written l t g us ms₀ i ms   ms is ms₀ with g of the elements us of the first i lines
 --   tallied-start, tallied-few, tallied-next, number-tallied, written-start, written-next, written-end     the loop of `write_lines`
 -- Assumes nothing.
-use Prim.Native.Nat.{ℕ, suc, _+_, _-_, _<_, _≤_}
+use Prim.Native.Nat.{ℕ, zero, suc, _+_, _-_, _<_, _≤_}
 use mathlib.Core.Path.{_≡_, refl, sym, ap, _∙_, fun-ext}
-use mathlib.Core.Bool.{Bool, true, false, cond}
+use mathlib.Core.Bool.{true, cond}
 use mathlib.Core.List.{List, [], _∷_, _++_, map, map-append, append-assoc}
-use mathlib.Core.Option.{Option, none, some}
+use mathlib.Core.Option.{none, some}
 use native.Mathlib.Decide.{ℕ-discrete}
 use native.Mathlib.Nat.{zero-add}
 use native.Mathlib.Numerals.{add-one}
 use native.Mathlib.Omega.{arith}
 use borrow.Author.Tests.{eq-eqb, ne-eqb}
-use mir.Syntax.{w16, w64}
+use mir.Syntax.{w16}
 use mir.Val.{Fits}
 use lib.Dec.{eqb}
 use lib.ListN.{length, getD, set, take, drop, length-append, length-map, take-append-drop}
-use lib.Seq.{set-at, append-snoc, length-take-le, take-all, getD-set-same, getD-set-other}
-use Rattle.definitions.specs.Lists.{is-some, part, filter, count, range, up-to}
-use Rattle.definitions.specs.Model.{Token, Line}
-use Rattle.definitions.specs.Family.{Family, family, fam-of}
+use lib.Seq.{set-at, append-snoc, length-take-le, take-at, drop-at, drop-drop, getD-set-same, getD-set-other}
+use Rattle.definitions.specs.Lists.{part, filter, count, range, up-to}
+use Rattle.definitions.specs.Model.{Token}
+use Rattle.definitions.specs.Family.{fam-of}
 use Rattle.definitions.specs.Questions.{covers}
-use Rattle.definitions.specs.Recover.{defined-families}
 use Rattle.text.proofs.Parts.{drop-step, part-step, part-none, part-join, length-part}
-use Rattle.theory.proofs.Bools.{clash}
 use Rattle.theory.proofs.ListLaws.{count-all, length-range}
 use Rattle.model.specs.Places.{line-start, line-end}
-use Rattle.family.specs.declared.Register.{Register}
-use Rattle.family.specs.Register.{family-of}
-use Rattle.recover.specs.Families.{place-of}
-use Rattle.recover.specs.Tokens.{Finds}
-use Rattle.recover.proofs.TokenWords.{found-few}
-use Rattle.recover.proofs.Lists.{count-snoc, range-snoc}
-use Rattle.splits.specs.Tokens.{found, tally, number-of, mark-of, token-number, token-mark, over, by-line}
+use Rattle.families.proofs.Lists.{count-snoc, range-snoc}
+use Rattle.memo.specs.Found.{found}
+use Rattle.splits.specs.Tokens.{tally, number-of, mark-of, token-number, token-mark, over, by-line}
 use Rattle.splits.proofs.ByLine.{line-upward, by-line-start, by-line-next, by-line-end}
 
 -- One token
-
-module _ (L : List Line) (count : ℕ) (table : List ℕ) (F : Finds L count table) (s : List ℕ) (r : Register) (q : family-of s r ≡ family s) (y : Bool) (a : (s : List ℕ) → y ≡ is-some (family-of s r)) where
-  pub register-some : (c : ℕ) → y ≡ true → c ≡ place-of (take count (defined-families L)) (family-of s r) → c + 1 ≡ found (defined-families L) (family s)
-  register-some c b e = rw (← q) (go (family-of s r) (sym (a s) ∙ b) (e ∙ ap (λ (fs : List (List ℕ)). place-of fs (family-of s r)) (take-all count (defined-families L) (omega (arith, F .all)))))
-    where
-      go : (o : Option Family) → is-some o ≡ true → c ≡ place-of (defined-families L) o → c + 1 ≡ found (defined-families L) o
-      go none n e = clash n refl
-      go (some x) n e = add-one c ∙ ap suc e
-
-  pub register-none : y ≡ false → 0 ≡ found (defined-families L) (family s)
-  register-none b = rw (← q) (go (family-of s r) (sym (a s) ∙ b))
-    where
-      go : (o : Option Family) → is-some o ≡ false → 0 ≡ found (defined-families L) o
-      go none n = refl
-      go (some x) n = clash refl n
-
-pub register-fits : (L : List Line) (count : ℕ) (table : List ℕ) → Finds L count table → (s : List ℕ) (r : Register) (c : ℕ) → c ≡ place-of (take count (defined-families L)) (family-of s r) → Fits w64 (c + 1)
-register-fits L count table F s r c e = record { fits = omega (arith, found-few L count table F s r c e) }
-
-module _ (fs : List (List ℕ)) (u : Token) (k : ℕ) (e : k ≡ u .kind) where
-  pub token-register : (c : ℕ) (s : List ℕ) → k ≡ 1 → s ≡ u .text → c ≡ found fs (family s) → c ≡ found fs (fam-of u)
-  unfolding fam-of
-  token-register c s h p q = rw (← e, eq-eqb k 1 h, ← p) q
-
-  pub token-other : (k ≡ 1 → ⊥) → 0 ≡ found fs (fam-of u)
-  unfolding fam-of
-  token-other h = rw (← e, ne-eqb k 1 h)
-
-  pub token-kind : (n : ℕ) → k ≡ n → eqb n 1 ≡ false → 0 ≡ found fs (fam-of u)
-  unfolding fam-of
-  token-kind n h m = rw (← e, h, m)
 
 module _ (f : ℕ → ℕ) (c : ℕ) where
   pub number-none : c ≡ 0 → 4294967295 ≡ number-of f c
@@ -94,6 +56,14 @@ module _ (d c : ℕ) where
   pub mark-zero : d ≡ 0 → 0 ≡ mark-of d c
   unfolding mark-of
   mark-zero e = rw (eq-eqb d 0 e)
+
+  pub mark-none : c ≡ 0 → 0 ≡ mark-of d c
+  unfolding mark-of
+  mark-none e = go d
+    where
+      go : (d : ℕ) → 0 ≡ mark-of d c
+      go zero = refl
+      go (suc d) = let a = ne-eqb c (suc d + 1) (λ q. omega arith) in rw (ne-eqb (suc d) 0 (λ q. omega arith), a)
 
   module _ (n : d ≡ 0 → ⊥) where
     pub mark-yes : c ≡ d + 1 → 1 ≡ mark-of d c
@@ -119,9 +89,9 @@ module _ {A : Type 0} (z : A) (f : A → ℕ) (a : ℕ) (ws : List A) (ms : List
   pub over-start : ms ≡ over a a f ws ms
   over-start = let n = part-none ws a a (omega arith) in rw n (sym (take-append-drop a ms))
 
-  module _ (t e : ℕ) (o : List ℕ) (inv : o ≡ over a t f ws ms) (h : a ≤ t) where
-    pub over-next : (v : ℕ) → t < e → e ≤ length ws → e ≤ length ms → v ≡ f (getD ws t z) → set o t v ≡ over a (t + 1) f ws ms
-    over-next v l g b q =
+  module _ (t : ℕ) (o : List ℕ) (inv : o ≡ over a t f ws ms) (h : a ≤ t) where
+    pub over-next : (e v : ℕ) → t < e → e ≤ length ws → e ≤ length ms → v ≡ f (getD ws t z) → set o t v ≡ over a (t + 1) f ws ms
+    over-next e v l g b q =
         let one : part t (t + 1) ws ≡ getD ws t z ∷ [] = part-step z ws t (t + 1) (omega arith) (omega arith) ∙ ap (getD ws t z ∷_) (part-none ws (t + 1) (t + 1) (omega arith)) in
         let more : part a (t + 1) ws ≡ part a t ws ++ (getD ws t z ∷ []) = sym (part-join ws a t (t + 1) h (omega arith)) ∙ ap (part a t ws ++_) one in
         let front = take a ms ++ map f (part a t ws) in
@@ -132,17 +102,28 @@ module _ {A : Type 0} (z : A) (f : A → ℕ) (a : ℕ) (ws : List A) (ms : List
         ∙ ap (_++ drop (t + 1) ms) (append-assoc (take a ms) (map f (part a t ws)) (f (getD ws t z) ∷ []) ∙ ap (take a ms ++_) (sym (map-append f (part a t ws) (getD ws t z ∷ [])) ∙ ap (map f) (sym more)))
         ∙ append-assoc (take a ms) (map f (part a (t + 1) ws)) (drop (t + 1) ms)
 
-    pub over-done : t ≤ e → e ≤ t → o ≡ over a e f ws ms
-    over-done l g = let n : t ≡ e = omega arith in rw n at inv
+    pub over-join : (e : ℕ) (o′ : List ℕ) → t ≤ e → e ≤ length ws → e ≤ length ms → o′ ≡ over t e f ws o → o′ ≡ over a e f ws ms
+    over-join e o′ l g b q =
+        let front = take a ms ++ map f (part a t ws) in
+        let size : length front ≡ t = rw (length-append, length-map, length-take-le a ms (omega arith), length-part ws a t) (omega arith) in
+        let x : o ≡ front ++ drop t ms = inv ∙ sym (append-assoc (take a ms) (map f (part a t ws)) (drop t ms)) in
+        let y : take t o ≡ front = ap (take t) x ∙ take-at front (drop t ms) t size in
+        let m : t + (e - t) ≡ e = omega arith in
+        let v : drop e o ≡ drop e ms =
+        ap (drop e) x ∙ ap (λ (j : ℕ). drop j (front ++ drop t ms)) (sym m) ∙ sym (drop-drop (e - t) t (front ++ drop t ms)) ∙ ap (drop (e - t)) (drop-at front (drop t ms) t size)
+        ∙ drop-drop (e - t) t ms ∙ ap (λ (j : ℕ). drop j ms) m in
+        q ∙ rw (y, v) (sym (append-assoc front (map f (part t e ws)) (drop e ms))
+        ∙ ap (_++ drop e ms) (append-assoc (take a ms) (map f (part a t ws)) (map f (part t e ws)) ∙ ap (take a ms ++_) (sym (map-append f (part a t ws) (part t e ws)) ∙ ap (map f) (part-join ws a t e h l)))
+        ∙ append-assoc (take a ms) (map f (part a e ws)) (drop e ms))
+
+    pub over-done : (e : ℕ) → t ≤ e → e ≤ t → o ≡ over a e f ws ms
+    over-done e l g = let n : t ≡ e = omega arith in rw n at inv
 
 -- One line
 
 module _ (l t : List ℕ) (i s e : ℕ) (p : s ≡ line-start l i) (q : e ≡ line-end l t i) where
   pub line-order-by : covers 512 0 l (length t) ≡ true → i < length l → s ≤ e
   line-order-by ok h = omega (arith, p, q, line-upward l t ok i h)
-
-  pub end-within : e ≤ length t
-  end-within = omega (arith, q)
 
   pub line-by : {A : Type 0} (f : A → ℕ) (us : List A) (ms next : List ℕ) → next ≡ over s e f us ms → next ≡ over (line-start l i) (line-end l t i) f us ms
   line-by f us ms next u = rw (p, q) at u
@@ -210,4 +191,4 @@ module _ (l t : List ℕ) (ok : covers 512 0 l (length t) ≡ true) {A : Type 0}
 pub number-tallied : (fs : List (List ℕ)) (ds : List ℕ) (i : ℕ) (cs : List ℕ) → Tallied ds (i + 1) cs → token-number fs (λ c. getD cs c 0) ≡ number-at fs ds i
 number-tallied fs ds i cs T = ap (token-number fs) (fun-ext (λ c. T .at c))
 
-pub ruleset writes = (register-some, register-none, register-fits, token-register, token-other, token-kind, number-none, number-zero, number-some, mark-zero, mark-yes, mark-no, count-fits, count-by)
+pub ruleset writes = (number-none, number-zero, number-some, mark-none, mark-zero, mark-yes, mark-no, count-fits, count-by)

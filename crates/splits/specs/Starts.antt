@@ -17,7 +17,7 @@ use Rattle.definitions.specs.Lists.{if_then_else_, any, up-to, _==_}
 use Rattle.definitions.specs.Model.{Line, line}
 use Rattle.definitions.specs.Recover.{defined-families}
 use Rattle.definitions.specs.SplitPoints.{all-jumps, crosses}
-use Rattle.recover.specs.Families.{defined-at, place-defined}
+use Rattle.families.specs.Families.{defined-at, place-defined}
 
 unfoldable pub start-at : List Line → ℕ → Option (List ℕ)
 start-at L i = if eqb (line L i .indent) 1 && not (any (crosses i) (all-jumps L)) then defined-at L i else none

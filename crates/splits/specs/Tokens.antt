@@ -1,5 +1,4 @@
 -- What is written for tokens, line by line.
---   found fs o            0 where the family o is none, else 1 + its place among fs, from 1 on, or 1 where it is none of them
 --   tally ds i c          how many of the first i entries of ds are c
 --   number-of f c         the number of a token of which that is c, where f has the number of each place
 --   mark-of d c           the mark of such a token on a line whose entry is d
@@ -8,21 +7,16 @@
 --   over a e f us ms      ms with f of the elements of us from place a up to, not with, place e in their places
 --   by-line l t g us n    g i of each element of line i, for the first n lines
 -- Assumes nothing.
-use Prim.Native.Nat.{ℕ, suc, _+_, _-_}
+use Prim.Native.Nat.{ℕ, _+_, _-_}
 use mathlib.Core.List.{List, _++_, map}
-use mathlib.Core.Option.{Option, none, some}
 use lib.Dec.{eqb}
 use lib.ListN.{getD, take, drop}
 use Rattle.definitions.specs.Lists.{if_then_else_, count, concat, up-to, part}
 use Rattle.definitions.specs.Model.{Token}
-use Rattle.definitions.specs.Family.{Family, fam-of}
+use Rattle.definitions.specs.Family.{fam-of}
 use Rattle.definitions.specs.Answers.{no-family}
 use Rattle.model.specs.Places.{line-start, line-end}
-use Rattle.recover.specs.Families.{place}
-
-abbrev pub found : List (List ℕ) → Option Family → ℕ
-found fs none = 0
-found fs (some x) = suc (place fs (x .name))
+use Rattle.memo.specs.Found.{found}
 
 unfoldable pub tally : List ℕ → ℕ → ℕ → ℕ
 tally ds i c = count (λ j. eqb (getD ds j 0) c) (up-to i)

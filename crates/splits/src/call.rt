@@ -1,7 +1,7 @@
 // The split call: questions 1 to 4, then a number and a mark for each token, and zeros behind them.
 //
-// Contracts cite `splits` of Rattle.definitions.specs.Answers and `split-call` of Rattle.definitions.specs.Calls. Local arrays take 10,752
-// bytes, and 16,384 more where there is a goto.
+// Contracts cite `splits` of Rattle.definitions.specs.Answers and `split-call` of Rattle.definitions.specs.Calls. Local arrays take 11,776
+// bytes, and 2,560 more where there is a goto.
 ghost use mathlib.Core.Path.{_≡_};
 ghost use mathlib.Core.Bool.{true};
 ghost use Prim.Native.Nat.{ℕ, _≤_, _<_};
@@ -10,16 +10,16 @@ ghost use Rattle.definitions.specs.Columns.{listing};
 ghost use Rattle.definitions.specs.Questions.{covers};
 ghost use Rattle.definitions.specs.Answers.{splits};
 ghost use Rattle.definitions.specs.Calls.{filled, split-call};
-ghost use Rattle.model.specs.Refusals.{at-most, refused};
-ghost use Rattle.recover.specs.Tokens.{Finds};
+ghost use Rattle.questions.specs.Refusals.{at-most, refused};
+ghost use Rattle.families.specs.Tokens.{Finds};
 ghost use Rattle.splits.specs.Starts.{Starts};
 ghost use Rattle.splits.specs.Call.{lent, called, questions, split-within};
 use crate::starts::starts;
 use crate::tokens::write_lines;
 use crossings::crossings;
-use model::questions::Limits;
-use model::questions::refusal;
-use recover::families::families;
+use families::families;
+use questions::Limits;
+use questions::refusal;
 
 // What the call answers: numbers and marks are written, or the question with this number is answered no.
 pub enum Splits {
@@ -73,6 +73,7 @@ fn write(lines: &[u32], tokens: &[u32], text: &[u8], numbers: &mut [u32], marks:
     let mut table = [0u16; 2304];
     let mut defs = [0u16; 1024];
     let mut counts = [0u16; 1024];
+    let mut memo = [0usize; 128];
     let count = find_starts(lines, tokens, text, &mut table, &mut defs);
     write_lines(
         lines,
@@ -82,6 +83,7 @@ fn write(lines: &[u32], tokens: &[u32], text: &[u8], numbers: &mut [u32], marks:
         count,
         &defs,
         &mut counts,
+        &mut memo,
         numbers,
         marks,
     );

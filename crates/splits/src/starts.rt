@@ -11,12 +11,12 @@ ghost use Rattle.definitions.specs.Model.{line};
 ghost use Rattle.definitions.specs.Columns.{listing};
 ghost use Rattle.definitions.specs.SplitPoints.{all-jumps, crosses};
 ghost use Rattle.crossings.specs.Crossed.{crossed};
-ghost use Rattle.recover.specs.Families.{Defs};
+ghost use Rattle.families.specs.Families.{Defs};
 ghost use Rattle.splits.specs.Starts.{Starts};
 use model::columns::indent;
-use recover::words::greater;
-use recover::words::number;
-use recover::words::word;
+use words::greater;
+use words::number;
+use words::word;
 
 // Line i has indent 1 and is beyond `reach`.
 fn is_point(lines: &[u32], tokens: &[u32], text: &[u8], i: usize, reach: usize) -> bool

@@ -1,97 +1,22 @@
 // The numbers and marks of tokens, one look-up a register token: the number is how many of the lines up to and with the token's are split
-// points of its family, the mark is 1 where the token's own line is one.
+// points of its family, the mark is 1 where the token's own line is one. Crate `memo` looks it up.
 //
 // `number-is` and `mark-is` of proofs/Places say that these are `split-key` and `split-starts` of Rattle.definitions.specs.SplitPoints.
 ghost use mathlib.Core.Path.{_≡_};
 ghost use mathlib.Core.Bool.{true};
 ghost use Prim.Native.Nat.{ℕ, _+_, _≤_, _<_};
 ghost use lib.ListN.{length, getD, set};
-ghost use Rattle.definitions.specs.Model.{no-token};
-ghost use Rattle.definitions.specs.Family.{family, fam-of};
 ghost use Rattle.definitions.specs.Columns.{token-list, listing};
 ghost use Rattle.definitions.specs.Questions.{covers};
 ghost use Rattle.definitions.specs.Recover.{defined-families};
 ghost use Rattle.model.specs.Places.{line-start, line-end};
-ghost use Rattle.family.specs.Register.{family-of};
-ghost use Rattle.recover.specs.Tokens.{Finds};
-ghost use Rattle.splits.specs.Tokens.{found, tally, number-of, mark-of, token-number, token-mark, over, by-line};
-use family::Register;
-use model::columns::token_kind;
-use model::columns::token_text;
-use recover::families::is_some;
-use recover::families::search;
-use recover::words::number;
-use recover::words::word;
-
-// 1 + the place of the family that the answer r of the register s is, 1 for one without a definition, 0 where it is none.
-fn search_place(
-    lines: &[u32],
-    tokens: &[u32],
-    text: &[u8],
-    table: &[u16],
-    count: usize,
-    s: &[u8],
-    r: Register,
-) -> usize
-    requires { ⌜ Finds (listing (now lines) (now tokens) (now text)) count (now table) ⌝ }
-    requires { ⌜ family-of (now s) r ≡ family (now s) ⌝ }
-    ensures { λ c. ⌜ c ≡ found (defined-families (listing (now (lines .entry)) (now (tokens .entry)) (now (text .entry)))) (family (now (s .entry))) ⌝ }
-{
-    if is_some(r) {
-        return search(lines, tokens, text, table, count, s, r) + 1;
-    }
-    0
-}
-
-// The same of the register s.
-fn register_place(
-    lines: &[u32],
-    tokens: &[u32],
-    text: &[u8],
-    table: &[u16],
-    count: usize,
-    s: &[u8],
-) -> usize
-    requires { ⌜ Finds (listing (now lines) (now tokens) (now text)) count (now table) ⌝ }
-    ensures { λ c. ⌜ c ≡ found (defined-families (listing (now (lines .entry)) (now (tokens .entry)) (now (text .entry)))) (family (now (s .entry))) ⌝ }
-{
-    search_place(lines, tokens, text, table, count, s, family::family(s))
-}
-
-// The same of token k of all.
-fn token_place(
-    lines: &[u32],
-    tokens: &[u32],
-    text: &[u8],
-    table: &[u16],
-    count: usize,
-    k: usize,
-) -> usize
-    requires { ⌜ Finds (listing (now lines) (now tokens) (now text)) count (now table) ⌝ }
-    ensures { λ c.
-        ⌜ (let u = getD (token-list (now (tokens .entry)) (now (text .entry))) k no-token in
-        c ≡ found (defined-families (listing (now (lines .entry)) (now (tokens .entry)) (now (text .entry)))) (fam-of u)) ⌝ }
-{
-    let kind = token_kind(tokens, text, k);
-    match kind {
-        0 => 0,
-        1 => register_place(
-            lines,
-            tokens,
-            text,
-            table,
-            count,
-            token_text(tokens, text, k),
-        ),
-        2 => 0,
-        3 => 0,
-        4 => 0,
-        5 => 0,
-        6 => 0,
-        7 => 0,
-        _ => 0,
-    }
-}
+ghost use Rattle.families.specs.Tokens.{Finds};
+ghost use Rattle.memo.specs.Memo.{Memo};
+ghost use Rattle.splits.specs.Tokens.{tally, number-of, mark-of, token-number, token-mark, over, by-line};
+use memo::known_place;
+use memo::token_place;
+use words::number;
+use words::word;
 
 fn wide(x: u16) -> u32
     ensures { λ r. ⌜ r ≡ x ⌝ }
@@ -117,6 +42,9 @@ fn mark_of(c: usize, d: usize) -> u8
     requires { ⌜ d < 65536 ⌝ }
     ensures { λ m. ⌜ m ≡ mark-of d c ⌝ }
 {
+    if c == 0 {
+        return 0;
+    }
     if d == 0 {
         return 0;
     }
@@ -131,13 +59,14 @@ fn write_part(
     table: &[u16],
     count: usize,
     counts: &[u16],
+    memo: &mut [usize],
     numbers: &mut [u32],
     marks: &mut [u8],
     d: usize,
     from: usize,
     to: usize,
 )
-    requires { ⌜ Finds (listing (now lines) (now tokens) (now text)) count (now table) ⌝ }
+    requires { ⌜ Finds (listing (now lines) (now tokens) (now text)) count (now table) × Memo (defined-families (listing (now lines) (now tokens) (now text))) (now memo) × (128 ≤ length (now memo)) ⌝ }
     requires { ⌜ (from ≤ to) × (to ≤ length (now tokens)) × (length (now numbers) ≡ length (now tokens)) × (length (now marks) ≡ length (now tokens)) × (d < 65536) ⌝ }
     ensures { λ _.
         ⌜ (let fs = defined-families (listing (now (lines .entry)) (now (tokens .entry)) (now (text .entry))) in
@@ -145,16 +74,114 @@ fn write_part(
     ensures { λ _.
         ⌜ (let fs = defined-families (listing (now (lines .entry)) (now (tokens .entry)) (now (text .entry))) in
         now (marks .exit) ≡ over from to (token-mark fs d) (token-list (now (tokens .entry)) (now (text .entry))) (now (marks .entry))) ⌝ }
+    ensures { λ _. ⌜ Memo (defined-families (listing (now (lines .entry)) (now (tokens .entry)) (now (text .entry)))) (now (memo .exit)) ⌝ }
 {
     let mut k = from;
     while k < to {
-        let c = token_place(lines, tokens, text, table, count, k);
+        let c = token_place(lines, tokens, text, table, count, memo, k);
         let v = number_of(counts, c);
         numbers[k] = v;
         let m = mark_of(c, d);
         marks[k] = m;
         k += 1;
     }
+}
+
+// The same as `write_part`, as long as `memo` has what is looked up; answers the place of the first token of which it has nothing, or `to`.
+fn write_known(
+    lines: &[u32],
+    tokens: &[u32],
+    text: &[u8],
+    counts: &[u16],
+    memo: &[usize],
+    numbers: &mut [u32],
+    marks: &mut [u8],
+    d: usize,
+    from: usize,
+    to: usize,
+) -> usize
+    requires { ⌜ Memo (defined-families (listing (now lines) (now tokens) (now text))) (now memo) × (128 ≤ length (now memo)) ⌝ }
+    requires { ⌜ (from ≤ to) × (to ≤ length (now tokens)) × (length (now numbers) ≡ length (now tokens)) × (length (now marks) ≡ length (now tokens)) × (d < 65536) ⌝ }
+    ensures { λ r. ⌜ (from ≤ r) × (r ≤ to) ⌝ }
+    ensures { λ r.
+        ⌜ (let fs = defined-families (listing (now (lines .entry)) (now (tokens .entry)) (now (text .entry))) in
+        now (numbers .exit) ≡ over from r (token-number fs (λ p. getD (now (counts .entry)) p 0)) (token-list (now (tokens .entry)) (now (text .entry))) (now (numbers .entry))) ⌝ }
+    ensures { λ r.
+        ⌜ (let fs = defined-families (listing (now (lines .entry)) (now (tokens .entry)) (now (text .entry))) in
+        now (marks .exit) ≡ over from r (token-mark fs d) (token-list (now (tokens .entry)) (now (text .entry))) (now (marks .entry))) ⌝ }
+{
+    let mut k = from;
+    while k < to {
+        let c = known_place(lines, tokens, text, memo, k);
+        if c == 65535 {
+            return k;
+        }
+        let v = number_of(counts, c);
+        numbers[k] = v;
+        let m = mark_of(c, d);
+        marks[k] = m;
+        k += 1;
+    }
+    k
+}
+
+// The same, and the token behind them, which is looked up; answers the place behind that.
+fn write_some(
+    lines: &[u32],
+    tokens: &[u32],
+    text: &[u8],
+    table: &[u16],
+    count: usize,
+    counts: &[u16],
+    memo: &mut [usize],
+    numbers: &mut [u32],
+    marks: &mut [u8],
+    d: usize,
+    from: usize,
+    to: usize,
+) -> usize
+    requires { ⌜ Finds (listing (now lines) (now tokens) (now text)) count (now table) × Memo (defined-families (listing (now lines) (now tokens) (now text))) (now memo) × (128 ≤ length (now memo)) ⌝ }
+    requires { ⌜ (from < to) × (to ≤ length (now tokens)) × (length (now numbers) ≡ length (now tokens)) × (length (now marks) ≡ length (now tokens)) × (d < 65536) ⌝ }
+    ensures { λ r. ⌜ (from < r) × (r ≤ to) ⌝ }
+    ensures { λ r.
+        ⌜ (let fs = defined-families (listing (now (lines .entry)) (now (tokens .entry)) (now (text .entry))) in
+        now (numbers .exit) ≡ over from r (token-number fs (λ p. getD (now (counts .entry)) p 0)) (token-list (now (tokens .entry)) (now (text .entry))) (now (numbers .entry))) ⌝ }
+    ensures { λ r.
+        ⌜ (let fs = defined-families (listing (now (lines .entry)) (now (tokens .entry)) (now (text .entry))) in
+        now (marks .exit) ≡ over from r (token-mark fs d) (token-list (now (tokens .entry)) (now (text .entry))) (now (marks .entry))) ⌝ }
+    ensures { λ _. ⌜ Memo (defined-families (listing (now (lines .entry)) (now (tokens .entry)) (now (text .entry)))) (now (memo .exit)) ⌝ }
+{
+    let k = write_known(
+        lines,
+        tokens,
+        text,
+        counts,
+        memo,
+        numbers,
+        marks,
+        d,
+        from,
+        to,
+    );
+    if k < to {
+        let e = k + 1;
+        write_part(
+            lines,
+            tokens,
+            text,
+            table,
+            count,
+            counts,
+            memo,
+            numbers,
+            marks,
+            d,
+            k,
+            e,
+        );
+        return e;
+    }
+    k
 }
 
 // The tokens of line i.
@@ -165,12 +192,13 @@ fn write_line(
     table: &[u16],
     count: usize,
     counts: &[u16],
+    memo: &mut [usize],
     numbers: &mut [u32],
     marks: &mut [u8],
     d: usize,
     i: usize,
 )
-    requires { ⌜ Finds (listing (now lines) (now tokens) (now text)) count (now table) ⌝ }
+    requires { ⌜ Finds (listing (now lines) (now tokens) (now text)) count (now table) × Memo (defined-families (listing (now lines) (now tokens) (now text))) (now memo) × (128 ≤ length (now memo)) ⌝ }
     requires { ⌜ (covers 512 0 (now lines) (length (now tokens)) ≡ true) × (i < length (now lines)) × (length (now numbers) ≡ length (now tokens)) × (length (now marks) ≡ length (now tokens)) × (d < 65536) ⌝ }
     ensures { λ _.
         ⌜ (let l = now (lines .entry) in
@@ -182,22 +210,26 @@ fn write_line(
         let t = now (tokens .entry) in
         let fs = defined-families (listing l t (now (text .entry))) in
         now (marks .exit) ≡ over (line-start l i) (line-end l t i) (token-mark fs d) (token-list t (now (text .entry))) (now (marks .entry))) ⌝ }
+    ensures { λ _. ⌜ Memo (defined-families (listing (now (lines .entry)) (now (tokens .entry)) (now (text .entry)))) (now (memo .exit)) ⌝ }
 {
-    let s = model::columns::line_start(lines, i);
     let e = model::columns::line_end(lines, tokens, i);
-    write_part(
-        lines,
-        tokens,
-        text,
-        table,
-        count,
-        counts,
-        numbers,
-        marks,
-        d,
-        s,
-        e,
-    );
+    let mut k = model::columns::line_start(lines, i);
+    while k < e {
+        k = write_some(
+            lines,
+            tokens,
+            text,
+            table,
+            count,
+            counts,
+            memo,
+            numbers,
+            marks,
+            d,
+            k,
+            e,
+        );
+    }
 }
 
 // One more of what `starts` has for line i.
@@ -219,10 +251,11 @@ pub fn write_lines(
     count: usize,
     starts: &[u16],
     counts: &mut [u16],
+    memo: &mut [usize],
     numbers: &mut [u32],
     marks: &mut [u8],
 )
-    requires { ⌜ Finds (listing (now lines) (now tokens) (now text)) count (now table) ⌝ }
+    requires { ⌜ Finds (listing (now lines) (now tokens) (now text)) count (now table) × Memo (defined-families (listing (now lines) (now tokens) (now text))) (now memo) × (128 ≤ length (now memo)) ⌝ }
     requires { ⌜ (covers 512 0 (now lines) (length (now tokens)) ≡ true) × (length (now lines) ≤ 1024) × (length (now numbers) ≡ length (now tokens)) × (length (now marks) ≡ length (now tokens)) ⌝ }
     requires { ⌜ ((j : ℕ) → j < length (now lines) → getD (now starts) j 0 < 1024) × (1024 ≤ length (now counts)) × ((c : ℕ) → getD (now counts) c 0 ≡ 0) ⌝ }
     ensures { λ _.
@@ -248,6 +281,7 @@ pub fn write_lines(
             table,
             count,
             counts,
+            memo,
             numbers,
             marks,
             d,

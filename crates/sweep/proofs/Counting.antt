@@ -29,14 +29,14 @@ use Rattle.theory.proofs.Sweeping.{column, after, after-column, incoming-column
 use Rattle.bits.specs.Rows.{Filled}
 use Rattle.bits.specs.Edges.{edges, Agree, preds-of}
 use Rattle.bits.proofs.EdgeLaws.{length-preds-of, preds-of-at}
-use Rattle.sweep.specs.Layout.{making, outs, todo, Kept}
-use Rattle.sweep.specs.Numbers.{defining-lines, line-of, Numbered}
-use Rattle.sweep.specs.Steps.{coming, given, visited, Listed, Sweep, Started, Turned}
+use Rattle.visit.specs.Layout.{making, outs, todo, Kept}
+use Rattle.visit.specs.Numbers.{defining-lines, line-of, Numbered}
+use Rattle.visit.specs.Steps.{coming, given, visited, Listed, Sweep, Started, Turned}
 use Rattle.sweep.specs.Solved.{Holds, Solved, Incoming}
 use Rattle.sweep.specs.declared.Sweeps.{Sweeps}
 use Rattle.sweep.specs.declared.Sweeps.the-variants.{Done, OverBudget}
-use Rattle.sweep.proofs.ListFacts.{any-alike}
-use Rattle.sweep.proofs.LayoutLaws.{same-outs, same-preds, kept-none, kept-then, kept-preds, kept-both}
+use Rattle.visit.proofs.ListFacts.{any-alike}
+use Rattle.visit.proofs.LayoutLaws.{same-outs, same-preds, kept-none, kept-then, kept-preds, kept-both}
 use Rattle.sweep.proofs.Numbering.{line-at, line-at-line, defines-yes, defines-no, line-at-entry, line-at-definition, line-at-none, definition-number, line-at-own}
 use Rattle.sweep.proofs.Sets.{swept-none, after-alike, sweeps-are, sweeps-more}
 

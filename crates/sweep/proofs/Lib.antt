@@ -1,6 +1,3 @@
-pub mod ListFacts
-pub mod LayoutLaws
-pub mod StepLaws
 pub mod Worklist
 pub mod Numbering
 pub mod Sets

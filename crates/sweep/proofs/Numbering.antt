@@ -22,8 +22,8 @@ use Rattle.definitions.specs.Reaching.{is-definition}
 use Rattle.theory.proofs.Bools.{decided, not-so, same-test, and-both, or-right, or-cases, lt-or-ge}
 use Rattle.theory.proofs.ListLaws.{member-filter, filter-passes, member-range, range-member, count-all, length-range}
 use Rattle.bits.proofs.EdgeLaws.{filter-like}
-use Rattle.sweep.specs.Numbers.{defining-lines, line-of, Numbered, lines-of, Numbering, Counted}
-use Rattle.sweep.proofs.ListFacts.{getD-inside, getD-member, member-place, part-low, part-rising, part-more, part-place}
+use Rattle.visit.specs.Numbers.{defining-lines, line-of, Numbered, lines-of, Numbering, Counted}
+use Rattle.visit.proofs.ListFacts.{getD-inside, getD-member, member-place, part-low, part-rising, part-more, part-place}
 
 abbrev pub line-at : ℕ → List ℕ → ℕ → ℕ
 line-at n nums b = getD (0 ∷ defining-lines n nums) b n

@@ -21,10 +21,10 @@ use Rattle.theory.proofs.ListLaws.{member-filter}
 use Rattle.bits.specs.Rows.{bit, First}
 use Rattle.bits.specs.Edges.{edges, succs, Agree, preds-of}
 use Rattle.bits.proofs.EdgeLaws.{preds-of-at}
-use Rattle.sweep.specs.Layout.{outs, todo, next, Kept}
-use Rattle.sweep.specs.Steps.{coming, given, visit, visited, Stable, Step, Listed, Sweep}
-use Rattle.sweep.proofs.ListFacts.{any-alike}
-use Rattle.sweep.proofs.LayoutLaws.{kept-none, kept-then, kept-preds, kept-both}
+use Rattle.visit.specs.Layout.{outs, todo, next, Kept}
+use Rattle.visit.specs.Steps.{coming, given, visit, visited, Stable, Step, Listed, Sweep}
+use Rattle.visit.proofs.ListFacts.{any-alike}
+use Rattle.visit.proofs.LayoutLaws.{kept-none, kept-then, kept-preds, kept-both}
 
 module _ (preds : List (List ℕ)) (nums : List ℕ) where
   pub given-local : (b j : ℕ) (f g : ℕ → Bool) → ((p : ℕ) → member p (getD preds j []) ≡ true → f p ≡ g p) → given preds nums b f j ≡ given preds nums b g j

@@ -1,4 +1,1 @@
-pub mod Layout
-pub mod Numbers
-pub mod Steps
 pub mod Solved

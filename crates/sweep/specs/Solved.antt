@@ -13,8 +13,8 @@ use Rattle.definitions.specs.Lists.{if_then_else_, member}
 use Rattle.definitions.specs.Sweeps.{incoming, sweeps}
 use Rattle.bits.specs.Rows.{bit, Away}
 use Rattle.bits.specs.Edges.{preds-of}
-use Rattle.sweep.specs.Layout.{making, outs, Kept}
-use Rattle.sweep.specs.Numbers.{defining-lines, line-of, Numbered}
+use Rattle.visit.specs.Layout.{making, outs, Kept}
+use Rattle.visit.specs.Numbers.{defining-lines, line-of, Numbered}
 use Rattle.sweep.specs.declared.Sweeps.{Sweeps}
 use Rattle.sweep.specs.declared.Sweeps.the-variants.{Done, OverBudget}
 

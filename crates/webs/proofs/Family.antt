@@ -22,12 +22,12 @@ use Rattle.theory.proofs.Bools.{same-test, clash}
 use Rattle.theory.proofs.ListLaws.{member-filter, filter-passes, member-range, range-member}
 use Rattle.theory.proofs.FamilyWebs.{def-line-inside}
 use Rattle.bits.specs.Edges.{preds-of}
-use Rattle.sweep.specs.Numbers.{defining-lines, lines-of, Numbered}
+use Rattle.visit.specs.Numbers.{defining-lines, lines-of, Numbered}
 use Rattle.sweep.specs.declared.Sweeps.{Sweeps}
-use Rattle.recover.specs.Families.{place-defined, defined-at, Defs}
-use Rattle.recover.specs.Tokens.{family-name}
+use Rattle.families.specs.Families.{place-defined, defined-at, Defs}
+use Rattle.families.specs.Tokens.{family-name}
 use Rattle.recover.specs.Reaching.{linked}
-use Rattle.recover.proofs.Lists.{filter-same}
+use Rattle.families.proofs.Lists.{filter-same}
 use Rattle.recover.proofs.FamilyNumbers.{lines-of-family, web-number-is, read-number-is}
 use Rattle.webs.specs.Progress.{webs-over, family-sweeps}
 use Rattle.numbering.specs.Lines.{own-number, read-number, LineNumbers, FamilyLines}

@@ -18,7 +18,7 @@ use Rattle.definitions.specs.Questions.{covers}
 use Rattle.theory.proofs.Bools.{lt-or-ge}
 use Rattle.theory.proofs.ListLaws.{fold-up-to}
 use Rattle.model.specs.Places.{line-start}
-use Rattle.chains.specs.Lines.{line-marked, lines-marked}
+use Rattle.walks.specs.Lines.{line-marked, lines-marked}
 use Rattle.chains.proofs.Places.{start-within, line-next, other-line}
 
 module _ (l t x : List ℕ) (ok : covers 512 0 l (length t) ≡ true) where

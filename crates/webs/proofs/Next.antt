@@ -27,10 +27,10 @@ use Rattle.theory.proofs.Tokens.{token-inside}
 use Rattle.theory.proofs.Lines.{line-defines, defines-first}
 use Rattle.model.specs.Places.{line-start}
 use Rattle.model.proofs.Decode.{length-listing}
-use Rattle.recover.specs.Families.{place, Defs}
-use Rattle.recover.specs.Tokens.{family-name}
+use Rattle.families.specs.Families.{place, Defs}
+use Rattle.families.specs.Tokens.{family-name}
 use Rattle.chains.specs.Chains.{next-place, place-line, chain-word, waiting, Bounds, Chain}
-use Rattle.chains.specs.Lines.{own-place, Written, lines-marked}
+use Rattle.walks.specs.Lines.{own-place, Written, lines-marked}
 use Rattle.chains.proofs.Places.{of-family, token-place, place-token, place-inside, place-line-is, per-token-at, per-token-length, per-token-by}
 use Rattle.chains.proofs.FamilyPlaces.{place-is}
 use Rattle.webs.specs.Progress.{webs-over, number-after, mark-after}

@@ -22,9 +22,9 @@ use Rattle.definitions.specs.Demand3.{defines-at, reads-at}
 use Rattle.definitions.specs.Answers.{mark}
 use Rattle.theory.proofs.Bools.{lt-or-ge}
 use Rattle.theory.proofs.ListLaws.{any-filter, ==-true}
-use Rattle.recover.specs.Families.{place}
-use Rattle.recover.specs.Tokens.{family-name}
-use Rattle.recover.proofs.Numbered.{place-cases}
+use Rattle.families.specs.Families.{place}
+use Rattle.families.specs.Tokens.{family-name}
+use Rattle.families.proofs.Numbered.{place-cases}
 use Rattle.chains.specs.Chains.{waiting}
 use Rattle.chains.proofs.FamilyPlaces.{place-is, place-most}
 use Rattle.webs.specs.Progress.{webs-over, waiting-at, number-after, mark-after}

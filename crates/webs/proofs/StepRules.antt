@@ -1,70 +1,45 @@
 -- Rules for `steps`.
---   reads-rsp, reads-other                  `family_reads`
---   zeros-by                                `write_zeros`
 --   known-chain, reads-below                `family_free`: the tokens are chained, the reading lines are lines
 --   free-done, free-over                    its answers
 --   taken-done                              a family whose address is taken
 --   scratch-still, scratch-seen             the lent words are as many as before
 -- Assumes nothing.
-use Prim.Native.Nat.{ℕ, _+_, _-_, _<_, _≤_}
+use Prim.Native.Nat.{ℕ, _-_, _<_, _≤_}
 use mathlib.Core.Path.{_≡_, refl, sym, ap, _∙_}
 use mathlib.Core.Logic.{inl, inr}
 use mathlib.Core.Bool.{Bool, true, false, cond, _&&_}
-use mathlib.Core.List.{List, [], _∷_}
+use mathlib.Core.List.{List}
 use native.Mathlib.Omega.{arith}
 use lib.Dec.{eqb}
 use borrow.Author.Tests.{le-leb}
-use lib.ListN.{length, getD, take, length-map}
-use Rattle.definitions.specs.Lists.{any, filter, range, up-to, _==_}
-use Rattle.definitions.specs.Model.{Line, token, line}
-use Rattle.definitions.specs.Family.{fam-of, names}
+use lib.ListN.{length, getD, take}
+use Rattle.definitions.specs.Lists.{any, _==_}
+use Rattle.definitions.specs.Model.{Line, line}
 use Rattle.definitions.specs.Columns.{listing}
-use Rattle.definitions.specs.Recover.{read-lines, read-tokens, address-taken, defined-families, key}
+use Rattle.definitions.specs.Recover.{read-lines, address-taken, defined-families, key}
 use Rattle.definitions.specs.Demand3.{defines-at}
 use Rattle.text.specs.Zeroed.{zeroed}
-use Rattle.family.specs.Register.{is-rsp}
-use Rattle.theory.proofs.ListLaws.{length-range, replicate-default}
+use Rattle.theory.proofs.ListLaws.{replicate-default}
 use Rattle.theory.proofs.FamilyWebs.{read-line-inside}
-use Rattle.bits.specs.Edges.{edges, preds-of}
-use Rattle.sweep.proofs.ListFacts.{getD-member}
+use Rattle.bits.specs.Edges.{preds-of}
+use Rattle.visit.proofs.ListFacts.{getD-member}
 use Rattle.sweep.specs.Solved.{answer}
 use Rattle.sweep.specs.declared.Sweeps.{Sweeps}
 use Rattle.sweep.specs.declared.Sweeps.the-variants.{Done, OverBudget}
 use Rattle.model.proofs.Decode.{length-listing}
-use Rattle.recover.specs.Families.{Table}
-use Rattle.recover.specs.Tokens.{family-name}
-use Rattle.recover.proofs.Finding.{unique-families, place-here}
-use Rattle.recover.proofs.Numbered.{place-cases}
+use Rattle.families.specs.Tokens.{family-name}
+use Rattle.families.proofs.Finding.{unique-families, place-here}
+use Rattle.families.proofs.Numbered.{place-cases}
 use Rattle.chains.specs.Chains.{Chain}
-use Rattle.chains.specs.Lines.{Written}
-use Rattle.chains.proofs.Taken.{family-read}
+use Rattle.walks.specs.Lines.{Written}
 use Rattle.webs.specs.Progress.{webs-over, family-sweeps}
 use Rattle.numbering.specs.Lines.{Below, LineNumbers, FamilyLines, Scratch}
-use Rattle.webs.specs.Steps.{Known, State, Writes, FamilyDone}
+use Rattle.family_tokens.specs.Writes.{Writes}
+use Rattle.webs.specs.Steps.{Known, State, FamilyDone}
 use Rattle.webs.proofs.Progress.{key-none}
 use Rattle.numbering.proofs.LineRules.{answer-over}
 use Rattle.webs.proofs.Family.{family-count, family-keys}
 use Rattle.webs.proofs.Next.{chain-by, numbers-next, marks-next, marks-taken}
-
--- `family_reads`
-
-filter-none : (xs : List ℕ) → filter (λ x. false) xs ≡ []
-unfolding filter
-filter-none [] = refl
-filter-none (x ∷ xs) = filter-none xs
-
-module _ (L : List Line) (count k : ℕ) (t : List ℕ) (T : Table L count t) (h : k < count) (y : Bool) (e : y ≡ is-rsp (fam-of (token (line L (getD t (1280 + k) 0)) 0))) where
-  pub reads-rsp : y ≡ true → (s : List ℕ) → take 0 s ≡ read-lines L (family-name L k)
-  reads-rsp q s = sym (rw (family-read L count k t T h y e, q) (filter-none (range 1 (length L - 1))))
-
-  pub reads-other : y ≡ false → (s : List ℕ) (m : ℕ) → take m s ≡ filter (λ i. any (names (family-name L k)) (read-tokens (line L i))) (range 1 (length L - 1)) → take m s ≡ read-lines L (family-name L k)
-  reads-other q s m z = z ∙ sym (rw (family-read L count k t T h y e, q))
-
--- `write_zeros`
-
-pub zeros-by : (l t x ds own read zo zr ns₀ ns : List ℕ) (k : ℕ) → zo ≡ zeroed 0 own → zr ≡ zeroed 0 read → Written l t x k ds zo zr ns₀ ns
-    → Written l t x k ds (zeroed 0 own) (zeroed 0 read) ns₀ ns
-zeros-by l t x ds own read zo zr ns₀ ns k a b W = rw (a, b) at W
 
 -- What is known of family k
 
@@ -175,5 +150,3 @@ scratch-seen n nums rep rank set seen seen′ own read F e = record {
   own-room = F .own-room;
   read-room = F .read-room;
 }
-
-pub ruleset step-rules = (reads-rsp, reads-other, zeros-by)

@@ -22,7 +22,7 @@ use Rattle.model.proofs.Decode.{length-listing}
 use Rattle.bits.specs.Edges.{preds-of}
 use Rattle.sweep.specs.declared.Sweeps.{Sweeps}
 use Rattle.sweep.specs.declared.Sweeps.the-variants.{Done, OverBudget}
-use Rattle.recover.specs.Tokens.{family-name}
+use Rattle.families.specs.Tokens.{family-name}
 use Rattle.webs.specs.Progress.{webs-over, family-sweeps, sweeps-before}
 use Rattle.webs.specs.Steps.{Known, State, FamilyDone, Going, AllDone}
 use Rattle.numbering.proofs.LineRules.{answer-done, answer-over}

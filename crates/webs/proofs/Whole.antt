@@ -29,11 +29,11 @@ use Rattle.model.specs.Places.{line-start}
 use Rattle.model.proofs.Decode.{length-listing}
 use Rattle.bits.specs.Edges.{row-words, edges, Agree, preds-of}
 use Rattle.sweep.specs.declared.Sweeps.{Sweeps}
-use Rattle.recover.specs.Families.{families-before, Numbered}
-use Rattle.recover.specs.Tokens.{Finds}
+use Rattle.families.specs.Families.{families-before, Numbered}
+use Rattle.families.specs.Tokens.{Finds}
 use Rattle.chains.specs.Chains.{waiting, token-word, Bounds, Chained}
-use Rattle.recover.proofs.Lists.{filter-same}
-use Rattle.recover.proofs.Numbered.{families-all}
+use Rattle.families.proofs.Lists.{filter-same}
+use Rattle.families.proofs.Numbered.{families-all}
 use Rattle.webs.specs.Progress.{webs-over, waiting-at, Drawn}
 use Rattle.webs.specs.Steps.{Known, State, AllDone}
 use Rattle.chains.proofs.Places.{of-family, place-token, place-inside, per-token-by}

@@ -23,7 +23,7 @@ use Rattle.definitions.specs.Recover.{Webs, def-lines, address-taken, defined-f
 use Rattle.definitions.specs.Answers.{mark}
 use Rattle.bits.specs.Edges.{Agree, preds-of}
 use Rattle.model.specs.Places.{line-start}
-use Rattle.recover.specs.Families.{place}
+use Rattle.families.specs.Families.{place}
 use Rattle.chains.specs.Chains.{waiting}
 
 abbrev pub webs-over : List Line → List (List ℕ) → List Webs

@@ -2,7 +2,6 @@
 --   Known l t x table first ds count r    the columns are well-formed, the table finds the families, `first` has the first token of each, ds has
 --                                     the family that each line defines
 --   State l t x r k space ns ms       the first k families are done: ns has the numbers, ms the marks; space holds the graph
---   Writes                            what `write_family` does
 --   FamilyDone                        what `family` does
 --   Going                             the same, with the sweeps so far
 --   AllDone budget N ns ms a          the numbers, the marks and the sweeps N are answered, where the budget allows them
@@ -11,16 +10,14 @@ use Prim.Native.Nat.{ℕ, _+_, _<_, _≤_}
 use mathlib.Core.Path.{_≡_}
 use mathlib.Core.List.{List}
 use lib.ListN.{length, getD}
-use Rattle.definitions.specs.Lists.{up-to}
 use Rattle.definitions.specs.Columns.{token-list, listing}
 use Rattle.definitions.specs.Answers.{no-family, per-token, Numbered}
 use Rattle.bits.specs.Edges.{row-words, Agree, preds-of}
 use Rattle.sweep.specs.Solved.{answer}
 use Rattle.sweep.specs.declared.Sweeps.{Sweeps}
-use Rattle.recover.specs.Families.{Defs}
-use Rattle.recover.specs.Tokens.{Finds, family-name}
+use Rattle.families.specs.Families.{Defs}
+use Rattle.families.specs.Tokens.{Finds, family-name}
 use Rattle.chains.specs.Chains.{next-place, Bounds}
-use Rattle.chains.specs.Lines.{Written, lines-marked}
 use Rattle.webs.specs.Progress.{webs-over, number-after, mark-after, family-sweeps, sweeps-before}
 
 pub record Known (l t x table first ds : List ℕ) (count r : ℕ) : Type 0 where
@@ -36,10 +33,6 @@ pub record State (l t x : List ℕ) (r k : ℕ) (space ns ms : List ℕ) : Type 
   pub agree : Agree (length l) r space
   pub numbers : ns ≡ per-token no-family (number-after l t x (webs-over (listing l t x) (preds-of (length l) r space)) k) (listing l t x)
   pub marks : ms ≡ per-token 0 (mark-after (listing l t x) (webs-over (listing l t x) (preds-of (length l) r space)) k) (listing l t x)
-
-pub record Writes (l t x : List ℕ) (k : ℕ) (ds own read ns₀ ns ms₀ ms : List ℕ) : Type 0 where
-  pub numbers : Written l t x k ds own read ns₀ ns
-  pub marks : ms ≡ lines-marked l k ds ms₀ (up-to (length l))
 
 pub record FamilyDone (l t x : List ℕ) (r k budget : ℕ) (space₀ space ns ms : List ℕ) (a : Sweeps) : Type 0 where
   pub answers : a ≡ answer budget (family-sweeps (listing l t x) (preds-of (length l) r space₀) (family-name (listing l t x) k))

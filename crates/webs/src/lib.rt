@@ -17,7 +17,7 @@ ghost use Rattle.bits.specs.Edges.{row-words, preds-of};
 ghost use Rattle.webs.specs.Progress.{webs-over, Drawn};
 ghost use Rattle.webs.specs.Steps.{Known, State, AllDone};
 use chains::tokens::chain_tokens;
-use recover::families::families;
+use families::families;
 use steps::all_families;
 use sweep::Sweeps;
 

@@ -5,92 +5,22 @@
 ghost use mathlib.Core.Path.{_≡_};
 ghost use mathlib.Core.Bool.{false};
 ghost use Prim.Native.Nat.{_<_, _≤_};
-ghost use lib.ListN.{length, take};
+ghost use lib.ListN.{length};
 ghost use Rattle.definitions.specs.Questions.{space-words};
 ghost use Rattle.definitions.specs.Columns.{listing};
-ghost use Rattle.definitions.specs.Recover.{read-lines, address-taken};
+ghost use Rattle.definitions.specs.Recover.{address-taken};
 ghost use Rattle.definitions.specs.Answers.{numbered-webs};
 ghost use Rattle.bits.specs.Edges.{preds-of};
-ghost use Rattle.text.specs.Zeroed.{zeroed};
-ghost use Rattle.recover.specs.Families.{Table, Defs};
-ghost use Rattle.recover.specs.Tokens.{family-name};
-ghost use Rattle.chains.specs.Chains.{Chain};
-ghost use Rattle.chains.specs.Lines.{Written};
+ghost use Rattle.families.specs.Tokens.{family-name};
 ghost use Rattle.webs.specs.Progress.{webs-over};
 ghost use Rattle.numbering.specs.Lines.{Scratch};
-ghost use Rattle.webs.specs.Steps.{Known, State, Writes, FamilyDone, AllDone};
-use chains::reads::address_taken;
-use chains::reads::is_rsp;
-use chains::reads::read_lines;
-use chains::writing::mark_lines;
-use chains::writing::write_tokens;
+ghost use Rattle.webs.specs.Steps.{Known, State, FamilyDone, AllDone};
+use family_tokens::family_reads;
+use family_tokens::write_family;
+use family_tokens::write_zeros;
 use numbering::family_lines;
-use recover::words::zero;
 use sweep::Sweeps;
-
-// Lists the lines that read family k, none for rsp; answers how many there are.
-fn family_reads(
-    lines: &[u32],
-    tokens: &[u32],
-    text: &[u8],
-    table: &[u16],
-    first: &[u16],
-    numbers: &[u32],
-    defs: &[u16],
-    count: usize,
-    k: usize,
-    seen: &mut [u8],
-    reads: &mut [u16],
-) -> usize
-    requires { ⌜ (let L = listing (now lines) (now tokens) (now text) in Table L count (now table) × (k < count) × (k < 1024) × Chain (now lines) (now tokens) (now text) k (now numbers) (now first) × Defs L (now defs)) ⌝ }
-    requires { ⌜ (0 < length (now lines)) × (length (now lines) ≤ length (now seen)) × (length (now lines) ≤ length (now reads)) × (length (now lines) ≤ 65536) ⌝ }
-    ensures { λ m. ⌜ (m ≤ length (now (lines .entry))) × (let L = listing (now (lines .entry)) (now (tokens .entry)) (now (text .entry)) in take m (now (reads .exit)) ≡ read-lines L (family-name L k)) ⌝ }
-{
-    if is_rsp(lines, tokens, text, table, k) {
-        return 0;
-    }
-    read_lines(lines, tokens, text, numbers, first, defs, k, seen, reads)
-}
-
-// The tokens of family k get the number 0.
-fn write_zeros(
-    lines: &[u32],
-    tokens: &[u32],
-    text: &[u8],
-    first: &[u16],
-    numbers: &mut [u32],
-    k: usize,
-    defs: &[u16],
-    own: &mut [u16],
-    read: &mut [u16],
-)
-    requires { ⌜ Chain (now lines) (now tokens) (now text) k (now numbers) (now first) × (k < 1024) ⌝ }
-    ensures { λ _. ⌜ Written (now (lines .entry)) (now (tokens .entry)) (now (text .entry)) k (now (defs .entry)) (zeroed 0 (now (own .entry))) (zeroed 0 (now (read .entry))) (now (numbers .entry)) (now (numbers .exit)) ⌝ }
-{
-    zero(own);
-    zero(read);
-    write_tokens(lines, tokens, text, numbers, first, k, defs, own, read);
-}
-
-// The tokens of family k get their numbers, its definitions their marks.
-fn write_family(
-    lines: &[u32],
-    tokens: &[u32],
-    text: &[u8],
-    first: &[u16],
-    numbers: &mut [u32],
-    marks: &mut [u8],
-    k: usize,
-    defs: &[u16],
-    own: &[u16],
-    read: &[u16],
-)
-    requires { ⌜ Chain (now lines) (now tokens) (now text) k (now numbers) (now first) × (k < 1024) ⌝ }
-    ensures { λ _. ⌜ Writes (now (lines .entry)) (now (tokens .entry)) (now (text .entry)) k (now (defs .entry)) (now (own .entry)) (now (read .entry)) (now (numbers .entry)) (now (numbers .exit)) (now (marks .entry)) (now (marks .exit)) ⌝ }
-{
-    write_tokens(lines, tokens, text, numbers, first, k, defs, own, read);
-    mark_lines(lines, marks, lines.len(), k, defs);
-}
+use walks::reads::address_taken;
 
 // Family k, whose address is not taken.
 fn family_free(

@@ -22,7 +22,7 @@ use Rattle.model.proofs.Formed.{run-text, token-within}
 use Rattle.write.specs.State.{State, add-bytes, last-kind, written-tokens, written-bytes}
 use Rattle.write.specs.Holds.{columns, Filled, Held, Room, Holds, Writes}
 use Rattle.write.specs.declared.Cursor.{Cursor}
-use Rattle.write.proofs.Words.{text-append, length-token-words, length-line-words}
+use Rattle.write.proofs.Words.{text-append, length-token-words}
 use Rattle.write_run.specs.Runs.{moved, add-run, Runs}
 use Rattle.write_run.proofs.Moving.{starts-rise, run-words}
 
@@ -84,9 +84,6 @@ count-tokens {s} h = sym (h .tokens .count) ∙ length-token-words 0 (written-to
 
 count-text : {s : State} {out : Columns} {c : Cursor} → Held s out c → c .text ≡ length (written-bytes s)
 count-text h = sym (h .text .count)
-
-count-lines : {s : State} {out : Columns} {c : Cursor} → Held s out c → c .lines ≡ length (s .lines)
-count-lines {s} h = sym (h .lines .count) ∙ length-line-words 0 (s .lines)
 
 last-kind-append : (ts : List Token) (u : Token) (us : List Token) → last-kind (ts ++ (u ∷ us)) ≡ last-kind (u ∷ us)
 unfolding last

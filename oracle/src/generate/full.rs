@@ -119,6 +119,35 @@ pub fn uncrossed() -> Vec<PseudoLine> {
     }))
 }
 
+/// So many names `PREFIXn` that the hash h -> h * by + byte (mod 256), from 0, takes to 7: the library has a table with such a hash, the original a keyed one.
+fn colliding(prefix: &str, by: usize, count: usize) -> Vec<String> {
+    let hash = |s: &String| s.bytes().fold(0, |h, b| (h * by + usize::from(b)) % 256) == 7;
+    (16..).map(|n| format!("{prefix}{n}")).filter(hash).take(count).collect()
+}
+
+/// 500 labels whose names collide in the library's table, and 500 lines with five gotos each.
+pub fn colliding_labels() -> Vec<PseudoLine> {
+    let token = |t: &str, k| Token { t: t.to_string(), k };
+    let names = colliding("L", 31, 500);
+    let labels = names.iter().map(|n| line(0, &format!("{n}:")));
+    let gotos = (0..500).map(|i| {
+        let goto = |j: usize| [token("goto", TokenKind::Keyword), token(&names[(i * 7 + j * 91) % 500], TokenKind::Symbol)];
+        PseudoLine { tokens: (0..5).flat_map(goto).collect(), ..line(1, "return;") }
+    });
+    function(MAX_LINES, labels.chain(gotos))
+}
+
+/// 300 families whose names collide in the library's table, among hundreds of gotos.
+pub fn colliding_families() -> Vec<PseudoLine> {
+    let names = colliding("r", 10, 300);
+    let is_definition = |l: &PseudoLine| l.tokens.get(1).is_some_and(|t| t.t.trim() == "=");
+    let mut lines = uncrossed();
+    for (k, l) in lines.iter_mut().filter(|l| is_definition(l)).enumerate() {
+        l.tokens[0].t.clone_from(&names[k % 300]);
+    }
+    lines
+}
+
 /// Values that creep back one line a sweep: each line closes a loop that the line before opens.
 fn creeping(r: &mut Random, most: usize) -> Vec<PseudoLine> {
     let families = r.between(1, 12.min(most / 16));

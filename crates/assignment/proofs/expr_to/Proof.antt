@@ -10,14 +10,8 @@ token-count-requires c κs = search needs
 less-requires : tie.Need-less-requires
 less-requires c κs = search needs
 
-expr-text-requires : tie.Need-expr-text-requires
-expr-text-requires c κs = search needs
-
-slice-aggregate-equal : tie.Need-slice-aggregate-equal
-slice-aggregate-equal c = search needs
-
-equal-requires : tie.Need-equal-requires
-equal-requires c κs = search needs
+is-blank-requires : tie.Need-is-blank-requires
+is-blank-requires c κs = search needs
 
 returns : tie.Need-returns
 returns c = search (sides, needs)
@@ -31,8 +25,6 @@ expr-to-spec =
     (tie.spec
     token-count-requires
     less-requires
-    expr-text-requires
-    slice-aggregate-equal
-    equal-requires
+    is-blank-requires
     returns
     returns-2)

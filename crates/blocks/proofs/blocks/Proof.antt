@@ -7,7 +7,7 @@ use denote.Ref.{now}
 use lib.ListN.{length}
 use Rattle.definitions.specs.Columns.{listing}
 use Rattle.model.proofs.Decode.{length-listing}
-use Rattle.pseudo_opt.specs.Braces.{counted}
+use Rattle.braces.specs.Counted.{counted}
 use Rattle.blocks.proofs.Reading.{closed-below, Reading, reading-start, reading-next, reading-fail, reading-end}
 use Rattle.blocks.proofs.blocks.Statement.{statement}
 use Rattle.blocks.proofs.blocks.Tie as tie

@@ -1,7 +1,7 @@
 -- `choose::choose_within` meets its contract. Assumes nothing.
 use borrow.Author.Needs.{needs}
 use denote.Ref.{now}
-use Rattle.model.specs.Refusals.{at-most}
+use Rattle.questions.specs.Refusals.{at-most}
 use Rattle.pseudo_ssa.specs.declared.Webs.the-variants.{Accepted, Refused}
 use Rattle.choose.proofs.Choosing.{early, late, chosen-webs, chosen-early, chosen-splits, equation-of, passed}
 use Rattle.choose.proofs.choose_within.Statement.{statement}

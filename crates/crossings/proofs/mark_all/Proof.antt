@@ -1,7 +1,7 @@
 -- `crossings::mark_all` meets its contract. Assumes nothing.
 use native.Mathlib.Omega.{arith}
 use borrow.Author.Needs.{needs}
-use Rattle.flow.proofs.Graphs.{zeros}
+use Rattle.words.proofs.Zeros.{zeros}
 use Rattle.crossings.proofs.mark_all.Statement.{statement}
 use Rattle.crossings.proofs.mark_all.Tie as tie
 
@@ -12,7 +12,7 @@ slice-aggregate-mark-all-in-2 : tie.Need-slice-aggregate-mark-all-in-2
 slice-aggregate-mark-all-in-2 c = search needs
 
 mark-all-in-requires : tie.Need-mark-all-in-requires
-mark-all-in-requires c κs = ((omega arith, omega arith, search needs, search needs, search needs), zeros 256)
+mark-all-in-requires c κs = ((omega arith, omega arith, search needs, search needs), zeros 256)
 
 same-length : tie.Need-same-length
 same-length c = search needs

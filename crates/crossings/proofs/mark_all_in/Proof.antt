@@ -9,7 +9,7 @@ index-requires : tie.Need-index-requires
 index-requires c κs = search needs
 
 mark-lines-requires : tie.Need-mark-lines-requires
-mark-lines-requires c κs = let I = c .before .before .before .before .before .before .before .index in ((omega (arith, I .kept .1 .1 .1 .0), omega (arith, I .kept .1 .1 .1 .1 .0), search needs, search needs, search needs), I .ensures)
+mark-lines-requires c κs = let I = c .before .before .before .before .before .before .before .index in ((omega (arith, I .kept .1 .1 .1 .0), omega (arith, I .kept .1 .1 .1 .1 .0), search needs, search needs), I .ensures)
 
 same-length : tie.Need-same-length
 same-length c = search needs

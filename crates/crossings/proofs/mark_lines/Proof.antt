@@ -11,16 +11,16 @@ use Rattle.crossings.proofs.mark_lines.Statement.{statement}
 use Rattle.crossings.proofs.mark_lines.Tie as tie
 
 abbrev Inv-loop : tie.InvT-loop
-Inv-loop lines tokens text masks heads nexts far₀ n i₀ far i = (i ≤ n) × (length far ≡ length far₀) × Marking far₀ far (all-jumps (listing lines tokens text)) (lines-from (listing lines tokens text) i)
+Inv-loop lines tokens text heads nexts far₀ n i₀ far i = (i ≤ n) × (length far ≡ length far₀) × Marking far₀ far (all-jumps (listing lines tokens text)) (lines-from (listing lines tokens text) i)
 
 abbrev μ-loop : tie.MeasureT-loop
-μ-loop lines tokens text masks heads nexts far₀ n i₀ far i = n - i
+μ-loop lines tokens text heads nexts far₀ n i₀ far i = n - i
 
 loop-holds : tie.Need-loop-holds Inv-loop μ-loop
 loop-holds c = search (joins, needs)
 
 mark-line-requires : tie.Need-mark-line-requires Inv-loop μ-loop
-mark-line-requires c κs = ((search needs, search needs, search needs, search needs, search needs, search needs), search needs)
+mark-line-requires c κs = ((search needs, search needs, search needs, search needs, search needs), search needs)
 
 add-i : tie.Need-add-i Inv-loop μ-loop
 add-i c = search (joins, needs)

@@ -9,8 +9,8 @@ use Rattle.labels.proofs.Buckets.{indexed-label, indexed-other}
 use Rattle.labels.proofs.index_line.Statement.{statement}
 use Rattle.labels.proofs.index_line.Tie as tie
 
-is-label-requires : tie.Need-is-label-requires
-is-label-requires c κs = search needs
+has-label-requires : tie.Need-has-label-requires
+has-label-requires c κs = search needs
 
 text-at-requires : tie.Need-text-at-requires
 text-at-requires c κs = search needs
@@ -59,7 +59,7 @@ returns c =
     let a = c .before .before .before .before .before .before .before .before .before .before .args in
     indexed-label (listing (now (a .lines)) (now (a .tokens)) (now (a .text))) (now (a .heads)) (now (a .nexts)) (a .i) (c .before .before .before .before .before .before .before .before .before .before .pre .1)
     (omega (arith, c .before .before .before .before .before .before .before .before .before .before .pre .0 .0, length-listing (now (a .lines)) (now (a .tokens)) (now (a .text)))) (omega arith)
-    (c .before .before .before .before .is-label .result) (c .before .before .before .before .is-label .ensures) (c .before .before .before .if1 .taken) (c .before .bucket .result) _ (c .before .bucket .ensures .0) (c .before .before .text-at .ensures) (omega arith)
+    (c .before .before .before .before .has-label .result) (c .before .before .before .before .has-label .ensures) (c .before .before .before .if1 .taken) (c .before .bucket .result) _ (c .before .bucket .ensures .0) (c .before .before .text-at .ensures) (omega arith)
 
 same-length-3 : tie.Need-same-length-3
 same-length-3 c = search needs
@@ -69,13 +69,13 @@ returns-2 c =
     let a = c .before .before .before .before .before .before .before .args in
     indexed-other (listing (now (a .lines)) (now (a .tokens)) (now (a .text))) (now (a .heads)) (now (a .nexts)) (a .i) (c .before .before .before .before .before .before .before .pre .1)
     (omega (arith, c .before .before .before .before .before .before .before .pre .0 .0, length-listing (now (a .lines)) (now (a .tokens)) (now (a .text)))) (omega arith)
-    (c .before .is-label .result) (c .before .is-label .ensures) (c .if1 .left)
+    (c .before .has-label .result) (c .before .has-label .ensures) (c .if1 .left)
 
 pub index-line-spec : {M : Type 1} → statement M
 index-line-spec =
     tie.close
     (tie.spec
-    is-label-requires
+    has-label-requires
     text-at-requires
     bucket-requires
     mul-nexts

@@ -1,7 +1,7 @@
 -- `pass_call::pass_refusal` meets its contract. One question after the other.
 -- Assumes nothing.
 use Rattle.pass_call.proofs.Calling.{small-columns}
-use Rattle.model.proofs.Asked.{refusal-here, refusal-next, refusal-none}
+use Rattle.questions.proofs.Asked.{refusal-here, refusal-next, refusal-none}
 use native.Mathlib.Omega.{arith}
 use borrow.Author.Needs.{needs}
 use Rattle.pass_call.proofs.pass_refusal.Statement.{statement}

@@ -1,9 +1,7 @@
--- `plan::make_for` meets its contract. By its three changes.
+-- `plan::make_for` meets its contract. By its two changes.
 -- Assumes nothing.
 use Rattle.plan.proofs.Loops.{made-for}
-use native.Mathlib.Omega.{arith}
 use lib.ListN.{length-set}
-use mathlib.Core.Path.{_∙_}
 use borrow.Author.Needs.{needs}
 use Rattle.plan.proofs.make_for.Statement.{statement}
 use Rattle.plan.proofs.make_for.Tie as tie
@@ -30,13 +28,7 @@ slice-read-z : tie.Need-slice-read-z
 slice-read-z c = search (made-for, needs)
 
 for-word-requires : tie.Need-for-word-requires
-for-word-requires c κs = search (made-for, needs)
-
-sub-remove : tie.Need-sub-remove
-sub-remove c = search (made-for, needs)
-
-remove-requires : tie.Need-remove-requires
-remove-requires c κs = search (made-for, needs)
+for-word-requires c κs = search needs
 
 mul-plan : tie.Need-mul-plan
 mul-plan c = search (made-for, needs)
@@ -44,14 +36,14 @@ mul-plan c = search (made-for, needs)
 slice-write-plan : tie.Need-slice-write-plan
 slice-write-plan c = search (made-for, needs)
 
-sub-remove-2 : tie.Need-sub-remove-2
-sub-remove-2 c = search (made-for, needs)
+sub-remove-two : tie.Need-sub-remove-two
+sub-remove-two c = search (made-for, needs)
 
-remove-requires-2 : tie.Need-remove-requires-2
-remove-requires-2 c κs = (omega arith, simp length-set (omega (arith, c .before .before .before .remove .kept .0)))
+remove-two-requires : tie.Need-remove-two-requires
+remove-two-requires c κs = search (made-for, needs)
 
 same-length : tie.Need-same-length
-same-length c = c .before .before .remove2 .kept .0 ∙ simp length-set (c .before .before .before .before .before .before .remove .kept .0)
+same-length c = simp length-set at (c .before .before .remove-two .kept .0)
 
 returns : tie.Need-returns
 returns c = search (made-for, needs)
@@ -68,11 +60,9 @@ make-for-spec =
     mul-z
     slice-read-z
     for-word-requires
-    sub-remove
-    remove-requires
     mul-plan
     slice-write-plan
-    sub-remove-2
-    remove-requires-2
+    sub-remove-two
+    remove-two-requires
     same-length
     returns)

@@ -2,7 +2,7 @@
 use mathlib.Core.Path.{_∙_}
 use borrow.Author.Needs.{needs}
 use denote.Ref.{now}
-use Rattle.model.specs.Refusals.{at-most}
+use Rattle.questions.specs.Refusals.{at-most}
 use Rattle.pseudo_ssa.proofs.Asking.{asked}
 use Rattle.pseudo_ssa.proofs.Written.{within-answered, within-refused}
 use Rattle.pseudo_ssa.proofs.recover_within.Statement.{statement}

@@ -13,7 +13,7 @@ use Rattle.recover_goto_loops.proofs.passed_in.Statement.{statement}
 use Rattle.recover_goto_loops.proofs.passed_in.Tie as tie
 
 plan-goto-loops-requires : tie.Need-plan-goto-loops-requires
-plan-goto-loops-requires c κs = let g = c .before .before .before .before .before .before .before .before .before .before .args in let C = columns (now (g .lines)) (now (g .addresses)) (now (g .tokens)) (now (g .text)) in let O = columns (now (g .rows)) (now (g .places)) (now (g .words)) (now (g .bytes)) in let e = c .before .before .before .before .before .before .before .before .before .before .pre .1 in let few = few-lines C O e in (few, omega (arith, c .before .before .before .before .before .before .before .before .before .before .pre .0), asked-all C O e .2)
+plan-goto-loops-requires c κs = let g = c .before .before .before .before .before .before .before .before .before .before .args in let C = columns (now (g .lines)) (now (g .addresses)) (now (g .tokens)) (now (g .text)) in let O = columns (now (g .rows)) (now (g .places)) (now (g .words)) (now (g .bytes)) in let e = c .before .before .before .before .before .before .before .before .before .before .pre .1 in let few = few-lines C O e in (few, c .before .before .before .before .before .before .before .before .before .before .pre .0, asked-all C O e .2)
 
 enum-known-n : tie.Need-enum-known-n
 enum-known-n c = search needs

@@ -13,7 +13,7 @@ use Rattle.recover_loops.proofs.passed_in.Statement.{statement}
 use Rattle.recover_loops.proofs.passed_in.Tie as tie
 
 plan-loops-requires : tie.Need-plan-loops-requires
-plan-loops-requires c κs = let g = c .before .before .before .before .before .before .before .before .before .before .args in let C = columns (now (g .lines)) (now (g .addresses)) (now (g .tokens)) (now (g .text)) in let O = columns (now (g .rows)) (now (g .places)) (now (g .words)) (now (g .bytes)) in let e = c .before .before .before .before .before .before .before .before .before .before .pre .1 in let few = few-lines C O e in (few, omega (arith, c .before .before .before .before .before .before .before .before .before .before .pre .0), asked-all C O e .2)
+plan-loops-requires c κs = let g = c .before .before .before .before .before .before .before .before .before .before .before .args in let C = columns (now (g .lines)) (now (g .addresses)) (now (g .tokens)) (now (g .text)) in let O = columns (now (g .rows)) (now (g .places)) (now (g .words)) (now (g .bytes)) in let e = c .before .before .before .before .before .before .before .before .before .before .before .pre .1 .0 in let few = few-lines C O e in let p = c .before .before .before .before .before .before .before .before .before .before .before .pre in ((few, p .0, asked-all C O e .2), p .1 .1)
 
 enum-known-n : tie.Need-enum-known-n
 enum-known-n c = search needs
@@ -40,10 +40,10 @@ same-length-5 : tie.Need-same-length-5
 same-length-5 c = search needs
 
 returns : tie.Need-returns
-returns c = let g = c .before .before .before .before .before .before .before .before .before .before .before .before .before .before .before .before .before .before .before .before .before .before .before .before .before .before .before .before .args in let C = columns (now (g .lines)) (now (g .addresses)) (now (g .tokens)) (now (g .text)) in let O = columns (now (g .rows)) (now (g .places)) (now (g .words)) (now (g .bytes)) in let e = c .before .before .before .before .before .before .before .before .before .before .before .before .before .before .before .before .before .before .before .before .before .before .before .before .before .before .before .before .pre .1 in call-overflows loops C O e (plan-overflow (source C) _ _ (c .before .before .before .before .before .before .before .before .before .before .before .before .before .before .before .before .before .plan-loops .ensures .0 (source C) (columns-source _ _ _ _ (asked-all C O e .1))) (c .before .before .before .before .before .before .before .before .before .before .before .before .before .enum-told .given .1)) _ (c .before .before .before .before .before .before .before .before .zero-all .ensures)
+returns c = let g = c .before .before .before .before .before .before .before .before .before .before .before .before .before .before .before .before .before .before .before .before .before .before .before .before .before .before .before .before .before .args in let C = columns (now (g .lines)) (now (g .addresses)) (now (g .tokens)) (now (g .text)) in let O = columns (now (g .rows)) (now (g .places)) (now (g .words)) (now (g .bytes)) in let e = c .before .before .before .before .before .before .before .before .before .before .before .before .before .before .before .before .before .before .before .before .before .before .before .before .before .before .before .before .before .pre .1 .0 in call-overflows loops C O e (plan-overflow (source C) _ _ (c .before .before .before .before .before .before .before .before .before .before .before .before .before .before .before .before .before .plan-loops .ensures .0 (source C) (columns-source _ _ _ _ (asked-all C O e .1))) (c .before .before .before .before .before .before .before .before .before .before .before .before .before .enum-told .given .1)) _ (c .before .before .before .before .before .before .before .before .zero-all .ensures)
 
 written-requires : tie.Need-written-requires
-written-requires c κs = let g = c .before .before .before .before .before .before .before .before .before .before .before .before .before .before .before .before .before .before .before .before .before .args in let C = columns (now (g .lines)) (now (g .addresses)) (now (g .tokens)) (now (g .text)) in let O = columns (now (g .rows)) (now (g .places)) (now (g .words)) (now (g .bytes)) in let e = c .before .before .before .before .before .before .before .before .before .before .before .before .before .before .before .before .before .before .before .before .before .pre .1 in let q = c .before .before .before .before .before .before .n .given .1 in let p = plan-emitted _ _ _ _ (c .before .before .before .before .before .before .before .before .before .before .plan-loops .ensures .1) q in let few = few-lines C O e in ((omega (arith, p .0, few, c .before .before .before .before .before .before .before .before .before .before .before .before .before .before .before .before .before .before .before .before .before .pre .0, c .before .before .before .before .before .before .before .before .before .before .plan-loops .kept .1 .1 .1 .0), p .1), writable C O _ e (plan-fits (source C) _ _ (c .before .before .before .before .before .before .before .before .before .before .plan-loops .ensures .0 (source C) (columns-source _ _ _ _ (asked-all C O e .1))) _ q))
+written-requires c κs = let g = c .before .before .before .before .before .before .before .before .before .before .before .before .before .before .before .before .before .before .before .before .before .before .args in let C = columns (now (g .lines)) (now (g .addresses)) (now (g .tokens)) (now (g .text)) in let O = columns (now (g .rows)) (now (g .places)) (now (g .words)) (now (g .bytes)) in let e = c .before .before .before .before .before .before .before .before .before .before .before .before .before .before .before .before .before .before .before .before .before .before .pre .1 .0 in let q = c .before .before .before .before .before .before .n .given .1 in let p = plan-emitted _ _ _ _ (c .before .before .before .before .before .before .before .before .before .before .plan-loops .ensures .1) q in let few = few-lines C O e in ((omega (arith, p .0, few, c .before .before .before .before .before .before .before .before .before .before .before .before .before .before .before .before .before .before .before .before .before .before .pre .0, c .before .before .before .before .before .before .before .before .before .before .plan-loops .kept .1 .1 .1 .1 .0), p .1), writable C O _ e (plan-fits (source C) _ _ (c .before .before .before .before .before .before .before .before .before .before .plan-loops .ensures .0 (source C) (columns-source _ _ _ _ (asked-all C O e .1))) _ q))
 
 same-length-6 : tie.Need-same-length-6
 same-length-6 c = search needs
@@ -61,7 +61,7 @@ same-length-10 : tie.Need-same-length-10
 same-length-10 c = search needs
 
 returns-2 : tie.Need-returns-2
-returns-2 c = let g = c .before .before .before .before .before .before .before .before .before .before .before .before .before .before .before .before .before .before .before .before .before .before .before .before .before .before .before .before .before .before .args in let C = columns (now (g .lines)) (now (g .addresses)) (now (g .tokens)) (now (g .text)) in let O = columns (now (g .rows)) (now (g .places)) (now (g .words)) (now (g .bytes)) in let e = c .before .before .before .before .before .before .before .before .before .before .before .before .before .before .before .before .before .before .before .before .before .before .before .before .before .before .before .before .before .before .pre .1 in call-accepts loops C O e _ (plan-lines (source C) _ _ (c .before .before .before .before .before .before .before .before .before .before .before .before .before .before .before .before .before .before .before .plan-loops .ensures .0 (source C) (columns-source _ _ _ _ (asked-all C O e .1))) _ (c .before .before .before .before .before .before .before .before .before .before .before .before .before .before .before .n .given .1)) _ (c .before .before .before .before .before .before .before .before .written .ensures)
+returns-2 c = let g = c .before .before .before .before .before .before .before .before .before .before .before .before .before .before .before .before .before .before .before .before .before .before .before .before .before .before .before .before .before .before .before .args in let C = columns (now (g .lines)) (now (g .addresses)) (now (g .tokens)) (now (g .text)) in let O = columns (now (g .rows)) (now (g .places)) (now (g .words)) (now (g .bytes)) in let e = c .before .before .before .before .before .before .before .before .before .before .before .before .before .before .before .before .before .before .before .before .before .before .before .before .before .before .before .before .before .before .before .pre .1 .0 in call-accepts loops C O e _ (plan-lines (source C) _ _ (c .before .before .before .before .before .before .before .before .before .before .before .before .before .before .before .before .before .before .before .plan-loops .ensures .0 (source C) (columns-source _ _ _ _ (asked-all C O e .1))) _ (c .before .before .before .before .before .before .before .before .before .before .before .before .before .before .before .n .given .1)) _ (c .before .before .before .before .before .before .before .before .written .ensures)
 
 pub passed-in-spec : {M : Type 1} → statement M
 passed-in-spec =

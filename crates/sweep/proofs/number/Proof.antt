@@ -3,7 +3,7 @@ use Prim.Native.Nat.{_-_, _≤_, _<_}
 use mathlib.Core.Path.{_≡_, refl, _∙_}
 use native.Mathlib.Omega.{arith}
 use lib.ListN.{length, length-set}
-use Rattle.sweep.specs.Numbers.{Numbering}
+use Rattle.visit.specs.Numbers.{Numbering}
 use Rattle.sweep.proofs.Numbering.{number-start, number-end}
 use borrow.Author.Needs.{needs}
 use Rattle.sweep.proofs.number.Statement.{statement}

@@ -2,7 +2,7 @@
 use Prim.Native.Nat.{_-_, _≤_}
 use mathlib.Core.Path.{_≡_}
 use lib.ListN.{length}
-use Rattle.sweep.proofs.LayoutLaws.{room-same}
+use Rattle.visit.proofs.LayoutLaws.{room-same}
 use Rattle.sweep.proofs.Counting.{Solving, solve-start, solve-next, solve-done, solve-over, agree-still}
 use borrow.Author.Needs.{needs}
 use Rattle.sweep.proofs.solve.Statement.{statement}

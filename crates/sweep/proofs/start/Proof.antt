@@ -1,5 +1,5 @@
 -- `sweep::start` meets its contract. Assumes nothing.
-use Rattle.sweep.proofs.StepLaws.{start-lists}
+use Rattle.visit.proofs.StepLaws.{start-lists}
 use borrow.Author.Needs.{needs}
 use Rattle.sweep.proofs.start.Statement.{statement}
 use Rattle.sweep.proofs.start.Tie as tie

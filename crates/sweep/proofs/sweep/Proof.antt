@@ -2,7 +2,7 @@
 use Prim.Native.Nat.{_-_}
 use mathlib.Core.Path.{_≡_}
 use lib.ListN.{length}
-use Rattle.sweep.proofs.LayoutLaws.{room-same}
+use Rattle.visit.proofs.LayoutLaws.{room-same}
 use Rattle.sweep.proofs.Worklist.{Working, work-start, work-next, work-end, work-agree}
 use borrow.Author.Needs.{needs}
 use Rattle.sweep.proofs.sweep.Statement.{statement}

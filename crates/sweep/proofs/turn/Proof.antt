@@ -1,5 +1,5 @@
 -- `sweep::turn` meets its contract. Assumes nothing.
-use Rattle.sweep.proofs.StepLaws.{turn-lists}
+use Rattle.visit.proofs.StepLaws.{turn-lists}
 use borrow.Author.Needs.{needs}
 use Rattle.sweep.proofs.turn.Statement.{statement}
 use Rattle.sweep.proofs.turn.Tie as tie

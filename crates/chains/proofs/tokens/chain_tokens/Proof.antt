@@ -1,60 +1,37 @@
--- `chains::tokens::chain_tokens` meets its contract. The lines from line i on are done.
+-- `chains::tokens::chain_tokens` meets its contract. Nothing was looked up yet.
 -- Assumes nothing.
-use mathlib.Core.Path.{_≡_}
-use Prim.Native.Nat.{_≤_}
-use lib.ListN.{length}
-use Rattle.model.specs.Places.{line-start}
-use Rattle.chains.specs.Chains.{Chained}
+use Rattle.memo.proofs.Memos.{memo-empty}
+use Rattle.words.proofs.Zeros.{zeros}
 use Rattle.chains.proofs.TokenRules.{token-rules}
 use borrow.Author.Needs.{needs}
 use Rattle.chains.proofs.tokens.chain_tokens.Statement.{statement}
 use Rattle.chains.proofs.tokens.chain_tokens.Tie as tie
 
-abbrev Inv-loop : tie.InvT-loop
-Inv-loop lines tokens text table count numbers₀ first₀ i₀ numbers first i = (length numbers ≡ length numbers₀) × (length first ≡ length first₀) × (i ≤ length lines) × Chained lines tokens text count (line-start lines i) numbers first
+no-heads-requires : tie.Need-no-heads-requires
+no-heads-requires c κs = search needs
 
-abbrev μ-loop : tie.MeasureT-loop
-μ-loop lines tokens text table count numbers₀ first₀ i₀ numbers first i = i
+slice-aggregate-chain-lines : tie.Need-slice-aggregate-chain-lines
+slice-aggregate-chain-lines c = search needs
 
-no-heads-requires : tie.Need-no-heads-requires Inv-loop μ-loop
-no-heads-requires c κs = search (token-rules, needs)
+chain-lines-requires : tie.Need-chain-lines-requires
+chain-lines-requires c κs = ((search needs, search needs, search (token-rules, needs)), (memo-empty _ _ (zeros 128), search needs))
 
-loop-holds : tie.Need-loop-holds Inv-loop μ-loop
-loop-holds c = search (token-rules, needs)
+same-length : tie.Need-same-length
+same-length c = search needs
 
-sub-i : tie.Need-sub-i Inv-loop μ-loop
-sub-i c = search (token-rules, needs)
+same-length-2 : tie.Need-same-length-2
+same-length-2 c = search needs
 
-chain-line-requires : tie.Need-chain-line-requires Inv-loop μ-loop
-chain-line-requires c κs = (search needs, search needs, search needs, search (token-rules, needs))
-
-loop-less : tie.Need-loop-less Inv-loop μ-loop
-loop-less c = search (token-rules, needs)
-
-loop-again : tie.Need-loop-again Inv-loop μ-loop
-loop-again c = search (token-rules, needs)
-
-same-length : tie.Need-same-length Inv-loop μ-loop
-same-length c = search (token-rules, needs)
-
-same-length-2 : tie.Need-same-length-2 Inv-loop μ-loop
-same-length-2 c = search (token-rules, needs)
-
-returns : tie.Need-returns Inv-loop μ-loop
-returns c = search (token-rules, needs)
+returns : tie.Need-returns
+returns c = search needs
 
 pub chain-tokens-spec : {M : Type 1} → statement M
 chain-tokens-spec =
     tie.close
     (tie.spec
-    Inv-loop
-    μ-loop
     no-heads-requires
-    loop-holds
-    sub-i
-    chain-line-requires
-    loop-less
-    loop-again
+    slice-aggregate-chain-lines
+    chain-lines-requires
     same-length
     same-length-2
     returns)

@@ -9,10 +9,10 @@ use Rattle.definitions.specs.FlowGraph.{successors}
 use Rattle.definitions.specs.Lists.{member}
 use Rattle.definitions.specs.Columns.{listing}
 use Rattle.model.proofs.Decode.{length-listing}
-use Rattle.flow.specs.Drawing.{Drawing, rest, line-edges}
+use Rattle.line_steps.specs.Drawing.{Drawing, rest, line-edges}
 use Rattle.blocks.specs.Structure.{blocks-of}
 use Rattle.flow.proofs.Graphs.{rest-next, rest-end, rest-all}
-use Rattle.flow.proofs.Drawings.{matrices-kept, drawn-as, drawing-start, drawing-next, drawing-end}
+use Rattle.line_steps.proofs.Drawings.{matrices-kept, drawn-as, drawing-start, drawing-next, drawing-end}
 use Rattle.flow.proofs.graph.draw.Statement.{statement}
 use Rattle.flow.proofs.graph.draw.Tie as tie
 

@@ -7,7 +7,7 @@ use denote.Ref.{now}
 use lib.ListN.{length}
 use Rattle.definitions.specs.Columns.{listing}
 use Rattle.model.proofs.Decode.{length-listing}
-use Rattle.flow.proofs.Drawings.{matrices-kept}
+use Rattle.line_steps.proofs.Drawings.{matrices-kept}
 use Rattle.flow.proofs.Graphs.{graph-drawn, refused-label, not-refused, some-none}
 use borrow.Author.Needs.{needs}
 use Rattle.flow.proofs.graph.label_graph.Statement.{statement}

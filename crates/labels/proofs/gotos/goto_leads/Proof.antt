@@ -4,12 +4,6 @@ use Rattle.labels.proofs.Leads.{jumping}
 use Rattle.labels.proofs.gotos.goto_leads.Statement.{statement}
 use Rattle.labels.proofs.gotos.goto_leads.Tie as tie
 
-slice-aggregate-is-kw : tie.Need-slice-aggregate-is-kw
-slice-aggregate-is-kw c = search needs
-
-is-kw-requires : tie.Need-is-kw-requires
-is-kw-requires c κs = search needs
-
 goto-line-requires : tie.Need-goto-line-requires
 goto-line-requires c κs = search needs
 
@@ -25,18 +19,6 @@ returns c = search (jumping, needs)
 returns-2 : tie.Need-returns-2
 returns-2 c = search (jumping, needs)
 
-returns-3 : tie.Need-returns-3
-returns-3 c = search (jumping, needs)
-
 pub goto-leads-spec : {M : Type 1} → statement M
 goto-leads-spec =
-    tie.close
-    (tie.spec
-    slice-aggregate-is-kw
-    is-kw-requires
-    goto-line-requires
-    enum-told
-    enum-told-2
-    returns
-    returns-2
-    returns-3)
+    tie.close (tie.spec goto-line-requires enum-told enum-told-2 returns returns-2)

@@ -1,35 +1,43 @@
--- `labels::gotos::tokens_lead` meets its contract. The answer is that of the gotos from token j on. Assumes nothing.
-use Prim.Native.Nat.{_≤_, _-_}
+-- `labels::gotos::tokens_lead` meets its contract. The answer is that of the gotos from the one at place k on. Assumes nothing.
+use Prim.Native.Nat.{_-_}
 use mathlib.Core.Path.{_≡_}
 use borrow.Author.Needs.{needs}
 use Rattle.definitions.specs.FlowGraph.{leads}
-use Rattle.definitions.specs.Columns.{listing}
-use Rattle.definitions.specs.Model.{line}
+use Rattle.definitions.specs.Columns.{token-list, listing}
 use Rattle.definitions.specs.Lists.{all, is-some}
-use Rattle.labels.proofs.Leads.{leads-from, leading}
+use Rattle.labels.proofs.Leads.{leads-at, leading}
 use Rattle.labels.proofs.gotos.tokens_lead.Statement.{statement}
 use Rattle.labels.proofs.gotos.tokens_lead.Tie as tie
 
 abbrev Inv-loop : tie.InvT-loop
-Inv-loop lines tokens text heads nexts i n j₀ j = (j ≤ n) × (all is-some (leads (listing lines tokens text) i) ≡ all is-some (leads-from (listing lines tokens text) (line (listing lines tokens text) i .tokens) j))
+Inv-loop lines tokens text heads nexts i e k₀ k = all is-some (leads (listing lines tokens text) i) ≡ all is-some (leads-at (listing lines tokens text) (token-list tokens text) k e)
 
 abbrev μ-loop : tie.MeasureT-loop
-μ-loop lines tokens text heads nexts i n j₀ j = n - j
+μ-loop lines tokens text heads nexts i e k₀ k = e - k
 
-token-count-requires : tie.Need-token-count-requires Inv-loop μ-loop
-token-count-requires c κs = search (leading, needs)
+line-end-requires : tie.Need-line-end-requires Inv-loop μ-loop
+line-end-requires c κs = search needs
+
+line-start-requires : tie.Need-line-start-requires Inv-loop μ-loop
+line-start-requires c κs = search needs
+
+next-goto-requires : tie.Need-next-goto-requires Inv-loop μ-loop
+next-goto-requires c κs = search needs
 
 loop-holds : tie.Need-loop-holds Inv-loop μ-loop
 loop-holds c = search (leading, needs)
 
-goto-leads-requires : tie.Need-goto-leads-requires Inv-loop μ-loop
-goto-leads-requires c κs = search (leading, needs)
+add-b : tie.Need-add-b Inv-loop μ-loop
+add-b c = search needs
 
-add-j : tie.Need-add-j Inv-loop μ-loop
-add-j c = search (leading, needs)
+goto-leads-requires : tie.Need-goto-leads-requires Inv-loop μ-loop
+goto-leads-requires c κs = search needs
+
+next-goto-requires-2 : tie.Need-next-goto-requires-2 Inv-loop μ-loop
+next-goto-requires-2 c κs = search needs
 
 loop-less : tie.Need-loop-less Inv-loop μ-loop
-loop-less c = search (leading, needs)
+loop-less c = search needs
 
 loop-again : tie.Need-loop-again Inv-loop μ-loop
 loop-again c = search (leading, needs)
@@ -46,10 +54,13 @@ tokens-lead-spec =
     (tie.spec
     Inv-loop
     μ-loop
-    token-count-requires
+    line-end-requires
+    line-start-requires
+    next-goto-requires
     loop-holds
+    add-b
     goto-leads-requires
-    add-j
+    next-goto-requires-2
     loop-less
     loop-again
     returns

@@ -11,10 +11,10 @@ use Rattle.loops.proofs.for_loops.continues.Statement.{statement}
 use Rattle.loops.proofs.for_loops.continues.Tie as tie
 
 abbrev Inv-loop : tie.InvT-loop
-Inv-loop lines tokens text plan a e j₀ j = any (continue-word (listing lines tokens text)) (part a e plan) ≡ any (continue-word (listing lines tokens text)) (part j e plan)
+Inv-loop lines tokens text masks plan a e j₀ j = any (continue-word (listing lines tokens text)) (part a e plan) ≡ any (continue-word (listing lines tokens text)) (part j e plan)
 
 abbrev μ-loop : tie.MeasureT-loop
-μ-loop lines tokens text plan a e j₀ j = e - j
+μ-loop lines tokens text masks plan a e j₀ j = e - j
 
 loop-holds : tie.Need-loop-holds Inv-loop μ-loop
 loop-holds c = search (continue-words, needs)

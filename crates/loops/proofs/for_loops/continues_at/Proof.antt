@@ -8,15 +8,12 @@ use Rattle.loops.proofs.for_loops.continues_at.Tie as tie
 source-requires : tie.Need-source-requires
 source-requires c κs = search (continue-words, needs)
 
-slice-aggregate-has-kw : tie.Need-slice-aggregate-has-kw
-slice-aggregate-has-kw c = search (continue-words, needs)
-
-has-kw-requires : tie.Need-has-kw-requires
-has-kw-requires c κs = search (continue-words, needs)
+has-continue-requires : tie.Need-has-continue-requires
+has-continue-requires c κs = search (continue-words, needs)
 
 returns : tie.Need-returns
 returns c = search (continue-words, needs)
 
 pub continues-at-spec : {M : Type 1} → statement M
 continues-at-spec =
-    tie.close (tie.spec source-requires slice-aggregate-has-kw has-kw-requires returns)
+    tie.close (tie.spec source-requires has-continue-requires returns)

@@ -11,9 +11,6 @@ register-at-requires c κs = search (for-words, needs)
 text-at-requires : tie.Need-text-at-requires
 text-at-requires c κs = search (for-words, needs)
 
-counts-requires : tie.Need-counts-requires
-counts-requires c κs = search (for-words, needs)
-
 mul-h : tie.Need-mul-h
 mul-h c = search (for-words, needs)
 
@@ -26,11 +23,23 @@ indent-requires c κs = search (for-words, needs)
 initialiser-requires : tie.Need-initialiser-requires
 initialiser-requires c κs = search (for-words, needs)
 
+enum-known-k : tie.Need-enum-known-k
+enum-known-k c = search (for-words, needs)
+
+enum-told : tie.Need-enum-told
+enum-told c = search (for-words, needs)
+
 returns : tie.Need-returns
 returns c = search (for-words, needs)
 
+counts-requires : tie.Need-counts-requires
+counts-requires c κs = search (for-words, needs)
+
 returns-2 : tie.Need-returns-2
 returns-2 c = search (for-words, needs)
+
+returns-3 : tie.Need-returns-3
+returns-3 c = search (for-words, needs)
 
 pub counted-place-spec : {M : Type 1} → statement M
 counted-place-spec =
@@ -38,10 +47,13 @@ counted-place-spec =
     (tie.spec
     register-at-requires
     text-at-requires
-    counts-requires
     mul-h
     shared-slice-read-h
     indent-requires
     initialiser-requires
+    enum-known-k
+    enum-told
     returns
-    returns-2)
+    counts-requires
+    returns-2
+    returns-3)

@@ -5,8 +5,7 @@ use Prim.Native.Nat.{_≤_}
 use Rattle.definitions.specs.Columns.{listing}
 use Rattle.family.specs.Register.{family-of, names-family}
 use Rattle.loops.specs.Words.{init-words}
-use Rattle.loops.proofs.WordRules.{init-places, init-next}
-use native.Mathlib.Omega.{arith}
+use Rattle.loops.proofs.WordRules.{init-places}
 use borrow.Author.Needs.{needs}
 use Rattle.loops.proofs.for_loops.initialiser.Statement.{statement}
 use Rattle.loops.proofs.for_loops.initialiser.Tie as tie
@@ -32,8 +31,11 @@ mul-v c = search (init-places, needs)
 shared-slice-read-v : tie.Need-shared-slice-read-v Inv-loop μ-loop
 shared-slice-read-v c = search (init-places, needs)
 
-inits-at-requires : tie.Need-inits-at-requires Inv-loop μ-loop
-inits-at-requires c κs = search (init-places, needs)
+before-at-requires : tie.Need-before-at-requires Inv-loop μ-loop
+before-at-requires c κs = search (init-places, needs)
+
+enum-told : tie.Need-enum-told Inv-loop μ-loop
+enum-told c = search (init-places, needs)
 
 sub-t18 : tie.Need-sub-t18 Inv-loop μ-loop
 sub-t18 c = search (init-places, needs)
@@ -41,8 +43,8 @@ sub-t18 c = search (init-places, needs)
 returns-2 : tie.Need-returns-2 Inv-loop μ-loop
 returns-2 c = search (init-places, needs)
 
-passes-at-requires : tie.Need-passes-at-requires Inv-loop μ-loop
-passes-at-requires c κs = search (init-places, needs)
+enum-told-2 : tie.Need-enum-told-2 Inv-loop μ-loop
+enum-told-2 c = search (init-places, needs)
 
 sub-k : tie.Need-sub-k Inv-loop μ-loop
 sub-k c = search (init-places, needs)
@@ -54,7 +56,10 @@ loop-less : tie.Need-loop-less Inv-loop μ-loop
 loop-less c = search (init-places, needs)
 
 loop-again : tie.Need-loop-again Inv-loop μ-loop
-loop-again c = (omega arith, init-next _ _ _ _ _ _ _ (c .before .before .before .before .before .before .before .loop .inv .1) (c .before .before .before .before .before .before .loop-test .taken) (c .before .before .before .before .before .if1 .left) _ (c .before .before .before .inits-at .ensures) (c .before .before .if2 .left) _ (c .before .passes-at .ensures) (c .if3 .taken))
+loop-again c = search (init-places, needs)
+
+enum-told-3 : tie.Need-enum-told-3 Inv-loop μ-loop
+enum-told-3 c = search (init-places, needs)
 
 returns-3 : tie.Need-returns-3 Inv-loop μ-loop
 returns-3 c = search (init-places, needs)
@@ -73,13 +78,15 @@ initialiser-spec =
     sub-v
     mul-v
     shared-slice-read-v
-    inits-at-requires
+    before-at-requires
+    enum-told
     sub-t18
     returns-2
-    passes-at-requires
+    enum-told-2
     sub-k
     sub-left
     loop-less
     loop-again
+    enum-told-3
     returns-3
     returns-4)

@@ -1,6 +1,6 @@
 -- `loops::for_loops::to_for` meets its contract. By the answers of the two searches.
 -- Assumes nothing.
-use Rattle.loops.proofs.ForRules.{for-answers, end-inside, place-calls, place-inside}
+use Rattle.loops.proofs.ForRules.{for-answers, for-done, end-inside, place-calls, place-inside}
 use denote.Ref.{now}
 use Prim.Native.Nat.{_+_}
 use borrow.Author.Needs.{needs}
@@ -38,7 +38,7 @@ returns-2 : tie.Need-returns-2
 returns-2 c = search (for-answers, needs)
 
 for-place-requires : tie.Need-for-place-requires
-for-place-requires c κs = let p = c .before .before .before .before .before .before .before .before .before .before .before .before .before .pre .0 in let i = place-calls _ _ _ _ _ _ (p .0) (p .1) (c .before .before .before .before .first-end .ensures) (c .before .before .e .given .1) in (i .0, i .1, p .2, i .2)
+for-place-requires c κs = let p = c .before .before .before .before .before .before .before .before .before .before .before .before .before .before .pre in let i = place-calls _ _ _ _ _ _ (p .0 .0) (p .0 .1) (c .before .before .before .before .first-end .ensures) (c .before .before .e .given .1) in ((i .0, i .1, p .0 .2, i .2), p .1 .1)
 
 enum-known-k : tie.Need-enum-known-k
 enum-known-k c = search (for-answers, needs)
@@ -53,7 +53,7 @@ returns-3 : tie.Need-returns-3
 returns-3 c = search (for-answers, needs)
 
 make-for-requires : tie.Need-make-for-requires
-make-for-requires c κs = let a = c .before .before .before .before .before .before .before .before .before .before .before .before .before .before .before .before .before .before .args in let i = end-inside _ (now (a .plan)) _ (a .w + 1) _ _ (c .before .before .before .before .before .before .before .before .before .before .before .before .before .before .before .before .before .before .pre .0 .1) (c .before .before .before .before .before .before .before .before .before .first-end .ensures) (c .before .before .before .before .before .before .before .e .given .1) in let p = place-inside _ _ _ _ _ _ (c .before .before .before .before .for-place .ensures) (c .before .before .k .given .1) in (p .0, p .1, i .1, c .before .before .before .before .before .before .before .before .before .before .before .before .before .before .before .before .before .before .pre .0 .1)
+make-for-requires c κs = let a = c .before .before .before .before .before .before .before .before .before .before .before .before .before .before .before .before .before .before .before .args in let i = end-inside _ (now (a .plan)) _ (a .w + 1) _ _ (c .before .before .before .before .before .before .before .before .before .before .before .before .before .before .before .before .before .before .before .pre .0 .1) (c .before .before .before .before .before .before .before .before .before .first-end .ensures) (c .before .before .before .before .before .before .before .e .given .1) in let p = place-inside _ _ _ _ _ _ (c .before .before .before .before .for-place .ensures) (c .before .before .k .given .1) in (p .0, p .1, i .1, c .before .before .before .before .before .before .before .before .before .before .before .before .before .before .before .before .before .before .before .pre .0 .1)
 
 sub-result : tie.Need-sub-result
 sub-result c = search (for-answers, needs)
@@ -62,7 +62,7 @@ same-length-3 : tie.Need-same-length-3
 same-length-3 c = search (for-answers, needs)
 
 returns-4 : tie.Need-returns-4
-returns-4 c = search (for-answers, needs)
+returns-4 c = let p = c .before .before .before .before .before .before .before .before .before .before .before .before .before .before .before .before .before .before .before .before .before .before .pre in for-done _ _ _ _ _ _ (p .0 .0) (p .0 .1) (p .1 .0 .0) (p .1 .0 .1) (c .before .before .before .before .before .before .before .before .before .before .before .before .before .before .before .before .if1 .left) _ (c .before .before .before .before .before .before .before .before .before .before .before .before .before .indent .ensures .0) _ (c .before .before .before .before .before .before .before .before .before .before .before .before .first-end .ensures) _ (c .before .before .before .before .before .before .before .before .before .before .e .given .1) _ (c .before .before .before .before .before .before .before .for-place .ensures) _ (c .before .before .before .before .before .k .given .1) _ (c .before .before .make-for .ensures)
 
 pub to-for-spec : {M : Type 1} → statement M
 to-for-spec =

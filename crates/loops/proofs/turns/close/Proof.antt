@@ -34,16 +34,16 @@ same-length : tie.Need-same-length
 same-length c = search needs
 
 returns : tie.Need-returns
-returns c = let p = c .before .before .before .before .before .before .before .before .before .before .pre in close-none _ _ _ _ _ _ (p .0 .0) (p .0 .1) (p .1) _ (c .before .before .before .indent .ensures .0) _ (c .before .before .first-end .ensures) (c .enum-told .given .1)
+returns c = let p = c .before .before .before .before .before .before .before .before .before .before .before .pre in close-none _ _ _ _ _ _ (p .0 .0) (p .0 .1) (p .1 .0) _ (c .before .before .before .indent .ensures .0) _ (c .before .before .first-end .ensures) (c .enum-told .given .1)
 
 close-at-requires : tie.Need-close-at-requires
-close-at-requires c κs = let p = c .before .before .before .before .before .before .before .before .before .before .before .before .pre in let i = end-inside _ _ _ _ _ _ (p .0 .1) (c .before .before .before .before .first-end .ensures) (c .before .before .w .given .1) in ((i .0, i .1, p .0 .1, p .0 .2), p .1)
+close-at-requires c κs = let p = c .before .before .before .before .before .before .before .before .before .before .before .before .before .pre in let i = end-inside _ _ _ _ _ _ (p .0 .1) (c .before .before .before .before .first-end .ensures) (c .before .before .w .given .1) in ((i .0, i .1, p .0 .1, p .0 .2), p .1)
 
 same-length-2 : tie.Need-same-length-2
 same-length-2 c = search needs
 
 returns-2 : tie.Need-returns-2
-returns-2 c = let p = c .before .before .before .before .before .before .before .before .before .before .before .before .before .before .before .pre in close-found _ _ _ _ _ _ (p .0 .0) (p .0 .1) (p .1) _ (c .before .before .before .before .before .before .before .before .indent .ensures .0) _ (c .before .before .before .before .before .before .before .first-end .ensures) _ (c .before .before .before .before .before .w .given .1) _ _ (c .before .before .close-at .ensures)
+returns-2 c = let p = c .before .before .before .before .before .before .before .before .before .before .before .before .before .before .before .before .pre in close-found _ _ _ _ _ _ (p .0 .0) (p .0 .1) (p .1 .0) _ (c .before .before .before .before .before .before .before .before .indent .ensures .0) _ (c .before .before .before .before .before .before .before .first-end .ensures) _ (c .before .before .before .before .before .w .given .1) _ _ (c .before .before .close-at .ensures)
 
 pub close-spec : {M : Type 1} → statement M
 close-spec =

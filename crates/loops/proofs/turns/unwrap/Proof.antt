@@ -1,4 +1,4 @@
--- `loops::turns::unwrap` meets its contract. By its four changes.
+-- `loops::turns::unwrap` meets its contract. By its three changes.
 -- Assumes nothing.
 use Rattle.loops.proofs.Unwrapped.{words-tests, words-moved}
 use native.Mathlib.Omega.{arith}
@@ -23,38 +23,29 @@ mul-plan c = search needs
 slice-write-plan : tie.Need-slice-write-plan
 slice-write-plan c = search needs
 
-remove-requires : tie.Need-remove-requires
-remove-requires c κs = search needs
+add-remove-two : tie.Need-add-remove-two
+add-remove-two c = search needs
 
-sub-remove : tie.Need-sub-remove
-sub-remove c = search needs
-
-add-remove : tie.Need-add-remove
-add-remove c = search needs
-
-remove-requires-2 : tie.Need-remove-requires-2
-remove-requires-2 c κs = (omega arith, omega (arith, simp length-set at (c .before .before .before .remove .kept .0)))
+remove-two-requires : tie.Need-remove-two-requires
+remove-two-requires c κs = search needs
 
 sub-move-out : tie.Need-sub-move-out
 sub-move-out c = search needs
 
-sub-move-out-2 : tie.Need-sub-move-out-2
-sub-move-out-2 c = search needs
-
 add-move-out : tie.Need-add-move-out
 add-move-out c = search needs
 
-sub-move-out-3 : tie.Need-sub-move-out-3
-sub-move-out-3 c = search needs
+sub-move-out-2 : tie.Need-sub-move-out-2
+sub-move-out-2 c = search needs
 
 move-out-requires : tie.Need-move-out-requires
-move-out-requires c κs = (omega arith, omega arith, omega (arith, c .before .before .before .remove2 .kept .0, simp length-set at (c .before .before .before .before .before .before .before .remove .kept .0)))
+move-out-requires c κs = (omega arith, omega arith, omega (arith, simp length-set at (c .before .before .before .remove-two .kept .0)))
 
 same-length : tie.Need-same-length
-same-length c = c .before .before .move-out .kept .0 ∙ (c .before .before .before .before .before .before .remove2 .kept .0 ∙ (simp length-set at (c .before .before .before .before .before .before .before .before .before .before .remove .kept .0)))
+same-length c = c .before .before .move-out .kept .0 ∙ (simp length-set at (c .before .before .before .before .before .before .remove-two .kept .0))
 
 returns : tie.Need-returns
-returns c = let p = c .before .before .before .before .before .before .before .before .before .before .before .before .before .before .pre in (words-tests _ _ _ _ _ _ (p .0) (p .1) (c .before .before .before .before .before .before .before .before .before .before .remove .ensures) (c .before .before .before .before .before .before .remove2 .ensures) _ (c .before .before .move-out .ensures .0), λ e. words-moved _ _ _ _ _ _ (p .0) (p .1) (c .before .before .before .before .before .before .before .before .before .before .remove .ensures) (c .before .before .before .before .before .before .remove2 .ensures) _ (c .before .before .move-out .ensures .1 e))
+returns c = let p = c .before .before .before .before .before .before .before .before .before .before .pre in (words-tests _ _ _ _ _ (p .0) (p .1) (c .before .before .before .before .before .before .remove-two .ensures) _ (c .before .before .move-out .ensures .0), λ e. words-moved _ _ _ _ _ (p .0) (p .1) (c .before .before .before .before .before .before .remove-two .ensures) _ (c .before .before .move-out .ensures .1 e))
 
 pub unwrap-spec : {M : Type 1} → statement M
 unwrap-spec =
@@ -65,14 +56,11 @@ unwrap-spec =
     add-plan
     mul-plan
     slice-write-plan
-    remove-requires
-    sub-remove
-    add-remove
-    remove-requires-2
+    add-remove-two
+    remove-two-requires
     sub-move-out
-    sub-move-out-2
     add-move-out
-    sub-move-out-3
+    sub-move-out-2
     move-out-requires
     same-length
     returns)

@@ -1,7 +1,7 @@
 -- `splits::call::find_starts` meets its contract. Assumes nothing.
 use native.Mathlib.Omega.{arith}
 use borrow.Author.Needs.{needs}
-use Rattle.flow.proofs.Graphs.{zeros}
+use Rattle.words.proofs.Zeros.{zeros}
 use Rattle.splits.proofs.call.find_starts.Statement.{statement}
 use Rattle.splits.proofs.call.find_starts.Tie as tie
 

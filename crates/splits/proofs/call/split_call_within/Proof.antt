@@ -1,7 +1,7 @@
 -- `splits::call::split_call_within` meets its contract. Assumes nothing.
 use borrow.Author.Needs.{needs}
 use denote.Ref.{now}
-use Rattle.model.specs.Refusals.{at-most}
+use Rattle.questions.specs.Refusals.{at-most}
 use Rattle.splits.proofs.CallRules.{room, accepts, refuses}
 use Rattle.splits.proofs.call.split_call_within.Statement.{statement}
 use Rattle.splits.proofs.call.split_call_within.Tie as tie

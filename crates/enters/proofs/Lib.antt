@@ -1,0 +1,3 @@
+mod EnterRules
+mod MarkLaws
+mod MarkRules

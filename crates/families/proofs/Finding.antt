@@ -1,0 +1,312 @@
+-- Finding a family by its hash.
+--   unique-families                no family is numbered twice
+--   latest-le, latest-hash, latest-above    the chain of one hash: it falls, has that hash, and leaves out no family of that hash
+--   Searching fs count o c         the family o is at no place from c on, and the family at place c - 1 has its hash
+--   searching-start, searching-next, searching-found, searching-end       rules for the loop of `search_chain`
+--   row-of, row-behind, row-numbered, row-var, row-nothing                rules for `row_word`
+--   found-row                                                             what stands for a row of the legacy names is its family's place
+--   last-inside, found-text                                               a register written as the first definition of the last family of its hash
+-- Assumes nothing.
+use Prim.Native.Nat.{ℕ, zero, suc, _+_, _-_, _<_, _≤_}
+use mathlib.Core.Path.{_≡_, refl, sym, ap, _∙_}
+use mathlib.Core.Logic.{inl, inr}
+use mathlib.Core.Bool.{Bool, true, false, cond, not, false≢true}
+use mathlib.Core.List.{List, [], _∷_}
+use mathlib.Core.Option.{Option, none, some}
+use native.Mathlib.Omega.{arith}
+use lib.Dec.{eqb, ltb}
+use borrow.Author.Tests.{eqb-true, eqb-false, lt-ltb, le-ltb, ltb-true}
+use lib.ListN.{length, getD, take, length-take}
+use lib.Seq.{getD-take, length-take-le}
+use Rattle.definitions.specs.Lists.{filter, position, _==_}
+use Rattle.definitions.specs.Model.{Token, Line, token, line}
+use Rattle.definitions.specs.Family.{Family, family, fam-of, names}
+use Rattle.definitions.specs.Statements.{defines}
+use Rattle.definitions.specs.Recover.{distinct, defined-families}
+use Rattle.theory.proofs.Bools.{not-so, lt-or-ge}
+use Rattle.theory.proofs.ListLaws.{==-true, ==-self}
+use Rattle.theory.proofs.Lines.{defines-first}
+use Rattle.family.specs.declared.Register.{Register}
+use Rattle.family.specs.declared.Register.the-variants.{Legacy, Numbered, Var, Nothing}
+use Rattle.legacy.specs.Table.{row-name}
+use Rattle.family.specs.Register.{family-of, names-family}
+use Rattle.families.specs.Families.{hash, hash-of, latest, place, place-of, row-word, Table}
+
+-- Each family once
+
+abbrev Unique : List (List ℕ) → Type 0
+Unique fs = (j k : ℕ) → j < length fs → k < length fs → getD fs j [] ≡ getD fs k [] → j ≡ k
+
+-- an element of a filtered list passes
+filter-elements : (p : List ℕ → Bool) (fs : List (List ℕ)) (k : ℕ) → k < length (filter p fs) → p (getD (filter p fs) k []) ≡ true
+unfolding filter
+filter-elements p [] k h = absurd (omega arith)
+filter-elements p (f ∷ fs) k h = go (p f) refl (filter-elements p fs) k h
+  where
+    go : (b : Bool) → p f ≡ b → ((k : ℕ) → k < length (filter p fs) → p (getD (filter p fs) k []) ≡ true) → (k : ℕ) → k < length (cond b (f ∷ filter p fs) (filter p fs)) → p (getD (cond b (f ∷ filter p fs) (filter p fs)) k []) ≡ true
+    go true e rest zero h = e
+    go true e rest (suc k) h = rest k (omega arith)
+    go false e rest k h = rest k h
+
+filter-place : (p : List ℕ → Bool) (fs : List (List ℕ)) (k : ℕ) → k < length (filter p fs) → (m : ℕ) × (m < length fs) × (getD (filter p fs) k [] ≡ getD fs m [])
+unfolding filter
+filter-place p [] k h = absurd (omega arith)
+filter-place p (g ∷ gs) k h = go (p g) (filter-place p gs) k h
+  where
+    go : (b : Bool) → ((k : ℕ) → k < length (filter p gs) → (m : ℕ) × (m < length gs) × (getD (filter p gs) k [] ≡ getD gs m []))
+        → (k : ℕ) → k < length (cond b (g ∷ filter p gs) (filter p gs))
+        → (m : ℕ) × (m < suc (length gs)) × (getD (cond b (g ∷ filter p gs) (filter p gs)) k [] ≡ getD (g ∷ gs) m [])
+    go true rest zero h = (0, omega arith, refl)
+    go true rest (suc k) h = let w = rest k (omega arith) in (suc (w .0), omega (arith, w .1), w .2)
+    go false rest k h = let w = rest k h in (suc (w .0), omega (arith, w .1), w .2)
+
+-- one more in front, that is not in the list
+cons-unique : (f : List ℕ) (fs : List (List ℕ)) → Unique fs → ((k : ℕ) → k < length fs → f ≡ getD fs k [] → ⊥) → Unique (f ∷ fs)
+cons-unique f fs u a zero zero hj hk e = refl
+cons-unique f fs u a zero (suc k) hj hk e = absurd (a k (omega arith) e)
+cons-unique f fs u a (suc j) zero hj hk e = absurd (a j (omega arith) (sym e))
+cons-unique f fs u a (suc j) (suc k) hj hk e = ap suc (u j k (omega arith) (omega arith) e)
+
+filter-unique : (p : List ℕ → Bool) (fs : List (List ℕ)) → Unique fs → Unique (filter p fs)
+unfolding filter
+filter-unique p [] u = u
+filter-unique p (f ∷ fs) u = go (p f) (filter-unique p fs (λ j k hj hk e. omega (arith, u (suc j) (suc k) (omega arith) (omega arith) e)))
+  where
+    apart : (k : ℕ) → k < length (filter p fs) → f ≡ getD (filter p fs) k [] → ⊥
+    apart k h e = let w = filter-place p fs k h in omega (arith, u 0 (suc (w .0)) (omega arith) (omega (arith, w .1)) (e ∙ w .2))
+
+    go : (b : Bool) → Unique (filter p fs) → Unique (cond b (f ∷ filter p fs) (filter p fs))
+    go false v = v
+    go true v = cons-unique f (filter p fs) v apart
+
+distinct-unique : (fs : List (List ℕ)) → Unique (distinct fs)
+unfolding distinct
+distinct-unique [] = λ j k hj hk e. absurd (omega arith)
+distinct-unique (f ∷ fs) = cons-unique f rest (filter-unique (λ g. not (g == f)) (distinct fs) (distinct-unique fs)) apart
+  where
+    rest : List (List ℕ)
+    rest = filter (λ g. not (g == f)) (distinct fs)
+
+    apart : (k : ℕ) → k < length rest → f ≡ getD rest k [] → ⊥
+    apart k h e =
+        let q : (getD rest k [] == f) ≡ true = ap (_== f) (sym e) ∙ ==-self f in
+        false≢true (sym (ap not q) ∙ filter-elements (λ g. not (g == f)) (distinct fs) k h)
+
+pub unique-families : (L : List Line) → Unique (defined-families L)
+unique-families L = distinct-unique _
+
+-- The place of a family
+
+position-here : (fs : List (List ℕ)) (f : List ℕ) (k : ℕ) → k < length fs → ((j : ℕ) → j < k → (getD fs j [] == f) ≡ false) → (getD fs k [] == f) ≡ true
+    → position (λ g. g == f) fs ≡ some k
+unfolding position
+position-here [] f k h n e = absurd (omega arith)
+position-here (g ∷ gs) f zero h n e = rw e
+position-here (g ∷ gs) f (suc k) h n e = rw (n 0 (omega arith), position-here gs f k (omega arith) (λ j l. n (suc j) (omega arith)) e)
+
+position-none : (fs : List (List ℕ)) (f : List ℕ) → ((j : ℕ) → j < length fs → (getD fs j [] == f) ≡ false) → position (λ g. g == f) fs ≡ none
+unfolding position
+position-none [] f n = refl
+position-none (g ∷ gs) f n = rw (n 0 (omega arith), position-none gs f (λ j l. n (suc j) (omega arith)))
+
+place-at : Option ℕ → ℕ
+place-at o = elim o [ none ↦ 0 | some k ↦ suc k ]
+
+pub place-here : (fs : List (List ℕ)) (f : List ℕ) (k : ℕ) → Unique fs → k < length fs → getD fs k [] ≡ f → place fs f ≡ suc k
+unfolding place place-at
+place-here fs f k u h e =
+    ap place-at (position-here fs f k h (λ j l. not-so _ (λ q. omega (arith, u j k (omega arith) h (==-true _ f q ∙ sym e)))) (rw e (==-self f)))
+
+pub place-none : (fs : List (List ℕ)) (f : List ℕ) → ((j : ℕ) → j < length fs → (getD fs j [] == f) ≡ false) → place fs f ≡ 0
+unfolding place place-at
+place-none fs f n = ap place-at (position-none fs f n)
+
+-- The chain of one hash
+
+pub latest-le : (fs : List (List ℕ)) (h m : ℕ) → latest fs h m ≤ m
+unfolding latest
+latest-le fs h zero = omega arith
+latest-le fs h (suc m) = go (eqb (hash (getD fs m [])) h) (latest-le fs h m)
+  where
+    go : (b : Bool) → latest fs h m ≤ m → cond b (suc m) (latest fs h m) ≤ suc m
+    go true q = omega arith
+    go false q = omega arith
+
+latest-hash : (fs : List (List ℕ)) (h m k : ℕ) → latest fs h m ≡ suc k → hash (getD fs k []) ≡ h
+unfolding latest
+latest-hash fs h zero k e = absurd (omega arith)
+latest-hash fs h (suc m) k e = go (eqb (hash (getD fs m [])) h) refl (latest-hash fs h m k) e
+  where
+    go : (b : Bool) → eqb (hash (getD fs m [])) h ≡ b → (latest fs h m ≡ suc k → hash (getD fs k []) ≡ h) → cond b (suc m) (latest fs h m) ≡ suc k → hash (getD fs k []) ≡ h
+    go true q rest e = let z : m ≡ k = omega arith in rw z at (eqb-true (hash (getD fs m [])) h q)
+    go false q rest e = rest e
+
+latest-above : (fs : List (List ℕ)) (h m k : ℕ) → latest fs h m ≤ k → k < m → hash (getD fs k []) ≡ h → ⊥
+unfolding latest
+latest-above fs h zero k l g e = omega arith
+latest-above fs h (suc m) k l g e = go (eqb (hash (getD fs m [])) h) refl (λ l s. latest-above fs h m k l s e) l
+  where
+    go : (b : Bool) → eqb (hash (getD fs m [])) h ≡ b → (latest fs h m ≤ k → k < m → ⊥) → cond b (suc m) (latest fs h m) ≤ k → ⊥
+    go true q rest l = omega arith
+    go false q rest l = elim (lt-or-ge k m) [
+      | inl s ↦ rest l s
+      | inr s ↦ eqb-false (hash (getD fs m [])) h q (let z : m ≡ k = omega arith in rw z e)
+    ]
+
+-- The search
+
+abbrev matches : Option Family → List ℕ → Bool
+matches none g = false
+matches (some f) g = g == f .name
+
+matches-hash : (o : Option Family) (g : List ℕ) → matches o g ≡ true → hash g ≡ hash-of o
+matches-hash none g e = absurd (false≢true e)
+matches-hash (some f) g e = ap hash (==-true g (f .name) e)
+
+names-matches : (o : Option Family) (l : Line) (g : List ℕ) → defines l ≡ some g → names-family o (token l 0) ≡ matches o g
+unfolding names
+names-matches none l g e = refl
+names-matches (some f) l g e = let w = defines-first l g e in rw (w .1, names, w .2)
+
+pub record Searching (fs : List (List ℕ)) (count : ℕ) (o : Option Family) (c : ℕ) : Type 0 where
+  pub bound : c ≤ count
+  pub above : (k : ℕ) → c ≤ k → k < count → matches o (getD fs k []) ≡ false
+  pub chain : (k : ℕ) → c ≡ suc k → hash (getD fs k []) ≡ hash-of o
+
+from-latest : (fs : List (List ℕ)) (count m : ℕ) (o : Option Family) → m ≤ count
+    → ((k : ℕ) → m ≤ k → k < count → matches o (getD fs k []) ≡ false) → Searching fs count o (latest fs (hash-of o) m)
+from-latest fs count m o b a = record {
+  bound = omega (arith, latest-le fs (hash-of o) m);
+  above = λ k l h. elim (lt-or-ge k m) [
+    | inl g ↦ not-so _ (λ e. latest-above fs (hash-of o) m k l g (matches-hash o (getD fs k []) e))
+    | inr g ↦ a k g h
+  ];
+  chain = λ k e. latest-hash fs (hash-of o) m k e;
+}
+
+-- the place of a family among the first
+module _ (L : List Line) (count : ℕ) (t : List ℕ) (T : Table L count t) where
+  place-taken : (f : List ℕ) (k : ℕ) → k < count → getD (defined-families L) k [] ≡ f → place (take count (defined-families L)) f ≡ suc k
+  place-taken f k h e = place-here (take count (defined-families L)) f k unique (omega (arith, size)) (here k h ∙ e)
+    where
+      size : length (take count (defined-families L)) ≡ count
+      size = length-take-le count (defined-families L) (T .size)
+
+      here : (k : ℕ) → k < count → getD (take count (defined-families L)) k [] ≡ getD (defined-families L) k []
+      here k l = getD-take count (defined-families L) k [] l
+
+      unique : Unique (take count (defined-families L))
+      unique j k hj hk e =
+          let a : j < count = omega (arith, size) in
+          let b : k < count = omega (arith, size) in
+          unique-families L j k (omega (arith, T .size)) (omega (arith, T .size)) (sym (here j a) ∙ e ∙ here k b)
+
+module _ (L : List Line) (count : ℕ) (t : List ℕ) (T : Table L count t) (o : Option Family) where
+  pub searching-start : (c h : ℕ) → h ≡ hash-of o → h < 248 → c ≡ getD t h 0 → Searching (defined-families L) count o c
+  searching-start c h e l q =
+      rw (q, T .heads h l, e) (from-latest (defined-families L) count count o (omega arith) (λ k g s. absurd (omega arith)))
+
+  module _ (c : ℕ) (s : Searching (defined-families L) count o c) (p : 0 < c) where
+    at : (y : Bool) → y ≡ names-family o (token (line L (getD t (1280 + (c - 1)) 0)) 0) → y ≡ matches o (getD (defined-families L) (c - 1) [])
+    at y q = q ∙ names-matches o _ _ (T .first (c - 1) (omega (arith, s .bound)))
+
+    pub searching-found : (y : Bool) → y ≡ names-family o (token (line L (getD t (1280 + (c - 1)) 0)) 0) → y ≡ true
+        → c ≡ place-of (take count (defined-families L)) o
+    searching-found y q f = go o (sym (at y q) ∙ f)
+      where
+        go : (o : Option Family) → matches o (getD (defined-families L) (c - 1) []) ≡ true → c ≡ place-of (take count (defined-families L)) o
+        go none m = absurd (false≢true m)
+        go (some x) m = omega (arith, place-taken L count t T (x .name) (c - 1) (omega (arith, s .bound)) (==-true _ (x .name) m))
+
+    pub searching-next : (y : Bool) (next : ℕ) → y ≡ names-family o (token (line L (getD t (1280 + (c - 1)) 0)) 0) → y ≡ false
+        → next ≡ getD t (256 + (c - 1)) 0 → Searching (defined-families L) count o next
+    searching-next y next q f r =
+        rw (r, T .next (c - 1) (omega (arith, s .bound)), s .chain (c - 1) (omega arith))
+        (from-latest (defined-families L) count (c - 1) o (omega (arith, s .bound)) (λ k l h. elim (lt-or-ge k c) [
+          | inl g ↦ (let z : c - 1 ≡ k = omega arith in rw z at (sym (at y q) ∙ f))
+          | inr g ↦ s .above k g h
+        ]))
+
+    pub searching-less : (next : ℕ) → next ≡ getD t (256 + (c - 1)) 0 → next < c
+    searching-less next r = omega (arith, r, T .next (c - 1) (omega (arith, s .bound)), latest-le (defined-families L) (hash (getD (defined-families L) (c - 1) [])) (c - 1))
+
+  pub searching-end : (c : ℕ) → Searching (defined-families L) count o c → c ≤ 0 → 0 ≡ place-of (take count (defined-families L)) o
+  searching-end c s h = go o s
+    where
+      go : (o : Option Family) → Searching (defined-families L) count o c → 0 ≡ place-of (take count (defined-families L)) o
+      go none s = refl
+      go (some x) s = sym (place-none (take count (defined-families L)) (x .name) (λ j l.
+          let b : j < count = omega (arith, length-take count (defined-families L)) in
+          rw (getD-take count (defined-families L) j [] b) (s .above j (omega arith) b)))
+
+-- The row of a legacy name
+
+module _ (t : List ℕ) (r : Register) where
+  pub row-of : (i w c : ℕ) → r ≡ Legacy i w → i < 8 → c ≡ getD t (248 + i) 0 → c ≡ row-word t r
+  unfolding row-word
+  row-of i w c e h q = rw (e, lt-ltb i 8 h, lt-ltb i 8 h) q
+
+  pub row-behind : (i w : ℕ) → r ≡ Legacy i w → 8 ≤ i → 0 ≡ row-word t r
+  unfolding row-word
+  row-behind i w e h = rw (e, le-ltb i 8 h)
+
+  pub row-numbered : (n w : ℕ) → r ≡ Numbered n w → 0 ≡ row-word t r
+  unfolding row-word
+  row-numbered n w e = rw e
+
+  pub row-var : r ≡ Var → 0 ≡ row-word t r
+  unfolding row-word
+  row-var e = rw e
+
+  pub row-nothing : r ≡ Nothing → 0 ≡ row-word t r
+  unfolding row-word
+  row-nothing e = rw e
+
+-- what is there for a row is the place of its family
+pub found-row : (L : List Line) (count : ℕ) (t s : List ℕ) (r : Register) (c : ℕ) → Table L count t → c ≡ row-word t r → (c ≡ 0 → ⊥)
+    → c ≡ place-of (take count (defined-families L)) (family-of s r)
+unfolding row-word
+found-row L count t s (Legacy i w) c T q z = go (ltb i 8) refl q
+  where
+    go : (b : Bool) → ltb i 8 ≡ b → c ≡ cond (ltb (cond b i 9) 8) (getD t (248 + cond b i 9) 0) 0
+        → c ≡ place-of (take count (defined-families L)) (cond b (some (record { name = row-name i; width = w })) none)
+    go false e f = absurd (z f)
+    go true e f =
+        let g : c ≡ getD t (248 + i) 0 = f ∙ rw e in
+        let k : getD t (248 + i) 0 ≡ suc (c - 1) = sym g ∙ omega arith in
+        let h = T .rows i (c - 1) (ltb-true i 8 e) k in
+        omega (arith, place-taken L count t T (row-name i) (c - 1) (h .0) (h .1))
+found-row L count t s (Numbered n w) c T q z = absurd (z q)
+found-row L count t s Var c T q z = absurd (z q)
+found-row L count t s Nothing c T q z = absurd (z q)
+
+-- The text of the first definition
+
+family-some : (u : Token) (x : Family) → fam-of u ≡ some x → family (u .text) ≡ some x
+unfolding fam-of
+family-some u x e = go (eqb (u .kind) 1) e
+  where
+    go : (b : Bool) → cond b (family (u .text)) none ≡ some x → family (u .text) ≡ some x
+    go true q = q
+    go false q = cc
+
+module _ (L : List Line) (count : ℕ) (t s : List ℕ) (r : Register) (T : Table L count t) (answer : family-of s r ≡ family s)
+    (c h : ℕ) (is-hash : h ≡ hash-of (family-of s r)) (low : h < 248) (is-last : c ≡ getD t h 0) where
+  last-few : c ≤ count
+  last-few = omega (arith, is-last, T .heads h low, latest-le (defined-families L) h count)
+
+  pub last-inside : 0 < c → count ≤ 1024 → c - 1 < 1024
+  last-inside p few = omega (arith, last-few)
+
+  pub found-text : 0 < c → (y : Bool) → y ≡ (token (line L (getD t (1280 + (c - 1)) 0)) 0 .text == s) → y ≡ true
+      → c ≡ place-of (take count (defined-families L)) (family-of s r)
+  found-text p y e f =
+      let l = line L (getD t (1280 + (c - 1)) 0) in
+      let w = defines-first l (getD (defined-families L) (c - 1) []) (T .first (c - 1) (omega (arith, last-few))) in
+      let same : token l 0 .text ≡ s = ==-true (token l 0 .text) s (sym e ∙ f) in
+      let is : family-of s r ≡ some (w .0) = answer ∙ ap family (sym same) ∙ family-some (token l 0) (w .0) (w .1) in
+      rw is (omega (arith, place-taken L count t T (w .0 .name) (c - 1) (omega (arith, last-few)) (sym (w .2))))
+
+pub ruleset row-rules = (last-inside, found-text, row-of, row-behind, row-numbered, row-var, row-nothing, found-row)
+
+pub ruleset search-rules = (searching-start, searching-found, searching-next, searching-less, searching-end)

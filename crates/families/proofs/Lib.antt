@@ -1,0 +1,5 @@
+pub mod Lists
+pub mod Finding
+pub mod Hashes
+pub mod Numbered
+pub mod TokenWords

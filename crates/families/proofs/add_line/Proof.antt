@@ -1,0 +1,39 @@
+-- `families::add_line` meets its contract.
+-- Assumes nothing.
+use Rattle.families.proofs.Numbered.{place-rules}
+use borrow.Author.Needs.{needs}
+use Rattle.families.proofs.add_line.Statement.{statement}
+use Rattle.families.proofs.add_line.Tie as tie
+
+text-at-requires : tie.Need-text-at-requires
+text-at-requires c κs = search (place-rules, needs)
+
+hash-of-requires : tie.Need-hash-of-requires
+hash-of-requires c κs = search (place-rules, needs)
+
+add-requires : tie.Need-add-requires
+add-requires c κs = search (place-rules, needs)
+
+add-keep-row : tie.Need-add-keep-row
+add-keep-row c = search (place-rules, needs)
+
+keep-row-requires : tie.Need-keep-row-requires
+keep-row-requires c κs = search (place-rules, needs)
+
+same-length : tie.Need-same-length
+same-length c = search (place-rules, needs)
+
+returns : tie.Need-returns
+returns c = search (place-rules, needs)
+
+pub add-line-spec : {M : Type 1} → statement M
+add-line-spec =
+    tie.close
+    (tie.spec
+    text-at-requires
+    hash-of-requires
+    add-requires
+    add-keep-row
+    keep-row-requires
+    same-length
+    returns)

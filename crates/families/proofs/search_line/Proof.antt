@@ -1,0 +1,26 @@
+-- `families::search_line` meets its contract.
+-- Assumes nothing.
+use Rattle.families.proofs.Finding.{row-rules}
+use Rattle.families.proofs.Numbered.{place-rules}
+use borrow.Author.Needs.{needs}
+use Rattle.families.proofs.search_line.Statement.{statement}
+use Rattle.families.proofs.search_line.Tie as tie
+
+row-word-requires : tie.Need-row-word-requires
+row-word-requires c κs = search (place-rules, row-rules, needs)
+
+text-at-requires : tie.Need-text-at-requires
+text-at-requires c κs = search (place-rules, row-rules, needs)
+
+search-chain-requires : tie.Need-search-chain-requires
+search-chain-requires c κs = search (place-rules, row-rules, needs)
+
+returns : tie.Need-returns
+returns c = search (place-rules, row-rules, needs)
+
+returns-2 : tie.Need-returns-2
+returns-2 c = search (place-rules, row-rules, needs)
+
+pub search-line-spec : {M : Type 1} → statement M
+search-line-spec =
+    tie.close (tie.spec row-word-requires text-at-requires search-chain-requires returns returns-2)

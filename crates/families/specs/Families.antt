@@ -1,0 +1,126 @@
+-- The families that have a definition, numbered in the order of their first definition, and the table by which one is found.
+--   hash s              a number below 248, by the bytes of a name
+--   hash-of o           the same of a family
+--   latest fs h m       1 + the last place below m of a family whose hash is h, 0 where there is none
+--   place fs f          1 + the place of f among the families fs, 0 where it is not there
+--   place-of fs o       the same of a family
+--   place-defined fs o  the same of a family's name
+--   Table L count t     the table t finds the first `count` families of the listing L: its words 0 .. 247 have `latest` for each hash; the words
+--                       248 .. 255, for each row of the legacy names, 0 or 1 + the place of its family; the words from 256 on, for each family,
+--                       `latest` before it of its own hash; the words from 1280 on the line of its first definition
+--   row-word t r        what the table t has for the row of the answer r, 0 where that is no row
+--   kept t r c          the table t with c for that row
+--   defined-at L i      the family that line i defines, none on line 0
+--   families-before L i the families that lines before line i define
+--   Defs L ds           ds has the place of the family that each line defines, 0 where it defines none
+--   Numbered L i count t ds    the lines before line i are done: `count` families are in the table t, and ds has the place of the family that
+--                       each line defines, 0 where it defines none
+--   added t count i h   the table t with one family more
+--   Added l count i r t₀ t    the same, of the family of line l
+--   of-register l r     the family that line l defines by its register r
+--   Ready L i count t   line i is next, `count` families being in the table t
+--   Placed L i count c t    line i is done: c is the place of the family that it defines
+-- Assumes nothing.
+use Prim.Native.Nat.{ℕ, zero, suc, _+_, _*_, _-_, _%_, _<_, _≤_, max}
+use mathlib.Core.Path.{_≡_}
+use mathlib.Core.List.{List, [], map}
+use mathlib.Core.Option.{Option, none, some, Option·map}
+use lib.Dec.{eqb, ltb}
+use lib.ListN.{length, getD, set}
+use Rattle.definitions.specs.Lists.{if_then_else_, fold, position, concat, range, to-list, _==_}
+use Rattle.definitions.specs.Model.{Line, token, line}
+use Rattle.definitions.specs.Family.{Family}
+use Rattle.definitions.specs.Statements.{defines}
+use Rattle.family.specs.declared.Register.{Register}
+use Rattle.legacy.specs.Table.{row-name}
+use Rattle.family.specs.Register.{family-of, row}
+use Rattle.definitions.specs.Recover.{distinct, defined-families}
+
+unfoldable pub hash : List ℕ → ℕ
+hash s = fold (λ h b. (h * 10 + b) % 256) 0 s % 248
+
+abbrev pub hash-of : Option Family → ℕ
+hash-of none = 0
+hash-of (some f) = hash (f .name)
+
+unfoldable pub latest : List (List ℕ) → ℕ → ℕ → ℕ
+latest fs h zero = 0
+latest fs h (suc m) = if eqb (hash (getD fs m [])) h then suc m else latest fs h m
+
+unfoldable pub place : List (List ℕ) → List ℕ → ℕ
+place fs f = elim (position (λ g. g == f) fs) [ none ↦ 0 | some k ↦ suc k ]
+
+abbrev pub place-of : List (List ℕ) → Option Family → ℕ
+place-of fs none = 0
+place-of fs (some f) = place fs (f .name)
+
+pub record Table (L : List Line) (count : ℕ) (t : List ℕ) : Type 0 where
+  pub size : count ≤ length (defined-families L)
+  pub heads : (h : ℕ) → h < 248 → getD t h 0 ≡ latest (defined-families L) h count
+  pub rows : (i k : ℕ) → i < 8 → getD t (248 + i) 0 ≡ suc k → (k < count) × (getD (defined-families L) k [] ≡ row-name i)
+  pub next : (k : ℕ) → k < count → getD t (256 + k) 0 ≡ latest (defined-families L) (hash (getD (defined-families L) k [])) k
+  pub first : (k : ℕ) → k < count → defines (line L (getD t (1280 + k) 0)) ≡ some (getD (defined-families L) k [])
+
+unfoldable pub defined-at : List Line → ℕ → Option (List ℕ)
+defined-at L zero = none
+defined-at L (suc i) = defines (line L (suc i))
+
+abbrev pub place-defined : List (List ℕ) → Option (List ℕ) → ℕ
+place-defined fs none = 0
+place-defined fs (some f) = place fs f
+
+unfoldable pub families-before : List Line → ℕ → List (List ℕ)
+families-before L i = distinct (concat (map (λ j. to-list (defines (line L j))) (range 1 (i - 1))))
+
+unfoldable pub row-word : List ℕ → Register → ℕ
+row-word t r = if ltb (row r) 8 then getD t (248 + row r) 0 else 0
+
+unfoldable pub kept : List ℕ → Register → ℕ → List ℕ
+kept t r c = if ltb (row r) 8 then set t (248 + row r) c else t
+
+-- the table t with family `count`, first defined on line i, of hash h
+unfoldable pub added : List ℕ → ℕ → ℕ → ℕ → List ℕ
+added t count i h = set (set (set t (256 + count) (getD t h 0)) (1280 + count) i) h (count + 1)
+
+-- t is t₀ with the family of token 0 of line l, whose answer is r
+pub record Added (l : Line) (count i : ℕ) (r : Register) (t₀ t : List ℕ) : Type 0 where
+  pub hash : ℕ
+  pub hash-is : hash ≡ hash-of (family-of (token l 0 .text) r)
+  pub hash-low : hash < 248
+  pub table : t ≡ kept (added t₀ count i hash) r (count + 1)
+
+-- the name of the family that line l defines if its token 0 is the register r
+abbrev pub of-register : Line → Register → Option (List ℕ)
+of-register l r = Option·map (λ (f : Family). f .name) (family-of (token l 0 .text) r)
+
+-- line i is next, `count` families being known before it
+pub record Ready (L : List Line) (i count : ℕ) (t : List ℕ) : Type 0 where
+  pub above : 0 < i
+  pub inside : i < length L
+  pub few : length L ≤ 1024
+  pub room : 2304 ≤ length t
+  pub known : count ≡ length (families-before L i)
+  pub small : count < i
+  pub table : Table L count t
+
+-- line i is done, `count` families being known before it: c is the place of the family that it defines
+pub record Placed (L : List Line) (i count c : ℕ) (t : List ℕ) : Type 0 where
+  pub place : c ≡ place-defined (defined-families L) (defines (line L i))
+  pub families : max count c ≡ length (families-before L (i + 1))
+  pub table : Table L (max count c) t
+  pub small : c ≤ i
+
+pub record Numbered (L : List Line) (i count : ℕ) (t ds : List ℕ) : Type 0 where
+  pub above : 0 < i
+  pub upto : i ≤ length L
+  pub few : length L ≤ 1024
+  pub room : 2304 ≤ length t
+  pub width : length L ≤ length ds
+  pub known : count ≡ length (families-before L i)
+  pub small : count < i
+  pub table : Table L count t
+  pub defs : (j : ℕ) → j < i → getD ds j 0 ≡ place-defined (defined-families L) (defined-at L j)
+
+-- ds has the place of the family that each line defines
+pub record Defs (L : List Line) (ds : List ℕ) : Type 0 where
+  pub at : (j : ℕ) → j < length L → getD ds j 0 ≡ place-defined (defined-families L) (defined-at L j)

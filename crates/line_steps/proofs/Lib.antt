@@ -1,0 +1,4 @@
+pub mod Tests
+pub mod Drawings
+pub mod Falls
+pub mod Edges

@@ -1,0 +1,149 @@
+// A visit of one line, over bit rows: the body of the inner loop of `recover` of pseudo_ssa.rs.
+//
+// The lines of a family's definitions are numbered 1, 2, .. in order, and 0 is the entry value: bit b of a row of definitions is
+// definition number b. For n lines, rows of r words for lines, the last of which is a row's span (crate bits), and of w words for
+// definitions, the working space holds
+//
+//   word                     words    holds
+//   0                        n r      predecessors of each line         } crate bits
+//   n r                      n r      successors of each line           }
+//   2 n r                    r        lines to visit in this sweep
+//   2 n r + r                r        lines to visit in the next sweep
+//   2 n r + 2 r              n w      outgoing row of each line
+//   2 n r + 2 r + n w        w        row in the making
+//
+// A visit takes w steps and w for each predecessor, and looks only at the words where the line's predecessors lie, and its successors
+// where the row changes: mostly one. By `room` of proofs/LayoutLaws the words of question 5 have room for every w below r. Contracts cite
+// specs/Steps.antt.
+ghost use mathlib.Core.Path.{_≡_};
+ghost use mathlib.Core.List.{[]};
+ghost use Prim.Native.Nat.{_+_, _*_, _<_, _≤_};
+ghost use lib.ListN.{getD};
+ghost use lib.Dec.{eqb};
+ghost use Rattle.definitions.specs.Lists.{any};
+ghost use Rattle.bits.specs.Rows.{Filled};
+ghost use Rattle.bits.specs.Edges.{Agree, preds-of};
+ghost use Rattle.visit.specs.Layout.{making, Room, outs};
+ghost use Rattle.visit.specs.Numbers.{Numbered};
+ghost use Rattle.visit.specs.Steps.{coming, given, Visit, Ahead, Back, Marked, Step};
+
+// The row in the making: bit d alone.
+fn bit_row(space: &mut [u64], n: usize, r: usize, w: usize, d: usize)
+    requires { ⌜ Room n r w (now space) × (d < w * 64) ⌝ }
+    ensures { λ z. ⌜ Filled (now (space .entry)) (now (space .exit)) (making n r w) w (λ b. eqb b d) ⌝ }
+{
+    let t = n * r + n * r + r + r + n * w;
+    bits::clear_row(space, t, w);
+    bits::set_bit(space, t * 64 + d);
+}
+
+// The row in the making: what the predecessors of line i have.
+fn gather_row(space: &mut [u64], n: usize, r: usize, w: usize, i: usize)
+    requires { ⌜ Room n r w (now space) × (i < n) × Agree n r (now space) ⌝ }
+    ensures { λ z. ⌜ Filled (now (space .entry)) (now (space .exit)) (making n r w) w (λ b. any (outs n r w (now (space .entry)) b) (getD (preds-of n r (now (space .entry))) i [])) ⌝ }
+{
+    let base = n * r + n * r + r + r;
+    let t = base + n * w;
+    let u = bits::row(n, r, i);
+    let x = bits::row_span(space, n, r, u);
+    let a = u * 64;
+    let e = x.end;
+    bits::clear_row(space, t, w);
+    let mut q = x.from;
+    while q < e {
+        let v = bits::row(n, w, q - a);
+        bits::or_row(space, t, base + v, w);
+        q = bits::find_bit(space, q + 1, e);
+    }
+}
+
+// The row in the making: what comes to line i. Line 0 takes only the entry.
+pub fn coming_row(space: &mut [u64], n: usize, r: usize, w: usize, i: usize)
+    requires { ⌜ Room n r w (now space) × (i < n) × Agree n r (now space) ⌝ }
+    ensures { λ z. ⌜ Filled (now (space .entry)) (now (space .exit)) (making n r w) w (λ b. coming (preds-of n r (now (space .entry))) b (outs n r w (now (space .entry)) b) i) ⌝ }
+{
+    if i == 0 {
+        bit_row(space, n, r, w, 0);
+        return;
+    }
+    gather_row(space, n, r, w, i);
+}
+
+fn wide(x: u16) -> usize
+    ensures { λ r. ⌜ r ≡ x ⌝ }
+{
+    x as usize
+}
+
+// The row in the making: what line i is given.
+fn given_row(space: &mut [u64], defs: &[u16], n: usize, r: usize, w: usize, i: usize)
+    requires { ⌜ Room n r w (now space) × (i < n) × Numbered n w (now defs) × Agree n r (now space) ⌝ }
+    ensures { λ z. ⌜ Filled (now (space .entry)) (now (space .exit)) (making n r w) w (λ b. given (preds-of n r (now (space .entry))) (now (defs .entry)) b (outs n r w (now (space .entry)) b) i) ⌝ }
+{
+    let d = defs[i];
+    if d == 0 {
+        coming_row(space, n, r, w, i);
+        return;
+    }
+    bit_row(space, n, r, w, wide(d));
+}
+
+// Visits line i; answers whether its outgoing row changed.
+fn visit_line(space: &mut [u64], defs: &[u16], n: usize, r: usize, w: usize, i: usize) -> bool
+    requires { ⌜ Room n r w (now space) × (i < n) × Numbered n w (now defs) × Agree n r (now space) ⌝ }
+    ensures { λ z. ⌜ Visit n r w i (now (defs .entry)) (now (space .entry)) (now (space .exit)) z ⌝ }
+{
+    given_row(space, defs, n, r, w, i);
+    let base = n * r + n * r + r + r;
+    let u = bits::row(n, w, i);
+    bits::store_row(space, base + u, base + n * w, w)
+}
+
+// Puts the successors of line i on this sweep's list. Those at or below i are passed already.
+fn mark_ahead(space: &mut [u64], n: usize, r: usize, w: usize, i: usize)
+    requires { ⌜ Room n r w (now space) × (i < n) × Agree n r (now space) ⌝ }
+    ensures { λ z. ⌜ Ahead n r i (now (space .entry)) (now (space .exit)) ⌝ }
+{
+    let s = n * r + bits::row(n, r, i);
+    let x = bits::row_span(space, n, r, s);
+    let f = x.from / 64;
+    let todo = n * r + n * r;
+    bits::or_row(space, todo + (f - s), f, (x.end + 63) / 64 - f);
+}
+
+// Puts the successors of line i that are at or below it on the next sweep's list.
+fn mark_back(space: &mut [u64], n: usize, r: usize, w: usize, i: usize)
+    requires { ⌜ Room n r w (now space) × (i < n) × Agree n r (now space) ⌝ }
+    ensures { λ z. ⌜ Back n r i (now (space .entry)) (now (space .exit)) ⌝ }
+{
+    let s = n * r + bits::row(n, r, i);
+    let x = bits::row_span(space, n, r, s);
+    let own = s * 64 + i;
+    if own < x.from {
+        return;
+    }
+    let f = x.from / 64;
+    let next = n * r + n * r + r;
+    bits::or_low(space, next + (f - s), f, own - f * 64);
+}
+
+// Puts the successors of line i on the lists.
+fn mark(space: &mut [u64], n: usize, r: usize, w: usize, i: usize)
+    requires { ⌜ Room n r w (now space) × (i < n) × Agree n r (now space) ⌝ }
+    ensures { λ z. ⌜ Marked n r i (now (space .entry)) (now (space .exit)) ⌝ }
+{
+    mark_ahead(space, n, r, w, i);
+    mark_back(space, n, r, w, i);
+}
+
+// Visits line i, and puts its successors on the lists where it changed; answers whether it did.
+pub fn step_line(space: &mut [u64], defs: &[u16], n: usize, r: usize, w: usize, i: usize) -> bool
+    requires { ⌜ Room n r w (now space) × (i < n) × Numbered n w (now defs) × Agree n r (now space) ⌝ }
+    ensures { λ z. ⌜ Step n r w i (now (defs .entry)) (now (space .entry)) (now (space .exit)) z ⌝ }
+{
+    if visit_line(space, defs, n, r, w, i) {
+        mark(space, n, r, w, i);
+        return true;
+    }
+    false
+}

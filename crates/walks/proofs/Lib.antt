@@ -1,0 +1,4 @@
+pub mod Walk
+pub mod Taken
+pub mod Seen
+pub mod WriteRules
