@@ -92,12 +92,6 @@ module _ (n r w : ℕ) (nums l₀ rep is read₀ : List ℕ) where
     pub reads-end : length is ≤ j → Reads n r w nums l₀ l rep is read₀ read
     reads-end h = rw (take-all j is h) at R
 
-pub reads-sized : (n : ℕ) (nums rep set set′ : List ℕ) → Sized n nums rep set → length set′ ≡ length set → Sized n nums rep set′
-reads-sized n nums rep set set′ F e = record { size = F .size; room = rw e (F .room); small = F .small }
-
-pub sized-still : (n : ℕ) (nums rep set rep′ set′ : List ℕ) → Sized n nums rep set → length rep′ ≡ length rep → length set′ ≡ length set → Sized n nums rep′ set′
-sized-still n nums rep set rep′ set′ F e q = record { size = e ∙ F .size; room = rw (e, q) (F .room); small = rw e (F .small) }
-
 -- a line of the list
 pub line-in : (n : ℕ) (is : List ℕ) → Below n is → (j i : ℕ) → j < length is → i ≡ getD is j 0 → i < n
 line-in n is B j i h e = rw e (B .at j h)
@@ -189,4 +183,4 @@ module _ (n c f : ℕ) (ds nums : List ℕ) (C : Counted n ds f nums c) (pos : 0
   pub family-by : (r k budget : ℕ) (l₀ l is own read : List ℕ) (a : Sweeps) → f ≡ k + 1 → SolvedLines n r (c / 64 + 1) nums budget l₀ l is own read a → FamilyLines n r k ds budget l₀ l is own read a
   family-by r k budget l₀ l is own read a e S = record { nums = nums; w = c / 64 + 1; numbered = family-numbered; lines = C .lines ∙ rw e; solved = S }
 
-pub ruleset line-rules = (line-in, own-start, own-next, own-end, reads-start, reads-next, reads-end, reads-sized, lines-by, solved-swept, solved-done, solved-over)
+pub ruleset line-rules = (line-in, own-start, own-next, own-end, reads-start, reads-next, reads-end, lines-by, solved-swept, solved-done, solved-over)

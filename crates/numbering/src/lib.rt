@@ -1,14 +1,14 @@
 // The numbers of one family's definitions and reads, line by line: the sweeps, the webs at the reads, then a number for each line. A family
-// takes its sweeps, a few steps a line, and for each reading line as much as listing the definitions that reach it.
+// takes its sweeps, a few steps a line, and for each reading line as much as listing the definitions that reach it once.
 //
 // Contracts are by definition number and by the words that number the families; crate webs says what they are of a listing.
 ghost use mathlib.Core.Path.{_≡_};
-ghost use Prim.Native.Nat.{_+_, _/_, _<_, _≤_};
+ghost use Prim.Native.Nat.{suc, _+_, _/_, _<_, _≤_};
 ghost use lib.ListN.{length};
 ghost use Rattle.definitions.specs.Questions.{space-words};
 ghost use Rattle.bits.specs.Edges.{row-words, Agree};
 ghost use Rattle.visit.specs.Layout.{Room};
-ghost use Rattle.visit.specs.Numbers.{Numbered};
+ghost use Rattle.visit.specs.Numbers.{defining-lines, Numbered};
 ghost use Rattle.recover.specs.Numbers.{Ranked};
 ghost use Rattle.recover.specs.Reaching.{Swept, Sized};
 ghost use Rattle.numbering.specs.Lines.{Below, Owned, Reads, LineNumbers, SolvedLines, FamilyLines, Scratch};
@@ -43,17 +43,16 @@ fn number_reads(
     reads: &[u16],
     rep: &[u16],
     rank: &[u16],
-    set: &mut [u16],
     read: &mut [u16],
 )
     requires { ⌜ Swept n r w (now nums) (now space) × Below n (now reads) × (n ≤ length (now read)) ⌝ }
-    requires { ⌜ Sized n (now nums) (now rep) (now set) × Ranked (now rep) (now rank) ⌝ }
+    requires { ⌜ (length (now rep) ≡ suc (length (defining-lines n (now nums)))) × Ranked (now rep) (now rank) ⌝ }
     ensures { λ _. ⌜ Reads n r w (now (nums .entry)) (now (space .entry)) (now (space .exit)) (now (rep .entry)) (now (reads .entry)) (now (read .entry)) (now (read .exit)) ⌝ }
 {
     let mut j = 0;
     while j < reads.len() {
         let i = number(reads, j);
-        let v = read_web(space, nums, n, r, w, i, rep, rank, set);
+        let v = read_web(space, nums, n, r, w, i, rep, rank);
         read[i] = v;
         j += 1;
     }
@@ -82,7 +81,7 @@ pub fn line_numbers(
     family_reps(space, nums, n, r, w, reads, rep, rank, set, marks);
     number_defs(nums, rep, rank, own);
     zero(read);
-    number_reads(space, nums, n, r, w, reads, rep, rank, set, read);
+    number_reads(space, nums, n, r, w, reads, rep, rank, read);
 }
 
 // The sweeps of the family, then the numbers.

@@ -2,7 +2,7 @@
 --   reach-bits                    the bits of a line's row are the numbers of the definitions that reach it
 --   swept-still                   making a row leaves the sweeps' result as it is
 --   line-room, line-within, links-one       `link_line`
---   web-by, read-room, read-none, read-some            `web_of` and `read_web`
+--   web-by, read-room, read-by    `web_of` and `read_web`
 --   alone-slices, family-by                            `family_reps`
 --   links-start, links-next, links-end, slices-next    the loop of `link_reads`
 -- Assumes nothing.
@@ -10,7 +10,6 @@ use Prim.Native.Nat.{ℕ, zero, suc, _+_, _*_, _<_, _≤_}
 use mathlib.Core.Path.{_≡_, refl, sym, ap, _∙_}
 use mathlib.Core.Logic.{inl, inr}
 use mathlib.Core.List.{List, [], _∷_, _++_, map}
-use mathlib.Core.Option.{Option, none, some}
 use native.Mathlib.Omega.{arith}
 use native.Mathlib.Numerals.{add-one}
 use lib.ListN.{length, getD, take, List·getD-eq-default}
@@ -27,7 +26,7 @@ use Rattle.sweep.specs.Solved.{Incoming}
 use Rattle.visit.proofs.LayoutLaws.{room-same, kept-preds, kept-both}
 use Rattle.sweep.proofs.Counting.{incoming-kept, incoming-holds}
 use Rattle.recover.specs.Numbers.{Within, earlier, Ranked}
-use Rattle.recover.specs.Reaching.{bits-from, Reached, Swept, Sized, Slices, reach-numbers, linked, Links, FamilyReps, ReadWeb}
+use Rattle.recover.specs.Reaching.{bits-from, Reached, FirstReached, Swept, Sized, Slices, reach-numbers, linked, Links, FamilyReps, ReadWeb}
 use Rattle.families.proofs.Lists.{filter-same}
 use Rattle.recover.proofs.Linking.{link-length, link-within}
 
@@ -109,32 +108,16 @@ web-by rep rank R d k v e q =
     q ∙ ap (getD rank k) refl ∙ ap (λ (s : List ℕ). getD s k 0) (R .ranks)
     ∙ getD-map-up-to (earlier rep) (length rep) k 0 (rw e (R .inside .at d)) ∙ ap (earlier rep) e
 
-first-of : (s : List ℕ) (m : ℕ) → (m ≡ 0 → ⊥) → m ≤ length s → first (take m s) ≡ some (getD s 0 0)
-first-of s zero z h = absurd (z refl)
-first-of [] (suc m) z h = absurd (omega arith)
-first-of (x ∷ s) (suc m) z h = refl
+module _ (n r w i : ℕ) (nums l₀ rep : List ℕ) (S : Swept n r w nums l₀) (size : length rep ≡ suc (length (defining-lines n nums))) where
+  pub read-room : Room n r w l₀ × (length rep ≤ w * 64)
+  read-room = (S .room, omega (arith, size, S .numbered .few))
 
-module _ (n r w i : ℕ) (nums l₀ rep set : List ℕ) (S : Swept n r w nums l₀) (F : Sized n nums rep set) where
-  pub read-room : Room n r w l₀ × (length rep ≤ w * 64) × (length rep ≤ length set) × (length rep ≤ 65536)
-  read-room = (S .room, omega (arith, F .size, S .numbered .few), F .room, F .small)
-
-  module _ (l s : List ℕ) (m : ℕ) (e : length l ≡ length l₀) (R : Reached n r w i (length rep) l₀ l s m) where
-    set-is : take m s ≡ reach-numbers n r nums l₀ i
-    set-is = R .set ∙ ap (bits-from l (making n r w * 64)) (F .size) ∙ reach-bits n r w i nums l₀ l S (R .row)
-
-    web : (v d : ℕ) → or-else (first (reach-numbers n r nums l₀ i)) 0 ≡ d → v ≡ earlier rep (getD rep d 0) → ReadWeb n r w i nums l₀ l rep v
-    web v d q t = record {
-      swept = swept-still n r w i nums l₀ l S (R .row) e;
-      preds = same-preds n r w i nums l₀ l S (R .row);
-      number = rw q t;
-    }
-
-    pub read-none : m ≡ 0 → (v : ℕ) → v ≡ earlier rep (getD rep 0 0) → ReadWeb n r w i nums l₀ l rep v
-    read-none z v t = web v 0 (ap (λ (ds : List ℕ). or-else (first ds) 0) (sym set-is) ∙ rw z) t
-
-    pub read-some : (m ≡ 0 → ⊥) → length s ≡ length set → (v d : ℕ) → d ≡ getD s 0 0 → v ≡ earlier rep (getD rep d 0) → ReadWeb n r w i nums l₀ l rep v
-    read-some z k v d q t =
-        web v d (ap (λ (ds : List ℕ). or-else (first ds) 0) (sym set-is) ∙ ap (λ (o : Option ℕ). or-else o 0) (first-of s m z (omega (arith, R .few, F .room))) ∙ sym q) t
+  pub read-by : (l : List ℕ) (d v : ℕ) → length l ≡ length l₀ → FirstReached n r w i (length rep) l₀ l d → v ≡ earlier rep (getD rep d 0) → ReadWeb n r w i nums l₀ l rep v
+  read-by l d v e R t = record {
+    swept = swept-still n r w i nums l₀ l S (R .row) e;
+    preds = same-preds n r w i nums l₀ l S (R .row);
+    number = t ∙ ap (λ (d : ℕ). earlier rep (getD rep d 0)) (R .is ∙ ap (λ (ds : List ℕ). or-else (first ds) 0) (ap (bits-from l (making n r w * 64)) size ∙ reach-bits n r w i nums l₀ l S (R .row)));
+  }
 
 -- `family_reps`
 
@@ -178,4 +161,4 @@ module _ (n r w : ℕ) (nums l₀ rep₀ set marks is : List ℕ) (F : Sized n n
     };
   }
 
-pub ruleset link-rules = (line-room, links-one, links-start, links-next, links-end, slices-next, web-by, read-room, read-none, read-some, alone-slices, family-by)
+pub ruleset link-rules = (line-room, links-one, links-start, links-next, links-end, slices-next, web-by, read-room, read-by, alone-slices, family-by)

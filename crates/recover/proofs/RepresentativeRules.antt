@@ -5,11 +5,12 @@
 --   marks-start, marks-next, marks-end    the loop of `mark_all`
 --   merged-yes, merged-no, merged-past    one representative
 --   merge-next                            the loop of `merge`
---   link-few, link-some                  `link`
+--   alike-by                              `is_same`
+--   link-few, link-same, link-some       `link`
 --   starts-yes, starts-no, ranks-start, ranks-next, ranks-count     `starts` and the loop of `ranks`
 -- Assumes nothing.
 use Prim.Native.Nat.{ℕ, zero, suc, _+_, _-_, _<_, _≤_, min}
-use mathlib.Core.Path.{_≡_, refl, sym, ap, _∙_}
+use mathlib.Core.Path.{_≡_, refl, sym, ap, ap₂, _∙_}
 use mathlib.Core.Logic.{inl, inr}
 use mathlib.Core.Bool.{Bool, true, false, cond, _||_}
 use mathlib.Core.List.{List, [], _∷_, _++_, map}
@@ -20,15 +21,16 @@ use lib.Dec.{eqb}
 use borrow.Author.Tests.{eq-eqb, ne-eqb, eqb-true, eqb-false}
 use lib.ListN.{length, getD, set, take, drop, replicate, length-set, length-replicate, getD-replicate, List·getD-eq-default}
 use lib.Seq.{take-suc, take-all, set-out, getD-set-same, getD-set-other}
-use Rattle.definitions.specs.Lists.{any, fold, up-to, member}
+use Rattle.definitions.specs.Lists.{any, all, fold, up-to, member}
 use Rattle.definitions.specs.Recover.{link}
-use Rattle.theory.proofs.Bools.{or-left, or-right, clash}
-use Rattle.theory.proofs.ListLaws.{getD-range, length-range}
+use Rattle.theory.proofs.Bools.{and-split, or-left, or-right, clash}
+use Rattle.theory.proofs.ListLaws.{any-found, any-here, member-cases, getD-range, length-range}
 use Rattle.text.specs.Zeroed.{zeroed}
 use Rattle.text.proofs.Parts.{drop-step, drop-end}
 use Rattle.text.proofs.Fills.{filled, fill-next, fill-end}
-use Rattle.recover.specs.Numbers.{touched, Least, Within, marked, merged, earlier}
+use Rattle.recover.specs.Numbers.{touched, Least, Within, alike, marked, merged, earlier}
 use Rattle.families.proofs.Lists.{any-snoc, member-snoc, map-within, fill-start, fill-rest}
+use Rattle.visit.proofs.ListFacts.{getD-member}
 use Rattle.recover.proofs.Linking.{link-merged}
 use Rattle.recover.proofs.Ranks.{earlier-zero, earlier-next}
 
@@ -160,6 +162,45 @@ link-few rep [] h = refl
 link-few rep (d ∷ []) h = refl
 link-few rep (d ∷ (e ∷ ds)) h = absurd (omega arith)
 
+pub alike-by : (rep ds : List ℕ) (k a b : ℕ) → a ≡ getD rep (getD ds k 0) 0 → b ≡ getD rep (getD ds 0 0) 0 → eqb a b ≡ alike rep ds (getD ds k 0)
+alike-by rep ds k a b p q = ap₂ eqb p q
+
+all-at : (f : ℕ → Bool) (xs : List ℕ) (x : ℕ) → all f xs ≡ true → member x xs ≡ true → f x ≡ true
+unfolding all any
+all-at f [] x e h = clash h refl
+all-at f (y ∷ xs) x e h = elim (member-cases x y xs h) [
+  | inl q ↦ rw q (and-split (f y) (all f xs) e .0)
+  | inr q ↦ all-at f xs x (and-split (f y) (all f xs) e .1) q
+]
+
+same-kept : (rep : List ℕ) (m : ℕ) (f : ℕ → Bool) → ((r : ℕ) → f r ≡ true → r ≡ m) → map (λ r. cond (f r) m r) rep ≡ rep
+same-kept [] m f h = refl
+same-kept (r ∷ rep) m f h = ap₂ _∷_ (go (f r) refl) (same-kept rep m f h)
+  where
+    go : (b : Bool) → f r ≡ b → cond b m r ≡ r
+    go true e = sym (h r e)
+    go false e = refl
+
+-- definitions of one representative are linked already
+pub link-same : (rep ds : List ℕ) (b : Bool) → 2 ≤ length ds → b ≡ all (alike rep ds) ds → b ≡ true → rep ≡ link rep ds
+unfolding touched
+link-same rep ds b z e t = sym (link-merged ds rep m least ∙ same-kept rep m (touched rep ds) only)
+  where
+    m : ℕ
+    m = getD rep (getD ds 0 0) 0
+
+    same : (d : ℕ) → member d ds ≡ true → getD rep d 0 ≡ m
+    same d h = eqb-true (getD rep d 0) m (all-at (alike rep ds) ds d (sym e ∙ t) h)
+
+    least : Least rep ds m
+    least = record {
+      among = any-here (λ d. eqb m (getD rep d 0)) ds (getD ds 0 0) (getD-member ds 0 0 (omega arith)) (eq-eqb m m refl);
+      below = λ d h. omega (arith, same d h);
+    }
+
+    only : (r : ℕ) → touched rep ds r ≡ true → r ≡ m
+    only r h = let s = any-found (λ d. eqb r (getD rep d 0)) ds h in eqb-true r (getD rep (s .0) 0) (s .2) ∙ same (s .0) (s .1)
+
 module _ (rep ds marks : List ℕ) (w : Within (length marks) rep) where
   pub link-some : (zeros now last : List ℕ) (m : ℕ) → zeros ≡ zeroed 0 marks → now ≡ marked rep zeros ds → Least rep ds m → last ≡ map (merged m now) rep → last ≡ link rep ds
   unfolding merged
@@ -213,4 +254,4 @@ module _ (rep d o : List ℕ) (i count : ℕ) (same : length d ≡ length rep) w
   unfolding ranked
   ranks-end inv h s = fill-end (earlier rep) (up-to (length rep)) d o i (length rep) (sym (length-range 0 (length rep))) inv same (omega arith)
 
-pub ruleset representative-rules = (alone-start, alone-next, alone-end, rep-of, least-one, least-next, least-end, mark-at, mark-past, marks-start, marks-next, marks-end, merged-yes, merged-no, merged-past, fill-start, merge-next, merge-end, link-few, link-some, starts-yes, starts-no, ranks-start, ranks-none, ranks-next, ranks-count, ranks-end)
+pub ruleset representative-rules = (alone-start, alone-next, alone-end, rep-of, least-one, least-next, least-end, mark-at, mark-past, marks-start, marks-next, marks-end, merged-yes, merged-no, merged-past, fill-start, merge-next, merge-end, link-few, alike-by, link-same, link-some, starts-yes, starts-no, ranks-start, ranks-none, ranks-next, ranks-count, ranks-end)

@@ -3,21 +3,22 @@
 --   put-yes, put-no                                    `put`
 --   Listing, members-start, members-next, members-few, members-end  the loop of `members`
 --   row-room, reached-by                               `reaching`
+--   first-there, first-none                            `first_reaching`
 -- Assumes nothing.
 use Prim.Native.Nat.{ℕ, zero, suc, _+_, _-_, _*_, _<_, _≤_}
-use mathlib.Core.Path.{_≡_, refl, sym, ap, _∙_}
+use mathlib.Core.Path.{_≡_, refl, sym, ap, ap₂, _∙_}
 use mathlib.Core.Bool.{Bool, true, false, cond}
-use mathlib.Core.List.{List, [], _∷_, _++_, append-nil}
+use mathlib.Core.List.{List, [], _∷_, _++_, append-nil, append-assoc}
 use native.Mathlib.Omega.{arith}
 use native.Mathlib.Nat.{add-zero, zero-add}
 use native.Mathlib.Numerals.{add-one}
 use lib.ListN.{length, set, take}
 use lib.Seq.{take-suc-set}
-use Rattle.definitions.specs.Lists.{filter, range, up-to}
+use Rattle.definitions.specs.Lists.{filter, range, up-to, or-else, first}
 use Rattle.bits.specs.Rows.{bit, First}
 use Rattle.visit.specs.Layout.{making, Room}
 use Rattle.sweep.specs.Solved.{Incoming}
-use Rattle.recover.specs.Reaching.{bits-from, Put, Reached}
+use Rattle.recover.specs.Reaching.{bits-from, Put, Reached, FirstReached}
 use Rattle.families.proofs.Lists.{range-snoc}
 
 module _ (s : List ℕ) (m b : ℕ) (y : Bool) where
@@ -93,6 +94,40 @@ members-next l s₀ s a n m q q′ v es g L h ev F = record {
         ap (bits-from l a) p ∙ bits-skip l a (suc (q - a)) (q′ - q - 1) (λ j x y. F .none (a + j) (omega (arith, L .low)) (omega (arith, L .low, F .from)))
         ∙ bits-more l a (q - a) ∙ ap (λ (c : Bool). bits-from l a (q - a) ++ cond c ((q - a) ∷ []) []) here
 
+-- The first bit
+
+bits-front : (l : List ℕ) (a b k : ℕ) → (zs : List ℕ) × (bits-from l a (b + k) ≡ bits-from l a b ++ zs)
+bits-front l a b zero = let e : b + 0 ≡ b = omega arith in ([], rw e (sym (append-nil (bits-from l a b))))
+bits-front l a b (suc k) =
+    let s = bits-front l a b k in
+    let e : b + suc k ≡ suc (b + k) = omega arith in
+    let z = cond (bit l (a + (b + k))) ((b + k) ∷ []) [] in
+    (s .0 ++ z, ap (bits-from l a) e ∙ bits-more l a (b + k) ∙ ap (_++ z) (s .1) ∙ append-assoc (bits-from l a b) (s .0) z)
+
+module _ (n r w i nd a q : ℕ) (l₀ l : List ℕ) (ea : a ≡ making n r w * 64) (F : First l a (a + nd) q) (I : Incoming n r w i l₀ l) where
+  low-none : bits-from l a (q - a) ≡ []
+  low-none = ap (bits-from l a) (sym (zero-add (q - a))) ∙ bits-skip l a 0 (q - a) (λ j x y. F .none (a + j) (omega arith) (omega (arith, F .from))) ∙ bits-none l a
+
+  pub first-there : q < a + nd → FirstReached n r w i nd l₀ l (q - a)
+  first-there h = record { is = sym (ap (λ (ds : List ℕ). or-else (first ds) 0) (ap (λ (x : ℕ). bits-from l x nd) (sym ea) ∙ all)); row = I }
+    where
+      here : bit l (a + (q - a)) ≡ true
+      here = let p : a + (q - a) ≡ q = omega (arith, F .from) in rw p (F .there h)
+
+      rest : (zs : List ℕ) × (bits-from l a (suc (q - a) + (nd - suc (q - a))) ≡ bits-from l a (suc (q - a)) ++ zs)
+      rest = bits-front l a (suc (q - a)) (nd - suc (q - a))
+
+      one : bits-from l a (suc (q - a)) ≡ (q - a) ∷ []
+      one = bits-more l a (q - a) ∙ rw (low-none, here)
+
+      all : bits-from l a nd ≡ (q - a) ∷ rest .0
+      all =
+          let p : nd ≡ suc (q - a) + (nd - suc (q - a)) = omega (arith, F .from) in
+          ap (bits-from l a) p ∙ rest .1 ∙ ap (_++ rest .0) one
+
+  pub first-none : a + nd ≤ q → FirstReached n r w i nd l₀ l 0
+  first-none h = record { is = let p : nd ≡ q - a = omega (arith, F .upto) in sym (ap (λ (ds : List ℕ). or-else (first ds) 0) (ap₂ (bits-from l) (sym ea) p ∙ low-none)); row = I }
+
 module _ (l s : List ℕ) (a n m q : ℕ) (L : Listing l a (a + n) s m q) where
   pub members-few : m ≤ n
   members-few = omega (arith, L .few, L .high)
@@ -109,4 +144,4 @@ row-low n r w a l R e = omega (arith, R .small)
 pub reached-by : (n r w i nd a m : ℕ) (l₀ l s : List ℕ) → a ≡ making n r w * 64 → m ≤ nd → take m s ≡ bits-from l a nd → Incoming n r w i l₀ l → Reached n r w i nd l₀ l s m
 reached-by n r w i nd a m l₀ l s e h q I = record { few = h; set = rw e at q; row = I }
 
-pub ruleset set-rules = (put-yes, put-no, row-room, row-low, reached-by)
+pub ruleset set-rules = (put-yes, put-no, row-room, row-low, reached-by, first-there, first-none)

@@ -1,6 +1,7 @@
 -- Representatives and webs by definition number: 0 the entry, then 1, 2, .. in the order of the defining lines.
 --   touched rep ds r     r is the representative of one of the definitions ds
 --   Least rep ds m       m is the least of the representatives of ds
+--   alike rep ds d       d has the representative of the first of ds
 --   Within n rep         each representative is below n
 --   marked rep marks ds  the marks, with 1 at each representative of ds
 --   merged m marks r     m where r is marked, else r
@@ -21,6 +22,9 @@ touched rep ds r = any (λ d. eqb r (getD rep d 0)) ds
 pub record Least (rep ds : List ℕ) (m : ℕ) : Type 0 where
   pub among : touched rep ds m ≡ true
   pub below : (d : ℕ) → member d ds ≡ true → m ≤ getD rep d 0
+
+abbrev pub alike : List ℕ → List ℕ → ℕ → Bool
+alike rep ds d = eqb (getD rep d 0) (getD rep (getD ds 0 0) 0)
 
 pub record Within (n : ℕ) (rep : List ℕ) : Type 0 where
   pub at : (d : ℕ) → getD rep d 0 < n

@@ -2,6 +2,7 @@
 --   bits-from l a n           the numbers below n whose bit, counted from bit a of the words l, is set
 --   Put s₀ s m b y k          s is s₀ with b at place m where y is true; k is the place behind
 --   Reached                   what `reaching` does: the first m words of s are the set of line i, and the words l have its row
+--   FirstReached              what `first_reaching` does: d is the first of that set, 0 where it is empty
 --   Swept n r w nums l        the outgoing rows hold what the sweeps over the graph in l leave, for the definitions that nums numbers; both
 --                             matrices of the graph say the same
 --   reach-numbers n r nums l i    the numbers of the definitions that reach line i
@@ -37,6 +38,10 @@ pub record Put (s₀ s : List ℕ) (m b : ℕ) (y : Bool) (k : ℕ) : Type 0 whe
 pub record Reached (n r w i nd : ℕ) (l₀ l s : List ℕ) (m : ℕ) : Type 0 where
   pub few : m ≤ nd
   pub set : take m s ≡ bits-from l (making n r w * 64) nd
+  pub row : Incoming n r w i l₀ l
+
+pub record FirstReached (n r w i nd : ℕ) (l₀ l : List ℕ) (d : ℕ) : Type 0 where
+  pub is : d ≡ or-else (first (bits-from l (making n r w * 64) nd)) 0
   pub row : Incoming n r w i l₀ l
 
 pub record Swept (n r w : ℕ) (nums l : List ℕ) : Type 0 where

@@ -1,16 +1,17 @@
-// Web numbers of one family's definitions and reads. A definition takes constant time, a read as much as listing its set.
+// Web numbers of one family's definitions and reads. A definition takes constant time, a read as much as `sweep::incoming_row`.
 //
 // Contracts are by definition number; `web-number-is` and `read-number-is` of proofs/FamilyNumbers say that these are `web-number` and
 // `read-number` of Rattle.definitions.specs.Recover.
 ghost use mathlib.Core.Path.{_≡_};
-ghost use Prim.Native.Nat.{ℕ, _<_, _≤_};
+ghost use Prim.Native.Nat.{ℕ, suc, _<_, _≤_};
 ghost use lib.ListN.{length, getD};
+ghost use Rattle.visit.specs.Numbers.{defining-lines};
 ghost use Rattle.recover.specs.Numbers.{earlier, Ranked};
 ghost use Rattle.recover.specs.Reaching.{Swept, Sized, FamilyReps, ReadWeb};
 use crate::representatives::alone;
 use crate::representatives::ranks;
+use crate::sets::first_reaching;
 use crate::sets::link_reads;
-use crate::sets::reaching;
 use words::number;
 use words::word;
 
@@ -32,16 +33,11 @@ pub fn read_web(
     i: usize,
     rep: &[u16],
     rank: &[u16],
-    set: &mut [u16],
 ) -> u16
-    requires { ⌜ Swept n r w (now nums) (now space) × (i < n) × Sized n (now nums) (now rep) (now set) × Ranked (now rep) (now rank) ⌝ }
+    requires { ⌜ Swept n r w (now nums) (now space) × (i < n) × (length (now rep) ≡ suc (length (defining-lines n (now nums)))) × Ranked (now rep) (now rank) ⌝ }
     ensures { λ v. ⌜ ReadWeb n r w i (now (nums .entry)) (now (space .entry)) (now (space .exit)) (now (rep .entry)) v ⌝ }
 {
-    let m = reaching(space, n, r, w, i, rep.len(), set);
-    if m == 0 {
-        return web_of(rep, rank, 0);
-    }
-    web_of(rep, rank, number(set, 0))
+    web_of(rep, rank, first_reaching(space, n, r, w, i, rep.len()))
 }
 
 // The representatives of a family's definitions after all its reads, and their ranks. `rep` and `rank` have a word for each definition.

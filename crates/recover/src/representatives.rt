@@ -8,9 +8,9 @@ ghost use mathlib.Core.Bool.{cond};
 ghost use Prim.Native.Nat.{min, _≤_, _<_};
 ghost use lib.Dec.{eqb};
 ghost use lib.ListN.{length, getD, set};
-ghost use Rattle.definitions.specs.Lists.{up-to};
+ghost use Rattle.definitions.specs.Lists.{all, up-to};
 ghost use Rattle.definitions.specs.Recover.{link};
-ghost use Rattle.recover.specs.Numbers.{Least, Within, marked, merged, earlier};
+ghost use Rattle.recover.specs.Numbers.{Least, Within, alike, marked, merged, earlier};
 use words::narrow;
 use words::number;
 use words::wide;
@@ -100,12 +100,37 @@ fn merge(rep: &mut [u16], marks: &[u8], m: u16)
     }
 }
 
-// The definitions ds, which reach one read, are one web.
+// The definition at place k of ds has the representative of the first.
+fn is_same(rep: &[u16], ds: &[u16], k: usize) -> bool
+    ensures { λ y. ⌜ y ≡ alike (now (rep .entry)) (now (ds .entry)) (getD (now (ds .entry)) k 0) ⌝ }
+{
+    rep_of(rep, ds, k) == rep_of(rep, ds, 0)
+}
+
+// The definitions ds have one representative.
+fn are_same(rep: &[u16], ds: &[u16]) -> bool
+    ensures { λ y. ⌜ y ≡ all (alike (now (rep .entry)) (now (ds .entry))) (now (ds .entry)) ⌝ }
+{
+    let mut k = 0;
+    while k < ds.len() {
+        if is_same(rep, ds, k) {
+            k += 1;
+        } else {
+            return false;
+        }
+    }
+    true
+}
+
+// The definitions ds, which reach one read, are one web. Where they are already, as behind an earlier read, nothing is merged.
 pub fn link(rep: &mut [u16], ds: &[u16], marks: &mut [u8])
     requires { ⌜ Within (length (now marks)) (now rep) ⌝ }
     ensures { λ _. ⌜ now (rep .exit) ≡ link (now (rep .entry)) (now (ds .entry)) ⌝ }
 {
     if ds.len() < 2 {
+        return;
+    }
+    if are_same(rep, ds) {
         return;
     }
     text::zero_bytes(marks, 0);

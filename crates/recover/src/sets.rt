@@ -8,7 +8,7 @@ ghost use Prim.Native.Nat.{ℕ, _+_, _*_, _≤_, _<_};
 ghost use lib.ListN.{length, getD, take};
 ghost use Rattle.bits.specs.Edges.{Agree};
 ghost use Rattle.visit.specs.Layout.{Room};
-ghost use Rattle.recover.specs.Reaching.{bits-from, Put, Reached, Swept, Slices, Links};
+ghost use Rattle.recover.specs.Reaching.{bits-from, Put, Reached, FirstReached, Swept, Slices, Links};
 use crate::representatives::link;
 use words::narrow;
 use words::number;
@@ -58,6 +58,17 @@ pub fn reaching(
 {
     let a = sweep::incoming_row(space, n, r, w, i);
     members(space, a, nd, set)
+}
+
+// After the sweeps: the first of the nd definitions that reaches line i, 0 where none does.
+pub fn first_reaching(space: &mut [u64], n: usize, r: usize, w: usize, i: usize, nd: usize) -> usize
+    requires { ⌜ Room n r w (now space) × (i < n) × Agree n r (now space) × (nd ≤ w * 64) ⌝ }
+    ensures { λ d. ⌜ FirstReached n r w i nd (now (space .entry)) (now (space .exit)) d ⌝ }
+{
+    let a = sweep::incoming_row(space, n, r, w, i);
+    let e = a + nd;
+    let q = bits::find_bit(space, a, e);
+    if q < e { q - a } else { 0 }
 }
 
 // The definitions that reach line i are one web.
