@@ -4,7 +4,7 @@
 --   fill-*                     a row filled so far: at first, by one word more, in the end
 --   *-one                      the same of a row of one word
 --   zero-*                     the words of a cleared row
---   differ-*                   so for the comparison of two rows
+--   differ-*                   so for the comparison of a row with what is written over it
 --   none-*, found, past        so for the search of a set bit
 --   low-last                   the last word of the low bits of a row
 -- Assumes nothing.
@@ -26,7 +26,7 @@ use mir.Syntax.{w64}
 use mir.Val.{Fits}
 use borrow.Author.Tests.{eq-eqb, ne-eqb, eqb-true, eqb-false, le-leb, lt-leb}
 use Rattle.theory.proofs.Bools.{clash, lt-or-ge}
-use Rattle.bits.specs.Rows.{word-bit, bit, Away, Filled, Zero, WithBit, joined, joined-low, copied, Differs, First}
+use Rattle.bits.specs.Rows.{word-bit, bit, Away, Filled, Zero, WithBit, joined, joined-low, copied, Put, Differs, First}
 use Rattle.bits.proofs.Words.{zero-bit, or-bit, shr-bit, one-bit, all-bits, above-bit, word-other, low-none, low-there, keep-low}
 
 pub bit-in-word : (l : List ℕ) (w k : ℕ) → k < 64 → bit l (w * 64 + k) ≡ word-bit (getD l w 0) k
@@ -76,7 +76,7 @@ fill-none l w f = record { inside = λ k h. absurd (omega arith); outside = λ v
 pub fill-end : (l₀ l : List ℕ) (w i r : ℕ) (f : ℕ → Bool) → Filled l₀ l w i f → i ≤ r → r ≤ i → Filled l₀ l w r f
 fill-end l₀ l w i r f F h g = let e : r ≡ i = omega arith in rw e F
 
-fill-next : (l₀ l : List ℕ) (w i v : ℕ) (f : ℕ → Bool) → Filled l₀ l w i f → w + i < length l
+pub fill-next : (l₀ l : List ℕ) (w i v : ℕ) (f : ℕ → Bool) → Filled l₀ l w i f → w + i < length l
     → ((k : ℕ) → k < 64 → word-bit v k ≡ f (i * 64 + k)) → Filled l₀ (set l (w + i) v) w (i + 1) f
 fill-next l₀ l w i v f F h e = record {
   inside = ins;
@@ -109,10 +109,9 @@ module _ (l₀ l : List ℕ) (w u i r : ℕ) (hi : i < r) (el : length l ≡ len
       (word-left l₀ l w i w i k (joined l₀ w u) F hk (λ a b. omega arith))
       (word-left l₀ l w i u i k (joined l₀ w u) F hk (λ a b. omega arith)))
 
-  pub fill-copy : (l′ : List ℕ) → l′ ≡ set l (w + i) (getD l (u + i) 0) → Filled l₀ l w i (copied l₀ u) → w + r ≤ u → u + r ≤ length l₀
-      → Filled l₀ l′ w (i + 1) (copied l₀ u)
-  fill-copy l′ e F hu h = rw e (fill-next l₀ l w i (getD l (u + i) 0) (copied l₀ u) F (omega arith)
-      (λ k hk. word-left l₀ l w i u i k (copied l₀ u) F hk (λ a b. omega arith)))
+  pub fill-copy : Filled l₀ l w i (copied l₀ u) → w + r ≤ u → u + r ≤ length l₀ → Filled l₀ (set l (w + i) (getD l (u + i) 0)) w (i + 1) (copied l₀ u)
+  fill-copy F hu h = fill-next l₀ l w i (getD l (u + i) 0) (copied l₀ u) F (omega arith)
+      (λ k hk. word-left l₀ l w i u i k (copied l₀ u) F hk (λ a b. omega arith))
 
   pub fill-all : Filled l₀ l w i (λ k. true) → w + r ≤ length l₀ → Filled l₀ (set l (w + i) 18446744073709551615) w (i + 1) (λ k. true)
   fill-all F h = fill-next l₀ l w i 18446744073709551615 (λ k. true) F (omega arith) (λ k q. all-bits k q)
@@ -138,18 +137,9 @@ module _ (l : List ℕ) (w r : ℕ) (one : r ≡ 1) (h : w + r ≤ length l) whe
     outside = λ u q. getD-set-other l w u v 0 (λ z. q (omega arith) (omega arith));
   }
 
-  pub clear-one : Filled l (set l w 0) w r (λ k. false)
-  clear-one = fill-one 0 (λ k. false) (λ k q. zero-bit k)
-
-  pub zero-one : Zero (set l w 0) w r
-  zero-one v x y = let e : v ≡ w = omega arith in rw e (getD-set-same l w 0 0 (omega arith))
-
   pub or-one : (u : ℕ) → Filled l (set l w (bitOr (getD l w 0) (getD l u 0))) w r (joined l w u)
   or-one u = fill-one (bitOr (getD l w 0) (getD l u 0)) (joined l w u)
       (λ k q. or-bit (getD l w 0) (getD l u 0) k ∙ ap₂ _||_ (sym (bit-in-word l w k q)) (sym (bit-in-word l u k q)))
-
-pub copy-one : (l : List ℕ) (w u r : ℕ) (l′ : List ℕ) → r ≡ 1 → w + r ≤ u → u + r ≤ length l → l′ ≡ set l w (getD l u 0) → Filled l l′ w r (copied l u)
-copy-one l w u r l′ one g h e = rw e (fill-one l w r one (omega arith) (getD l u 0) (copied l u) (λ k q. sym (bit-in-word l u k q)))
 
 pub low-last : (l₀ l : List ℕ) (w u k : ℕ) → Filled l₀ l w (k / 64) (joined l₀ w u) → u + (k / 64 + 1) ≤ w → w + (k / 64 + 1) ≤ length l
     → Filled l₀ (set l (w + k / 64) (bitOr (getD l (w + k / 64) 0) (getD l (u + k / 64) 0 * 2 ^ (63 - k % 64) % 18446744073709551616 / 2 ^ (63 - k % 64)))) w (k / 64 + 1) (joined-low l₀ w u k)
@@ -167,57 +157,42 @@ low-last l₀ l w u k F hu h =
       | inr q ↦ le-leb j (k % 64) q ∙ sym (le-leb (k / 64 * 64 + j) k (omega arith))
     ]
 
--- Two rows compared, the first i words of one being overwritten by the other's
+-- A row overwritten word by word and compared with what it held
 
-pub put-no : (a x : ℕ) → a ≡ x → false ≡ not (eqb a x)
-put-no a x e = rw (eq-eqb a x e)
+pub put-same : (l : List ℕ) (w x : ℕ) → getD l w 0 ≡ x → Put l l w x false
+put-same l w x e = record { word = sym (rw (← e) (set-getD l w 0)); same = λ q. e; other = λ q. absurd (true≢false (sym q)) }
 
-pub put-yes : (a x : ℕ) → (a ≡ x → ⊥) → true ≡ not (eqb a x)
-put-yes a x e = rw (ne-eqb a x e)
+pub put-new : (l : List ℕ) (w x : ℕ) → (getD l w 0 ≡ x → ⊥) → ((k : ℕ) → Fits w64 (getD l k 0)) → Fits w64 x → Put l (set l w x) w x true
+put-new l w x h kn f = record { word = refl; same = λ q. absurd (true≢false q); other = λ q. word-other 64 (getD l w 0) x (kn w .fits) (f .fits) h }
 
-pub put-keep : (l : List ℕ) (w x : ℕ) → getD l w 0 ≡ x → l ≡ set l w x
-put-keep l w x e = sym (rw (← e) (set-getD l w 0))
+pub differ-none : (l : List ℕ) (w : ℕ) (f : ℕ → Bool) → Differs l w 0 f false
+differ-none l w f = record { same = λ e k h. absurd (omega arith); other = λ e. absurd (true≢false (sym e)) }
 
-pub differ-none : (l : List ℕ) (w u : ℕ) → Differs l w u 0 false
-differ-none l w u = record { same = λ e k h. absurd (omega arith); other = λ e. absurd (true≢false (sym e)) }
-
-pub differ-end : (l : List ℕ) (w u i r : ℕ) (t : Bool) → Differs l w u i t → i ≤ r → r ≤ i → Differs l w u r t
-differ-end l w u i r t D h g = let e : r ≡ i = omega arith in rw e D
-
-pub differ-next : (l₀ l : List ℕ) (w u i r : ℕ) (t b z : Bool) → Filled l₀ l w i (copied l₀ u) → i < r → w + r ≤ u → ((k : ℕ) → Fits w64 (getD l k 0))
-    → Differs l₀ w u i t → b ≡ not (eqb (getD l (w + i) 0) (getD l (u + i) 0)) → z ≡ (b || t) → Differs l₀ w u (i + 1) z
-differ-next l₀ l w u i r t b z F hi hu kn D eb ez = go (eqb (getD l (w + i) 0) (getD l (u + i) 0)) refl
+pub differ-next : (l₀ l l′ : List ℕ) (w i x : ℕ) (f : ℕ → Bool) (t b z : Bool) → Filled l₀ l w i f → ((k : ℕ) → k < 64 → word-bit x k ≡ f (i * 64 + k))
+    → Differs l₀ w i f t → Put l l′ (w + i) x b → z ≡ (b || t) → Differs l₀ w (i + 1) f z
+differ-next l₀ l l′ w i x f t b z F new D Q ez = go b refl
   where
     old : (k : ℕ) → k < 64 → word-bit (getD l (w + i) 0) k ≡ bit l₀ (w * 64 + (i * 64 + k))
-    old k h = word-left l₀ l w i w i k (copied l₀ u) F h (λ a b. omega arith)
+    old k h = word-left l₀ l w i w i k f F h (λ a b. omega arith)
 
-    new : (k : ℕ) → k < 64 → word-bit (getD l (u + i) 0) k ≡ bit l₀ (u * 64 + (i * 64 + k))
-    new k h = word-left l₀ l w i u i k (copied l₀ u) F h (λ a b. omega arith)
-
-    go : (q : Bool) → eqb (getD l (w + i) 0) (getD l (u + i) 0) ≡ q → Differs l₀ w u (i + 1) z
-    go true e =
-        let zt : z ≡ t = ez ∙ rw (eb, e) in
-        record {
-          same = λ f k h. elim (lt-or-ge k (i * 64)) [
-            | inl q ↦ D .same (sym zt ∙ f) k q
-            | inr q ↦ (let p : k ≡ i * 64 + (k - i * 64) = omega arith in
-                rw p (sym (old (k - i * 64) (omega arith)) ∙ ap (λ (x : ℕ). word-bit x (k - i * 64)) (eqb-true (getD l (w + i) 0) (getD l (u + i) 0) e) ∙ new (k - i * 64) (omega arith)))
-          ];
-          other = λ f. (let s = D .other (sym zt ∙ f) in (s .0, omega (arith, s .1), s .2));
-        }
+    go : (q : Bool) → b ≡ q → Differs l₀ w (i + 1) f z
     go false e =
-        let zt : z ≡ true = ez ∙ rw (eb, e) in
-        let s = word-other 64 (getD l (w + i) 0) (getD l (u + i) 0) (kn (w + i) .fits) (kn (u + i) .fits) (eqb-false (getD l (w + i) 0) (getD l (u + i) 0) e) in
+        let zt : z ≡ t = ez ∙ rw e in
         record {
-          same = λ f. clash zt f;
-          other = λ f. (i * 64 + s .0, omega (arith, s .1), λ q. s .2 (old (s .0) (s .1) ∙ q ∙ sym (new (s .0) (s .1))));
+          same = λ g k h. elim (lt-or-ge k (i * 64)) [
+            | inl q ↦ D .same (sym zt ∙ g) k q
+            | inr q ↦ (let p : k ≡ i * 64 + (k - i * 64) = omega arith in
+                rw p (sym (old (k - i * 64) (omega arith)) ∙ ap (λ (x : ℕ). word-bit x (k - i * 64)) (Q .same e) ∙ new (k - i * 64) (omega arith)))
+          ];
+          other = λ g. (let s = D .other (sym zt ∙ g) in (s .0, omega (arith, s .1), s .2));
         }
-
-pub differ-one : (l : List ℕ) (w u r : ℕ) (t : Bool) → r ≡ 1 → w + r ≤ u → ((k : ℕ) → Fits w64 (getD l k 0)) → t ≡ not (eqb (getD l w 0) (getD l u 0)) → Differs l w u r t
-differ-one l w u r t one h kn e =
-    let a : w + 0 ≡ w = omega arith in
-    let b : u + 0 ≡ u = omega arith in
-    rw one (differ-next l l w u 0 1 false t t (fill-none l w (copied l u)) (omega arith) (omega arith) kn (differ-none l w u) (rw (a, b) e) (sym (or-false t)))
+    go true e =
+        let zt : z ≡ true = ez ∙ rw e in
+        let s = Q .other e in
+        record {
+          same = λ g. clash zt g;
+          other = λ g. (i * 64 + s .0, omega (arith, s .1), λ q. s .2 (old (s .0) (s .1) ∙ q ∙ sym (new (s .0) (s .1))));
+        }
 
 -- The search for a set bit: none from a on below p
 

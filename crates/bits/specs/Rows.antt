@@ -7,7 +7,8 @@
 --   WithBit l₀ l a          l is l₀ with bit a set
 --   joined, joined-low      the bits of two rows together; of the second only those up to k
 --   copied                  the bits of one row
---   Differs l w u i t       t says whether the rows of i words at w and u differ
+--   Put l₀ l w x t          what `put` does
+--   Differs l w i f t       t says whether the row of i words at w differs from the bits f
 --   First l a e q           q is the first set bit from a on, below e; or e
 -- Assumes nothing.
 use Prim.Native.Nat.{ℕ, _+_, _*_, _/_, _%_, _^_, _<_, _≤_}
@@ -16,7 +17,7 @@ use mathlib.Core.Logic.{_≢_}
 use mathlib.Core.Bool.{Bool, true, false, _&&_, _||_}
 use mathlib.Core.List.{List}
 use lib.Dec.{eqb, leb}
-use lib.ListN.{getD}
+use lib.ListN.{getD, set}
 
 unfoldable pub word-bit : ℕ → ℕ → Bool
 word-bit w k = eqb (w / 2 ^ k % 2) 1
@@ -48,9 +49,15 @@ joined-low l w u k j = bit l (w * 64 + j) || (leb j k && bit l (u * 64 + j))
 abbrev pub copied : List ℕ → ℕ → ℕ → Bool
 copied l u k = bit l (u * 64 + k)
 
-pub record Differs (l : List ℕ) (w u i : ℕ) (t : Bool) : Type 0 where
-  pub same : t ≡ false → (k : ℕ) → k < i * 64 → bit l (w * 64 + k) ≡ bit l (u * 64 + k)
-  pub other : t ≡ true → (k : ℕ) × (k < i * 64) × (bit l (w * 64 + k) ≢ bit l (u * 64 + k))
+-- l is l₀ with the word x at w, and t says whether that is a change
+pub record Put (l₀ l : List ℕ) (w x : ℕ) (t : Bool) : Type 0 where
+  pub word : l ≡ set l₀ w x
+  pub same : t ≡ false → getD l₀ w 0 ≡ x
+  pub other : t ≡ true → (k : ℕ) × (k < 64) × (word-bit (getD l₀ w 0) k ≢ word-bit x k)
+
+pub record Differs (l : List ℕ) (w i : ℕ) (f : ℕ → Bool) (t : Bool) : Type 0 where
+  pub same : t ≡ false → (k : ℕ) → k < i * 64 → bit l (w * 64 + k) ≡ f k
+  pub other : t ≡ true → (k : ℕ) × (k < i * 64) × (bit l (w * 64 + k) ≢ f k)
 
 pub record First (l : List ℕ) (a e q : ℕ) : Type 0 where
   pub from : a ≤ q

@@ -1,7 +1,8 @@
 // Bit rows in one lent slice of 64-bit words, and the edges of a flow graph as two matrices of such rows.
 //
 // Bit a of a slice is bit a % 64 of its word a / 64. A row is given by its first word and its number of words; the functions on rows
-// take a step a word, and one word without a loop, since most rows have one. `find_bit` takes a step a word that it looks at.
+// take a step a word, and `or_row` one word without a loop, since most rows that it joins have one. `find_bit` takes a step a word that it
+// looks at.
 //
 // For n lines and rows of r words, n + 64 <= 64 r:
 //   words [0, n r)         predecessors: bit i of row j says that line i steps to line j
@@ -16,7 +17,7 @@ ghost use Prim.Native.Nat.{_+_, _*_, _/_, _<_, _≤_};
 ghost use lib.ListN.{length, getD, set};
 ghost use lib.Dec.{eqb};
 ghost use lib.Count.{trailingZeros};
-ghost use Rattle.bits.specs.Rows.{bit, Filled, Zero, WithBit, joined, joined-low, copied, Differs, First};
+ghost use Rattle.bits.specs.Rows.{bit, Filled, Zero, WithBit, joined, joined-low, copied, Put, First};
 ghost use Rattle.bits.specs.Edges.{Matrices, Spanned, Widened, Widen, Noted, Between, NoEdges, Added};
 
 pub fn get_bit(s: &[u64], a: usize) -> bool
@@ -39,10 +40,6 @@ pub fn clear_row(s: &mut [u64], w: usize, r: usize)
     ensures { λ z. ⌜ Filled (now (s .entry)) (now (s .exit)) w r (λ k. false) ⌝ }
     ensures { λ z. ⌜ Zero (now (s .exit)) w r ⌝ }
 {
-    if r == 1 {
-        s[w] = 0;
-        return;
-    }
     let mut i = 0;
     while i < r {
         s[w + i] = 0;
@@ -96,9 +93,9 @@ pub fn either(a: bool, b: bool) -> bool
 }
 
 // The word x at place w; answers whether that is a change.
-fn put(s: &mut [u64], w: usize, x: u64) -> bool
+pub fn put(s: &mut [u64], w: usize, x: u64) -> bool
     requires { ⌜ w < length (now s) ⌝ }
-    ensures { λ t. ⌜ (t ≡ not (eqb (getD (now (s .entry)) w 0) x)) × (now (s .exit) ≡ set (now (s .entry)) w x) ⌝ }
+    ensures { λ t. ⌜ Put (now (s .entry)) (now (s .exit)) w x t ⌝ }
 {
     if s[w] == x {
         return false;
@@ -107,25 +104,17 @@ fn put(s: &mut [u64], w: usize, x: u64) -> bool
     true
 }
 
-// Row u, which stands after row w, copied to row w; answers whether that is a change.
-pub fn store_row(s: &mut [u64], w: usize, u: usize, r: usize) -> bool
+// Row u, which stands after row w, copied to row w.
+pub fn copy_row(s: &mut [u64], w: usize, u: usize, r: usize)
     requires { ⌜ (w + r ≤ u) × (u + r ≤ length (now s)) ⌝ }
-    ensures { λ t. ⌜ Differs (now (s .entry)) w u r t ⌝ }
-    ensures { λ t. ⌜ Filled (now (s .entry)) (now (s .exit)) w r (copied (now (s .entry)) u) ⌝ }
+    ensures { λ z. ⌜ Filled (now (s .entry)) (now (s .exit)) w r (copied (now (s .entry)) u) ⌝ }
 {
-    if r == 1 {
-        let y = s[u];
-        return put(s, w, y);
-    }
-    let mut changed = false;
     let mut i = 0;
     while i < r {
         let x = s[u + i];
-        let c = put(s, w + i, x);
-        changed = either(c, changed);
+        s[w + i] = x;
         i += 1;
     }
-    changed
 }
 
 // How many zeros stand below the lowest set bit.

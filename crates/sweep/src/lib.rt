@@ -66,7 +66,7 @@ fn turn(space: &mut [u64], n: usize, r: usize, w: usize)
 {
     let todo = n * r + n * r;
     let next = todo + r;
-    bits::store_row(space, todo, next, r);
+    bits::copy_row(space, todo, next, r);
     bits::clear_row(space, next, r);
 }
 

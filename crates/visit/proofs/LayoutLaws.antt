@@ -2,7 +2,7 @@
 --   room                          the words of question 5 have room for every w up to r
 --   room-same                     so has a list of the same length
 --   outs-at, outs-past            an outgoing bit, by its place
---   same-outs, same-preds         equal words hold equal outgoing rows, and equal edges
+--   outs-word, same-outs, same-preds    equal words hold equal outgoing bits, equal outgoing rows, and equal edges
 --   kept-*                        the same for words that are `Kept`
 -- Assumes nothing.
 use Prim.Native.Nat.{ℕ, _+_, _*_, _/_, _<_, _≤_}
@@ -41,16 +41,19 @@ pub outs-past : (n r w : ℕ) (l : List ℕ) (b j : ℕ) → n ≤ j → outs n 
 unfolding outs
 outs-past n r w l b j h = rw (le-ltb j n h)
 
-pub same-outs : (n r w : ℕ) (l₀ l : List ℕ) → ((v : ℕ) → base n r ≤ v → v < base n r + n * w → getD l v 0 ≡ getD l₀ v 0)
-    → (b : ℕ) → b < w * 64 → outs n r w l b ≡ outs n r w l₀ b
-same-outs n r w l₀ l kept b h = fun-ext (λ j. go j (lt-or-ge j n))
+pub outs-word : (n r w : ℕ) (l₀ l : List ℕ) (b : ℕ) → ((j : ℕ) → j < n → getD l (base n r + j * w + b / 64) 0 ≡ getD l₀ (base n r + j * w + b / 64) 0)
+    → outs n r w l b ≡ outs n r w l₀ b
+outs-word n r w l₀ l b kept = fun-ext (λ j. go j (lt-or-ge j n))
   where
     go : (j : ℕ) → (j < n) ⊎ (n ≤ j) → outs n r w l b j ≡ outs n r w l₀ b j
     go j (inl q) =
-        outs-at n r w l b j q
-        ∙ same-bit l l₀ ((base n r + j * w) * 64 + b) (kept (((base n r + j * w) * 64 + b) / 64) (omega arith) (omega (arith, row-in j n w q)))
-        ∙ sym (outs-at n r w l₀ b j q)
+        let e : ((base n r + j * w) * 64 + b) / 64 ≡ base n r + j * w + b / 64 = omega arith in
+        outs-at n r w l b j q ∙ same-bit l l₀ ((base n r + j * w) * 64 + b) (rw e (kept j q)) ∙ sym (outs-at n r w l₀ b j q)
     go j (inr q) = outs-past n r w l b j q ∙ sym (outs-past n r w l₀ b j q)
+
+pub same-outs : (n r w : ℕ) (l₀ l : List ℕ) → ((v : ℕ) → base n r ≤ v → v < base n r + n * w → getD l v 0 ≡ getD l₀ v 0)
+    → (b : ℕ) → b < w * 64 → outs n r w l b ≡ outs n r w l₀ b
+same-outs n r w l₀ l kept b h = outs-word n r w l₀ l b (λ j q. kept (base n r + j * w + b / 64) (omega arith) (omega (arith, row-in j n w q)))
 
 pub same-preds : (n r : ℕ) (l₀ l : List ℕ) → n + 64 ≤ r * 64 → ((v : ℕ) → v < n * r + n * r → getD l v 0 ≡ getD l₀ v 0) → preds-of n r l ≡ preds-of n r l₀
 same-preds n r l₀ l wide kept = preds-of-kept n r l₀ l (kept-edges n r l₀ l wide kept)

@@ -1,9 +1,10 @@
 -- The steps of the functions that make one row and visit one line.
---   one-row                            a row with one bit
---   gather-start, -next, -end          the loop of `gather_row`: the row in the making, with what is left to join, is what all predecessors have
+--   word-there, word-none              a word of a row with one bit
+--   gather-start, -next, -end          the loop of `gather_word`: the word so far, with what is left to join, is what all predecessors have
 --   come-entry, come-later             line 0, and any other line
---   own-below, make-own, make-coming   a line that defines, and one that does not
---   visit-made                         the row in the making becomes the outgoing row
+--   make-own, make-coming              a line that defines, and one that does not
+--   row-ready, row-next                the loop of `coming_row`
+--   visiting-*, visit-made             the loop of `visit_line`
 --   ahead-by, back-none, back-by       the successors on one list
 --   mark-both                          on both
 --   preds-row, succs-row               the span of a row
@@ -11,39 +12,49 @@
 --   step-changed, step-same            a visit with its marks
 --   start-lists, turn-lists            the lists before and between sweeps
 -- Assumes nothing.
-use Prim.Native.Nat.{ℕ, zero, suc, _+_, _-_, _*_, _/_, _<_, _≤_}
+use Prim.Native.Nat.{ℕ, zero, suc, _+_, _-_, _*_, _/_, _%_, _^_, _<_, _≤_}
 use mathlib.Core.Path.{_≡_, refl, sym, ap, ap₂, _∙_, fun-ext}
 use mathlib.Core.Logic.{_≢_, _⊎_, inl, inr}
 use mathlib.Core.Bool.{Bool, true, false, cond, _&&_, _||_, or-false, or-assoc, true≢false}
 use mathlib.Core.List.{List, []}
 use native.Mathlib.Omega.{arith}
 use native.Mathlib.Decide.{ℕ-discrete}
+use native.Mathlib.Nat.{one-mul, mod-eq-of-lt}
 use lib.Dec.{eqb, leb}
-use lib.ListN.{getD}
+use lib.ListN.{length, getD, set}
+use lib.Pow.{pow-lt}
+use lib.Bits.{bitOr}
 use borrow.Author.Tests.{eq-eqb, ne-eqb, eqb-true, eqb-false, le-leb}
 use Rattle.definitions.specs.Lists.{any, filter, range}
 use Rattle.theory.proofs.Bools.{clash, not-so, or-left, or-right, lt-or-ge}
-use Rattle.bits.specs.Rows.{bit, Away, Filled, WithBit, joined, joined-low, copied, Differs, First}
+use Rattle.bits.specs.Rows.{word-bit, bit, Away, Filled, joined, joined-low, copied, Put, Differs, First}
 use Rattle.bits.specs.Edges.{edges, succs, Spanned, Agree, preds-of, Between}
 use Rattle.bits.specs.declared.Span.{Span}
-use Rattle.bits.proofs.RowLaws.{same-bit, filled-off}
+use Rattle.bits.proofs.Words.{zero-bit, or-bit, one-bit}
+use Rattle.bits.proofs.RowLaws.{bit-in-word, same-bit, filled-off, fill-none, fill-next, differ-none, differ-next}
 use Rattle.bits.proofs.EdgeLaws.{row-in, rows-apart, kept-succs, kept-agree, preds-of-at}
-use Rattle.visit.specs.Layout.{base, making, outs, todo, next, Kept}
+use Rattle.visit.specs.Layout.{base, making, Room, outs, todo, next, Kept}
 use Rattle.visit.specs.Numbers.{Numbered}
-use Rattle.visit.specs.Steps.{coming, given, Visit, Ahead, Back, Marked, Step, Started, Turned}
-use Rattle.visit.proofs.LayoutLaws.{outs-at, outs-past, same-outs, same-preds}
+use Rattle.visit.specs.Steps.{Word, coming, given, Visit, Ahead, Back, Marked, Step, Started, Turned}
+use Rattle.visit.proofs.LayoutLaws.{room-same, outs-at, outs-past, outs-word, same-outs, same-preds}
 
--- One bit
+-- One word of a row
 
-pub one-row : (l₀ l₁ l : List ℕ) (t w d : ℕ) → Filled l₀ l₁ t w (λ k. false) → WithBit l₁ l (t * 64 + d) → d < w * 64 → Filled l₀ l t w (λ b. eqb b d)
-one-row l₀ l₁ l t w d F B h = record {
-  inside = λ k q. B .bits (t * 64 + k) ∙ rw (F .inside k q) (shift k (ℕ-discrete k d));
-  outside = λ v q. B .words v (λ e. q (omega arith) (omega arith)) ∙ F .outside v q;
-}
+pub word-there : (k d : ℕ) → d / 64 ≡ k → Word k (1 * 2 ^ (d % 64) % 18446744073709551616) (λ b. eqb b d)
+word-there k d e = record { bits = λ b h. rw shifted (one-bit (d % 64) b ∙ place b h (ℕ-discrete b (d % 64))) }
   where
-    shift : (k : ℕ) → Dec (k ≡ d) → eqb (t * 64 + k) (t * 64 + d) ≡ eqb k d
-    shift k (yes e) = eq-eqb (t * 64 + k) (t * 64 + d) (omega arith) ∙ sym (eq-eqb k d e)
-    shift k (no e) = ne-eqb (t * 64 + k) (t * 64 + d) (λ q. e (omega arith)) ∙ sym (ne-eqb k d e)
+    shifted : 1 * 2 ^ (d % 64) % 18446744073709551616 ≡ 2 ^ (d % 64)
+    shifted = rw (one-mul (2 ^ (d % 64))) (mod-eq-of-lt (pow-lt {j = 64} (omega arith)))
+
+    place : (b : ℕ) → b < 64 → Dec (b ≡ d % 64) → eqb b (d % 64) ≡ eqb (k * 64 + b) d
+    place b h (yes q) = eq-eqb b (d % 64) q ∙ sym (eq-eqb (k * 64 + b) d (omega arith))
+    place b h (no q) = ne-eqb b (d % 64) q ∙ sym (ne-eqb (k * 64 + b) d (λ z. q (omega arith)))
+
+pub word-none : (k d : ℕ) → (d / 64 ≡ k → ⊥) → Word k 0 (λ b. eqb b d)
+word-none k d e = record { bits = λ b h. zero-bit b ∙ sym (ne-eqb (k * 64 + b) d (λ z. e (omega arith))) }
+
+word-like : (k x : ℕ) (f g : ℕ → Bool) → Word k x f → ((b : ℕ) → f b ≡ g b) → Word k x g
+word-like k x f g W h = record { bits = λ b q. W .bits b q ∙ h (k * 64 + b) }
 
 -- What the predecessors have
 
@@ -61,43 +72,31 @@ any-next : (p f : ℕ → Bool) (k m s : ℕ) → p k ≡ true → ((j : ℕ) �
 unfolding any filter range
 any-next p f k m s e h = rw (e, filter-skip p (suc k) m s h)
 
-pub record Gathering (n r w i : ℕ) (l₀ l : List ℕ) (a e q : ℕ) : Type 0 where
+pub record Gathering (n r w i k : ℕ) (l : List ℕ) (a e y q : ℕ) : Type 0 where
   pub low : a ≤ q
   pub high : q ≤ e
   pub end : e ≤ a + n
-  pub there : q < e → bit l₀ q ≡ true
-  pub left : (b : ℕ) → b < w * 64
-      → (bit l (making n r w * 64 + b) || any (outs n r w l₀ b) (filter (λ p. edges n r l₀ p i) (range (q - a) (a + n - q)))) ≡ any (outs n r w l₀ b) (getD (preds-of n r l₀) i [])
-  pub kept : (v : ℕ) → Away v (making n r w) w → getD l v 0 ≡ getD l₀ v 0
+  pub there : q < e → bit l q ≡ true
+  pub left : (b : ℕ) → b < 64
+      → (word-bit y b || any (outs n r w l (k * 64 + b)) (filter (λ p. edges n r l p i) (range (q - a) (a + n - q)))) ≡ any (outs n r w l (k * 64 + b)) (getD (preds-of n r l) i [])
 
 -- t is row i of the predecessors
-module _ (n r w i t : ℕ) (l₀ l : List ℕ) (et : t ≡ i * r) (hi : i < n) (wide : n + 64 ≤ r * 64) where
-  edge-bit : (p : ℕ) → edges n r l₀ p i ≡ bit l₀ (t * 64 + p)
+module _ (n r w i k t : ℕ) (l : List ℕ) (et : t ≡ i * r) (hi : i < n) (hk : k < w) where
+  edge-bit : (p : ℕ) → edges n r l p i ≡ bit l (t * 64 + p)
   unfolding edges
-  edge-bit p = ap (bit l₀) (omega arith)
+  edge-bit p = ap (bit l) (omega arith)
 
-  off : (q : ℕ) → q < t * 64 + n → Away (q / 64) (making n r w) w
-  off q g x y = omega (arith, row-in i n r hi)
-
-  pub gather-start : (x : Span) → Between n l₀ t x → Filled l₀ l (making n r w) w (λ k. false) → Gathering n r w i l l (t * 64) (x .end) (x .from)
-  unfolding edges
-  gather-start x B F = record {
+  pub gather-start : (x : Span) → Between n l t x → Gathering n r w i k l (t * 64) (x .end) 0 (x .from)
+  gather-start x B = record {
     low = B .low;
     high = B .order;
     end = B .high;
-    there = λ h. same (x .from) (omega (arith, B .high)) ∙ B .first h;
-    kept = λ v h. refl;
-    left = λ b h. rw (F .inside b h) (ap (any (outs n r w l b)) (sym skip));
+    there = B .first;
+    left = λ b h. rw (zero-bit b) (ap (any (outs n r w l (k * 64 + b))) (sym skip));
   }
     where
-      same : (q : ℕ) → q < t * 64 + n → bit l q ≡ bit l₀ q
-      same q h = same-bit l l₀ q (F .outside (q / 64) (off q h))
-
-      here : (j : ℕ) → edges n r l j i ≡ bit l (t * 64 + j)
-      here j = ap (bit l) (omega arith)
-
       none : (j : ℕ) → 0 ≤ j → j < 0 + (x .from - t * 64) → edges n r l j i ≡ false
-      none j y z = let h : j < n = omega (arith, B .order, B .high) in here j ∙ same (t * 64 + j) (omega arith) ∙ B .below j h (omega (arith, B .low))
+      none j y z = let h : j < n = omega (arith, B .order, B .high) in edge-bit j ∙ B .below j h (omega (arith, B .low))
 
       skip : getD (preds-of n r l) i [] ≡ filter (λ p. edges n r l p i) (range (x .from - t * 64) (t * 64 + n - x .from))
       skip =
@@ -106,141 +105,152 @@ module _ (n r w i t : ℕ) (l₀ l : List ℕ) (et : t ≡ i * r) (hi : i < n) (
           preds-of-at n r l i hi ∙ ap (λ (m : ℕ). filter (λ p. edges n r l p i) (range 0 m)) e
           ∙ filter-skip (λ p. edges n r l p i) 0 (x .from - t * 64) (t * 64 + n - x .from) none ∙ rw f
 
-  pub gather-next : (e q q′ u : ℕ) (l′ : List ℕ) → Gathering n r w i l₀ l (t * 64) e q → q < e → u ≡ (q - t * 64) * w
-      → Filled l l′ (making n r w) w (joined l (making n r w) (base n r + u)) → First l′ (q + 1) e q′ → Gathering n r w i l₀ l′ (t * 64) e q′
-  gather-next e q q′ u l′ G hq eu F S = record {
+  pub gather-next : (e y q q′ u : ℕ) → Gathering n r w i k l (t * 64) e y q → q < e → u ≡ (q - t * 64) * w → First l (q + 1) e q′
+      → Gathering n r w i k l (t * 64) e (bitOr y (getD l (base n r + k + u) 0)) q′
+  gather-next e y q q′ u G hq eu S = record {
     low = omega (arith, S .from, G .low);
     high = S .upto;
     end = G .end;
-    kept = kept;
-    there = λ h. sym (same-bit l′ l₀ q′ (kept (q′ / 64) (off q′ (omega (arith, G .end))))) ∙ S .there h;
+    there = S .there;
     left = left;
   }
     where
-      kept : (v : ℕ) → Away v (making n r w) w → getD l′ v 0 ≡ getD l₀ v 0
-      kept v h = F .outside v h ∙ G .kept v h
-
       p : ℕ
       p = q - t * 64
 
       hp : p < n
       hp = omega (arith, G .low, G .end)
 
-      none : (j : ℕ) → suc p ≤ j → j < suc p + (q′ - q - 1) → edges n r l₀ j i ≡ false
-      none j x y =
-          edge-bit j ∙ sym (same-bit l′ l₀ (t * 64 + j) (kept ((t * 64 + j) / 64) (off (t * 64 + j) (omega (arith, S .upto, S .from, G .low, G .end)))))
-          ∙ S .none (t * 64 + j) (omega (arith, G .low)) (omega (arith, S .from, G .low))
+      none : (j : ℕ) → suc p ≤ j → j < suc p + (q′ - q - 1) → edges n r l j i ≡ false
+      none j x y = edge-bit j ∙ S .none (t * 64 + j) (omega (arith, G .low)) (omega (arith, S .from, G .low))
 
-      here : edges n r l₀ p i ≡ true
-      here = edge-bit p ∙ ap (bit l₀) (omega (arith, G .low)) ∙ G .there hq
+      here : edges n r l p i ≡ true
+      here = edge-bit p ∙ ap (bit l) (omega (arith, G .low)) ∙ G .there hq
 
-      out : (b : ℕ) → b < w * 64 → bit l ((base n r + u) * 64 + b) ≡ outs n r w l₀ b p
+      out : (b : ℕ) → b < 64 → word-bit (getD l (base n r + k + u) 0) b ≡ outs n r w l (k * 64 + b) p
       out b hb =
-          same-bit l l₀ ((base n r + u) * 64 + b) (G .kept (((base n r + u) * 64 + b) / 64) (λ x y. omega (arith, row-in p n w hp, eu)))
-          ∙ rw eu (sym (outs-at n r w l₀ b p hp))
+          sym (bit-in-word l (base n r + k + u) b hb) ∙ ap (bit l) (let z : (base n r + k + u) * 64 + b ≡ (base n r + p * w) * 64 + (k * 64 + b) = omega (arith, eu) in z)
+          ∙ sym (outs-at n r w l (k * 64 + b) p hp)
 
-      left : (b : ℕ) → b < w * 64 → (bit l′ (making n r w * 64 + b) || any (outs n r w l₀ b) (filter (λ p. edges n r l₀ p i) (range (q′ - t * 64) (t * 64 + n - q′)))) ≡ any (outs n r w l₀ b) (getD (preds-of n r l₀) i [])
+      left : (b : ℕ) → b < 64 → (word-bit (bitOr y (getD l (base n r + k + u) 0)) b || any (outs n r w l (k * 64 + b)) (filter (λ p. edges n r l p i) (range (q′ - t * 64) (t * 64 + n - q′)))) ≡ any (outs n r w l (k * 64 + b)) (getD (preds-of n r l) i [])
       left b hb =
-          let f = outs n r w l₀ b in
-          let E : ℕ → Bool = λ p. edges n r l₀ p i in
+          let f = outs n r w l (k * 64 + b) in
+          let E : ℕ → Bool = λ p. edges n r l p i in
           let s : suc p + (q′ - q - 1) ≡ q′ - t * 64 = omega (arith, S .from, G .low) in
           let c : suc ((q′ - q - 1) + (t * 64 + n - q′)) ≡ t * 64 + n - q = omega (arith, S .from, S .upto, G .low, G .end) in
           let R = any f (filter E (range (q′ - t * 64) (t * 64 + n - q′))) in
           let rest : any f (filter E (range p (t * 64 + n - q))) ≡ (f p || R) =
           ap (λ (m : ℕ). any f (filter E (range p m))) (sym c) ∙ any-next E f p (q′ - q - 1) (t * 64 + n - q′) here none ∙ ap (λ (m : ℕ). f p || any f (filter E (range m (t * 64 + n - q′)))) s in
-          ap (_|| R) (F .inside b hb ∙ ap (bit l (making n r w * 64 + b) ||_) (out b hb))
-          ∙ or-assoc (bit l (making n r w * 64 + b)) (f p) R
-          ∙ ap (bit l (making n r w * 64 + b) ||_) (sym rest) ∙ G .left b hb
+          ap (_|| R) (or-bit y (getD l (base n r + k + u) 0) b ∙ ap (word-bit y b ||_) (out b hb))
+          ∙ or-assoc (word-bit y b) (f p) R
+          ∙ ap (word-bit y b ||_) (sym rest) ∙ G .left b hb
 
-pub gather-end : (n r w i t : ℕ) (l₀ l₁ l : List ℕ) (x : Span) (q : ℕ) → t ≡ i * r → i < n → n + 64 ≤ r * 64 → Between n l₀ t x → Filled l₀ l₁ (making n r w) w (λ k. false)
-    → Gathering n r w i l₁ l (t * 64) (x .end) q → x .end ≤ q → Filled l₀ l (making n r w) w (λ b. any (outs n r w l₀ b) (getD (preds-of n r l₀) i []))
-unfolding any filter range edges
-gather-end n r w i t l₀ l₁ l x q et hi wide B F G h = record {
-  inside = λ b hb. sym (or-false (bit l (making n r w * 64 + b))) ∙ none b ∙ G .left b hb
-      ∙ ap₂ (λ (f : ℕ → Bool) (ps : List (List ℕ)). any f (getD ps i [])) (same-outs n r w l₀ l₁ (λ v x y. F .outside v (λ a b. omega arith)) b hb)
-      (same-preds n r l₀ l₁ wide (λ v x. F .outside v (λ a b. omega arith)));
-  outside = λ v x. G .kept v x ∙ F .outside v x;
-}
-  where
-    off : (j : ℕ) → q - t * 64 ≤ j → j < q - t * 64 + (t * 64 + n - q) → edges n r l₁ j i ≡ false
-    off j y z = ap (bit l₁) (omega arith) ∙ filled-off l₀ l₁ (making n r w) w (λ k. false) F (t * 64 + j) (λ a b. omega (arith, row-in i n r hi, G .low)) ∙ B .above j (omega (arith, G .low)) (omega (arith, G .low))
+  pub gather-end : (x : Span) (y q : ℕ) → Between n l t x → Gathering n r w i k l (t * 64) (x .end) y q → x .end ≤ q → Word k y (λ b. any (outs n r w l b) (getD (preds-of n r l) i []))
+  unfolding any filter range
+  gather-end x y q B G h = record { bits = λ b hb. sym (or-false (word-bit y b)) ∙ ap (word-bit y b ||_) (sym (none b)) ∙ G .left b hb }
+    where
+      off : (j : ℕ) → q - t * 64 ≤ j → j < q - t * 64 + (t * 64 + n - q) → edges n r l j i ≡ false
+      off j y z = edge-bit j ∙ B .above j (omega (arith, G .low)) (omega (arith, G .low))
 
-    none : (b : ℕ) → (bit l (making n r w * 64 + b) || false)
-        ≡ (bit l (making n r w * 64 + b) || any (outs n r w l₁ b) (filter (λ p. edges n r l₁ p i) (range (q - t * 64) (t * 64 + n - q))))
-    none b = let z : t * 64 + n - q ≡ (t * 64 + n - q) + 0 = omega arith in
-        ap (bit l (making n r w * 64 + b) ||_) (sym (ap (λ (m : ℕ). any (outs n r w l₁ b) (filter (λ p. edges n r l₁ p i) (range (q - t * 64) m))) z
-        ∙ ap (any (outs n r w l₁ b)) (filter-skip (λ p. edges n r l₁ p i) (q - t * 64) (t * 64 + n - q) 0 off)))
+      none : (b : ℕ) → any (outs n r w l (k * 64 + b)) (filter (λ p. edges n r l p i) (range (q - t * 64) (t * 64 + n - q))) ≡ false
+      none b = let z : t * 64 + n - q ≡ (t * 64 + n - q) + 0 = omega arith in
+          ap (λ (m : ℕ). any (outs n r w l (k * 64 + b)) (filter (λ p. edges n r l p i) (range (q - t * 64) m))) z
+          ∙ ap (any (outs n r w l (k * 64 + b))) (filter-skip (λ p. edges n r l p i) (q - t * 64) (t * 64 + n - q) 0 off)
 
 -- What comes to a line, and what it is given
 
-filled-like : (l₀ l : List ℕ) (t w : ℕ) (f g : ℕ → Bool) → Filled l₀ l t w f → ((k : ℕ) → k < w * 64 → f k ≡ g k) → Filled l₀ l t w g
-filled-like l₀ l t w f g F h = record { inside = λ k q. F .inside k q ∙ h k q; outside = F .outside }
+module _ (n r w i k x : ℕ) (l : List ℕ) where
+  pub come-entry : i ≡ 0 → Word k x (λ b. eqb b 0) → Word k x (λ b. coming (preds-of n r l) b (outs n r w l b) i)
+  come-entry e W = rw e W
 
-module _ (n r w i : ℕ) (l₀ l : List ℕ) where
-  pub come-entry : i ≡ 0 → Filled l₀ l (making n r w) w (λ b. eqb b 0) → Filled l₀ l (making n r w) w (λ b. coming (preds-of n r l₀) b (outs n r w l₀ b) i)
-  come-entry e F = rw e F
-
-  pub come-later : (i ≡ 0 → ⊥) → Filled l₀ l (making n r w) w (λ b. any (outs n r w l₀ b) (getD (preds-of n r l₀) i []))
-      → Filled l₀ l (making n r w) w (λ b. coming (preds-of n r l₀) b (outs n r w l₀ b) i)
-  come-later h F = filled-like l₀ l (making n r w) w (λ b. any (outs n r w l₀ b) (getD (preds-of n r l₀) i [])) (λ b. coming (preds-of n r l₀) b (outs n r w l₀ b) i) F (λ b q. go i h b)
+  pub come-later : (i ≡ 0 → ⊥) → Word k x (λ b. any (outs n r w l b) (getD (preds-of n r l) i [])) → Word k x (λ b. coming (preds-of n r l) b (outs n r w l b) i)
+  come-later h W = word-like k x (λ b. any (outs n r w l b) (getD (preds-of n r l) i [])) (λ b. coming (preds-of n r l) b (outs n r w l b) i) W (go i h)
     where
-      go : (i : ℕ) → (i ≡ 0 → ⊥) → (b : ℕ) → any (outs n r w l₀ b) (getD (preds-of n r l₀) i []) ≡ coming (preds-of n r l₀) b (outs n r w l₀ b) i
+      go : (i : ℕ) → (i ≡ 0 → ⊥) → (b : ℕ) → any (outs n r w l b) (getD (preds-of n r l) i []) ≡ coming (preds-of n r l) b (outs n r w l b) i
       go zero h b = absurd (h refl)
       go (suc i) h b = refl
 
   module _ (nums : List ℕ) where
-    pub make-coming : getD nums i 0 ≡ 0 → Filled l₀ l (making n r w) w (λ b. coming (preds-of n r l₀) b (outs n r w l₀ b) i)
-        → Filled l₀ l (making n r w) w (λ b. given (preds-of n r l₀) nums b (outs n r w l₀ b) i)
-    make-coming e F = rw e F
+    pub make-coming : getD nums i 0 ≡ 0 → Word k x (λ b. coming (preds-of n r l) b (outs n r w l b) i) → Word k x (λ b. given (preds-of n r l) nums b (outs n r w l b) i)
+    make-coming e W = rw e W
 
-    pub make-own : (v : ℕ) → v ≡ getD nums i 0 → (getD nums i 0 ≡ 0 → ⊥) → Filled l₀ l (making n r w) w (λ b. eqb b v)
-        → Filled l₀ l (making n r w) w (λ b. given (preds-of n r l₀) nums b (outs n r w l₀ b) i)
-    make-own v e h F = filled-like l₀ l (making n r w) w (λ b. eqb b v) (λ b. given (preds-of n r l₀) nums b (outs n r w l₀ b) i) F
-        (λ b q. rw (ne-eqb (getD nums i 0) 0 h, e))
+    pub make-own : (v : ℕ) → v ≡ getD nums i 0 → (getD nums i 0 ≡ 0 → ⊥) → Word k x (λ b. eqb b v) → Word k x (λ b. given (preds-of n r l) nums b (outs n r w l b) i)
+    make-own v e h W = word-like k x (λ b. eqb b v) (λ b. given (preds-of n r l) nums b (outs n r w l b) i) W (λ b. rw (ne-eqb (getD nums i 0) 0 h, e))
 
-    pub own-below : (v : ℕ) → Numbered n w nums → i < n → v ≡ getD nums i 0 → (getD nums i 0 ≡ 0 → ⊥) → v < w * 64
-    own-below v N hi e h = elim (ℕ-discrete i 0) [
-      | yes z ↦ absurd (h (rw z (N .entry)))
-      | no z ↦ omega (arith, N .few, N .number i (omega arith) hi h .0)
-    ]
+-- The loop of `coming_row`
 
--- A visit
+module _ (n r w i k : ℕ) (l₀ l : List ℕ) (R : Room n r w l₀) (F : Filled l₀ l (making n r w) k (λ b. coming (preds-of n r l₀) b (outs n r w l₀ b) i)) (hk : k < w) where
+  row-agree : Agree n r l₀ → Agree n r l
+  row-agree A = kept-agree n r l₀ l (R .wide) (λ v h. F .outside v (λ x y. omega arith)) A
 
-module _ (n r w i u : ℕ) (nums l₀ l₁ l : List ℕ) (z : Bool) (hi : i < n) (eu : u ≡ i * w)
-    (F : Filled l₀ l₁ (making n r w) w (λ b. given (preds-of n r l₀) nums b (outs n r w l₀ b) i))
-    (D : Differs l₁ (base n r + u) (making n r w) w z) (G : Filled l₁ l (base n r + u) w (copied l₁ (making n r w))) where
+  pub row-ready : length l ≡ length l₀ → i < n → Agree n r l₀ → Room n r w l × (i < n) × (k < w) × Agree n r l
+  row-ready e hi A = (room-same n r w l₀ l e R, hi, hk, row-agree A)
+
+  pub row-next : (y : ℕ) → length l ≡ length l₀ → Word k y (λ b. coming (preds-of n r l) b (outs n r w l b) i)
+      → Filled l₀ (set l (making n r w + k) y) (making n r w) (k + 1) (λ b. coming (preds-of n r l₀) b (outs n r w l₀ b) i)
+  row-next y e W = fill-next l₀ l (making n r w) k y (λ b. coming (preds-of n r l₀) b (outs n r w l₀ b) i) F (omega (arith, R .room))
+      (λ b h. W .bits b h ∙ ap₂ (λ (f : ℕ → Bool) (ps : List (List ℕ)). coming ps (k * 64 + b) f i)
+      (same-outs n r w l₀ l (λ v x y. F .outside v (λ a b. omega arith)) (k * 64 + b) (omega arith))
+      (same-preds n r l₀ l (R .wide) (λ v x. F .outside v (λ a b. omega arith))))
+
+-- A visit: the first k words are written
+
+pub record Visiting (n r w i k : ℕ) (nums l₀ l : List ℕ) (t : Bool) : Type 0 where
+  pub filled : Filled l₀ l (base n r + i * w) k (λ b. given (preds-of n r l₀) nums b (outs n r w l₀ b) i)
+  pub differs : Differs l₀ (base n r + i * w) k (λ b. given (preds-of n r l₀) nums b (outs n r w l₀ b) i) t
+
+pub visiting-start : (n r w i : ℕ) (nums l : List ℕ) → Visiting n r w i 0 nums l l false
+visiting-start n r w i nums l = record { filled = fill-none l (base n r + i * w) _; differs = differ-none l (base n r + i * w) _ }
+
+module _ (n r w i k : ℕ) (nums l₀ l : List ℕ) (t : Bool) (R : Room n r w l₀) (G : Visiting n r w i k nums l₀ l t) (hi : i < n) where
+  pub visiting-ready : length l ≡ length l₀ → k < w → Numbered n w nums → Agree n r l₀ → Room n r w l × (i < n) × (k < w) × Numbered n w nums × Agree n r l
+  visiting-ready e hk N A = (room-same n r w l₀ l e R, hi, hk, N, kept-agree n r l₀ l (R .wide) (λ v h. G .filled .outside v (λ x y. omega arith)) A)
+
+  pub visiting-next : (x u : ℕ) (l′ : List ℕ) (c z : Bool) → length l ≡ length l₀ → k < w → u ≡ i * w → Word k x (λ b. given (preds-of n r l) nums b (outs n r w l b) i)
+      → Put l l′ (base n r + u + k) x c → z ≡ (c || t) → Visiting n r w i (k + 1) nums l₀ l′ z
+  visiting-next x u l′ c z el hk eu W Q ez = record {
+    filled = rw (Q .word, eu) (fill-next l₀ l (base n r + i * w) k x _ (G .filled) (omega (arith, row-in i n w hi, R .room)) bits);
+    differs = differ-next l₀ l l′ (base n r + i * w) k x _ t c z (G .filled) bits (G .differs) (rw eu at Q) ez;
+  }
+    where
+      apart : (j : ℕ) → j < n → (b : ℕ) → b < 64 → Away (base n r + j * w + (k * 64 + b) / 64) (base n r + i * w) k
+      apart j hj b hb = elim (ℕ-discrete i j) [
+        | yes q ↦ rw q (λ x y. omega arith)
+        | no q ↦ λ x y. elim (rows-apart i j w q) [ inl a ↦ omega arith | inr a ↦ omega arith ]
+      ]
+
+      bits : (b : ℕ) → b < 64 → word-bit x b ≡ given (preds-of n r l₀) nums (k * 64 + b) (outs n r w l₀ (k * 64 + b)) i
+      bits b hb = W .bits b hb ∙ ap₂ (λ (f : ℕ → Bool) (ps : List (List ℕ)). given ps nums (k * 64 + b) f i)
+          (outs-word n r w l₀ l (k * 64 + b) (λ j hj. G .filled .outside (base n r + j * w + (k * 64 + b) / 64) (apart j hj b hb)))
+          (same-preds n r l₀ l (R .wide) (λ v x. G .filled .outside v (λ a b. omega arith)))
+
+module _ (n r w i : ℕ) (nums l₀ l : List ℕ) (z : Bool) (hi : i < n) (G : Visiting n r w i w nums l₀ l z) where
   new : (b : ℕ) → b < w * 64 → outs n r w l b i ≡ given (preds-of n r l₀) nums b (outs n r w l₀ b) i
-  new b h = outs-at n r w l b i hi ∙ ap (λ (x : ℕ). bit l ((base n r + x) * 64 + b)) (sym eu) ∙ G .inside b h ∙ F .inside b h
-
-  now-new : (b : ℕ) → b < w * 64 → bit l₁ (making n r w * 64 + b) ≡ outs n r w l b i
-  now-new b h = F .inside b h ∙ sym (new b h)
-
-  was : (b : ℕ) → b < w * 64 → bit l₁ ((base n r + u) * 64 + b) ≡ outs n r w l₀ b i
-  was b h =
-      filled-off l₀ l₁ (making n r w) w (λ b. given (preds-of n r l₀) nums b (outs n r w l₀ b) i) F ((base n r + u) * 64 + b) (λ x y. omega (arith, row-in i n w hi, eu))
-      ∙ ap (λ (x : ℕ). bit l₀ ((base n r + x) * 64 + b)) eu ∙ sym (outs-at n r w l₀ b i hi)
+  new b h = outs-at n r w l b i hi ∙ G .filled .inside b h
 
   elsewhere : (b j : ℕ) → b < w * 64 → i ≢ j → (j < n) ⊎ (n ≤ j) → outs n r w l b j ≡ outs n r w l₀ b j
   elsewhere b j h g (inl q) =
       outs-at n r w l b j q
-      ∙ filled-off l₁ l (base n r + u) w (copied l₁ (making n r w)) G ((base n r + j * w) * 64 + b) (λ x y. elim (rows-apart i j w g) [ inl a ↦ omega (arith, eu) | inr a ↦ omega (arith, eu) ])
-      ∙ filled-off l₀ l₁ (making n r w) w (λ b. given (preds-of n r l₀) nums b (outs n r w l₀ b) i) F ((base n r + j * w) * 64 + b) (λ x y. omega (arith, row-in j n w q))
+      ∙ filled-off l₀ l (base n r + i * w) w (λ b. given (preds-of n r l₀) nums b (outs n r w l₀ b) i) (G .filled) ((base n r + j * w) * 64 + b) (λ x y. elim (rows-apart i j w g) [ inl a ↦ omega arith | inr a ↦ omega arith ])
       ∙ sym (outs-at n r w l₀ b j q)
   elsewhere b j h g (inr q) = outs-past n r w l b j q ∙ sym (outs-past n r w l₀ b j q)
 
-  pub visit-made : Visit n r w i nums l₀ l z
-  visit-made = record {
+  visit-all : Visit n r w i nums l₀ l z
+  visit-all = record {
     updated = record {
       cols = λ b h. fun-ext (λ j. go b h j (eqb i j) refl);
-      same = λ e b h. sym (now-new b h) ∙ sym (D .same e b h) ∙ was b h;
-      other = λ e. (let s = D .other e in (s .0, s .1, λ q. s .2 (was (s .0) (s .1) ∙ sym q ∙ sym (now-new (s .0) (s .1)))));
+      same = λ e b h. new b h ∙ sym (G .differs .same e b h) ∙ sym (outs-at n r w l₀ b i hi);
+      other = λ e. (let s = G .differs .other e in (s .0, s .1, λ q. s .2 (sym (outs-at n r w l₀ (s .0) i hi) ∙ sym q ∙ new (s .0) (s .1))));
     };
-    kept = λ v h. G .outside v (λ x y. h (omega arith) (omega (arith, row-in i n w hi, eu))) ∙ F .outside v (λ x y. h (omega arith) (omega arith));
+    kept = λ v h. G .filled .outside v (λ x y. h (omega arith) (omega (arith, row-in i n w hi)));
   }
     where
       go : (b : ℕ) → b < w * 64 → (j : ℕ) (t : Bool) → eqb i j ≡ t → outs n r w l b j ≡ cond t (given (preds-of n r l₀) nums b (outs n r w l₀ b) i) (outs n r w l₀ b j)
       go b h j true e = rw (← eqb-true i j e) (new b h)
       go b h j false e = elsewhere b j h (eqb-false i j e) (lt-or-ge j n)
+
+pub visit-made : (n r w i k : ℕ) (nums l₀ l : List ℕ) (z : Bool) → i < n → k ≤ w → w ≤ k → Visiting n r w i k nums l₀ l z → Visit n r w i nums l₀ l z
+visit-made n r w i k nums l₀ l z hi h g G = let e : k ≡ w = omega arith in visit-all n r w i nums l₀ l z hi (rw e at G)
 
 -- The lists of lines
 

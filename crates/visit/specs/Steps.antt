@@ -1,4 +1,5 @@
 -- What the inner functions of a sweep do, bit by bit. A column says of each line whether bit b is in its outgoing row.
+--   Word k x f                 x is word k of a row of bits f
 --   coming preds b f i         what comes to line i, of the column f; to line 0 only the entry, bit 0
 --   given preds nums b f i     what line i is given: its own definition, or what comes to it
 --   visit, visited k           the column f after a visit of line i; of the lines below k in order
@@ -18,9 +19,12 @@ use mathlib.Core.List.{List, []}
 use lib.Dec.{eqb}
 use lib.ListN.{getD}
 use Rattle.definitions.specs.Lists.{any}
-use Rattle.bits.specs.Rows.{Away}
+use Rattle.bits.specs.Rows.{word-bit, Away}
 use Rattle.bits.specs.Edges.{succs, preds-of}
 use Rattle.visit.specs.Layout.{base, outs, todo, next, Kept}
+
+pub record Word (k x : ℕ) (f : ℕ → Bool) : Type 0 where
+  pub bits : (b : ℕ) → b < 64 → word-bit x b ≡ f (k * 64 + b)
 
 abbrev pub coming : List (List ℕ) → ℕ → (ℕ → Bool) → ℕ → Bool
 coming preds b f zero = eqb b 0

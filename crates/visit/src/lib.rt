@@ -10,7 +10,7 @@
 //   2 n r                    r        lines to visit in this sweep
 //   2 n r + r                r        lines to visit in the next sweep
 //   2 n r + 2 r              n w      outgoing row of each line
-//   2 n r + 2 r + n w        w        row in the making
+//   2 n r + 2 r + n w        w        row in the making: what comes to a line, where that is asked after the sweeps
 //
 // A visit takes w steps and w for each predecessor, and looks only at the words where the line's predecessors lie, and its successors
 // where the row changes: mostly one. By `room` of proofs/LayoutLaws the words of question 5 have room for every w below r. Contracts cite
@@ -25,48 +25,58 @@ ghost use Rattle.bits.specs.Rows.{Filled};
 ghost use Rattle.bits.specs.Edges.{Agree, preds-of};
 ghost use Rattle.visit.specs.Layout.{making, Room, outs};
 ghost use Rattle.visit.specs.Numbers.{Numbered};
-ghost use Rattle.visit.specs.Steps.{coming, given, Visit, Ahead, Back, Marked, Step};
+ghost use Rattle.visit.specs.Steps.{Word, coming, given, Visit, Ahead, Back, Marked, Step};
 
-// The row in the making: bit d alone.
-fn bit_row(space: &mut [u64], n: usize, r: usize, w: usize, d: usize)
-    requires { ⌜ Room n r w (now space) × (d < w * 64) ⌝ }
-    ensures { λ z. ⌜ Filled (now (space .entry)) (now (space .exit)) (making n r w) w (λ b. eqb b d) ⌝ }
+// Word k of a row in which bit d alone is set.
+fn bit_word(k: usize, d: usize) -> u64
+    ensures { λ x. ⌜ Word k x (λ b. eqb b d) ⌝ }
 {
-    let t = n * r + n * r + r + r + n * w;
-    bits::clear_row(space, t, w);
-    bits::set_bit(space, t * 64 + d);
+    if d / 64 == k { 1 << (d % 64) } else { 0 }
 }
 
-// The row in the making: what the predecessors of line i have.
-fn gather_row(space: &mut [u64], n: usize, r: usize, w: usize, i: usize)
-    requires { ⌜ Room n r w (now space) × (i < n) × Agree n r (now space) ⌝ }
-    ensures { λ z. ⌜ Filled (now (space .entry)) (now (space .exit)) (making n r w) w (λ b. any (outs n r w (now (space .entry)) b) (getD (preds-of n r (now (space .entry))) i [])) ⌝ }
+// Word k of what the predecessors of line i have.
+fn gather_word(space: &[u64], n: usize, r: usize, w: usize, i: usize, k: usize) -> u64
+    requires { ⌜ Room n r w (now space) × (i < n) × (k < w) × Agree n r (now space) ⌝ }
+    ensures { λ x. ⌜ Word k x (λ b. any (outs n r w (now (space .entry)) b) (getD (preds-of n r (now (space .entry))) i [])) ⌝ }
 {
-    let base = n * r + n * r + r + r;
-    let t = base + n * w;
+    let base = n * r + n * r + r + r + k;
     let u = bits::row(n, r, i);
     let x = bits::row_span(space, n, r, u);
     let a = u * 64;
     let e = x.end;
-    bits::clear_row(space, t, w);
+    let mut y = 0;
     let mut q = x.from;
     while q < e {
         let v = bits::row(n, w, q - a);
-        bits::or_row(space, t, base + v, w);
+        y = y | space[base + v];
         q = bits::find_bit(space, q + 1, e);
     }
+    y
 }
 
-// The row in the making: what comes to line i. Line 0 takes only the entry.
+// Word k of what comes to line i. Line 0 takes only the entry.
+fn coming_word(space: &[u64], n: usize, r: usize, w: usize, i: usize, k: usize) -> u64
+    requires { ⌜ Room n r w (now space) × (i < n) × (k < w) × Agree n r (now space) ⌝ }
+    ensures { λ x. ⌜ Word k x (λ b. coming (preds-of n r (now (space .entry))) b (outs n r w (now (space .entry)) b) i) ⌝ }
+{
+    if i == 0 {
+        return bit_word(k, 0);
+    }
+    gather_word(space, n, r, w, i, k)
+}
+
+// The row in the making: what comes to line i.
 pub fn coming_row(space: &mut [u64], n: usize, r: usize, w: usize, i: usize)
     requires { ⌜ Room n r w (now space) × (i < n) × Agree n r (now space) ⌝ }
     ensures { λ z. ⌜ Filled (now (space .entry)) (now (space .exit)) (making n r w) w (λ b. coming (preds-of n r (now (space .entry))) b (outs n r w (now (space .entry)) b) i) ⌝ }
 {
-    if i == 0 {
-        bit_row(space, n, r, w, 0);
-        return;
+    let t = n * r + n * r + r + r + n * w;
+    let mut k = 0;
+    while k < w {
+        let y = coming_word(space, n, r, w, i, k);
+        space[t + k] = y;
+        k += 1;
     }
-    gather_row(space, n, r, w, i);
 }
 
 fn wide(x: u16) -> usize
@@ -75,28 +85,42 @@ fn wide(x: u16) -> usize
     x as usize
 }
 
-// The row in the making: what line i is given.
-fn given_row(space: &mut [u64], defs: &[u16], n: usize, r: usize, w: usize, i: usize)
-    requires { ⌜ Room n r w (now space) × (i < n) × Numbered n w (now defs) × Agree n r (now space) ⌝ }
-    ensures { λ z. ⌜ Filled (now (space .entry)) (now (space .exit)) (making n r w) w (λ b. given (preds-of n r (now (space .entry))) (now (defs .entry)) b (outs n r w (now (space .entry)) b) i) ⌝ }
+// Word k of what line i is given.
+fn given_word(
+    space: &[u64],
+    defs: &[u16],
+    n: usize,
+    r: usize,
+    w: usize,
+    i: usize,
+    k: usize,
+) -> u64
+    requires { ⌜ Room n r w (now space) × (i < n) × (k < w) × Numbered n w (now defs) × Agree n r (now space) ⌝ }
+    ensures { λ x. ⌜ Word k x (λ b. given (preds-of n r (now (space .entry))) (now (defs .entry)) b (outs n r w (now (space .entry)) b) i) ⌝ }
 {
     let d = defs[i];
     if d == 0 {
-        coming_row(space, n, r, w, i);
-        return;
+        return coming_word(space, n, r, w, i, k);
     }
-    bit_row(space, n, r, w, wide(d));
+    bit_word(k, wide(d))
 }
 
-// Visits line i; answers whether its outgoing row changed.
+// Visits line i; answers whether its outgoing row changed. A word of a row depends only on that word of the others, so each is written as
+// soon as it is known.
 fn visit_line(space: &mut [u64], defs: &[u16], n: usize, r: usize, w: usize, i: usize) -> bool
     requires { ⌜ Room n r w (now space) × (i < n) × Numbered n w (now defs) × Agree n r (now space) ⌝ }
     ensures { λ z. ⌜ Visit n r w i (now (defs .entry)) (now (space .entry)) (now (space .exit)) z ⌝ }
 {
-    given_row(space, defs, n, r, w, i);
-    let base = n * r + n * r + r + r;
-    let u = bits::row(n, w, i);
-    bits::store_row(space, base + u, base + n * w, w)
+    let u = n * r + n * r + r + r + bits::row(n, w, i);
+    let mut changed = false;
+    let mut k = 0;
+    while k < w {
+        let x = given_word(space, defs, n, r, w, i, k);
+        let c = bits::put(space, u + k, x);
+        changed = bits::either(c, changed);
+        k += 1;
+    }
+    changed
 }
 
 // Puts the successors of line i on this sweep's list. Those at or below i are passed already.

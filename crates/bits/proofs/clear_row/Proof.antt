@@ -4,7 +4,7 @@ use mathlib.Core.Path.{_≡_}
 use mathlib.Core.Bool.{false}
 use lib.ListN.{length}
 use Rattle.bits.specs.Rows.{Filled, Zero}
-use Rattle.bits.proofs.RowLaws.{clear-one, zero-one, fill-zero, fill-none, fill-end, zero-none, zero-next, zero-end}
+use Rattle.bits.proofs.RowLaws.{fill-zero, fill-none, fill-end, zero-none, zero-next, zero-end}
 use borrow.Author.Needs.{needs}
 use Rattle.bits.proofs.clear_row.Statement.{statement}
 use Rattle.bits.proofs.clear_row.Tie as tie
@@ -15,29 +15,17 @@ Inv-loop s₀ w r i₀ s i = (i ≤ r) × (length s ≡ length s₀) × Filled s
 abbrev μ-loop : tie.MeasureT-loop
 μ-loop s₀ w r i₀ s i = r - i
 
-mul-s : tie.Need-mul-s Inv-loop μ-loop
-mul-s c = search needs
-
-slice-write-s : tie.Need-slice-write-s Inv-loop μ-loop
-slice-write-s c = search needs
-
-same-length : tie.Need-same-length Inv-loop μ-loop
-same-length c = search needs
-
-returns : tie.Need-returns Inv-loop μ-loop
-returns c = search (clear-one, zero-one, needs)
-
 loop-holds : tie.Need-loop-holds Inv-loop μ-loop
 loop-holds c = search (fill-none, zero-none, needs)
 
 add-s : tie.Need-add-s Inv-loop μ-loop
 add-s c = search needs
 
-mul-s-2 : tie.Need-mul-s-2 Inv-loop μ-loop
-mul-s-2 c = search needs
+mul-s : tie.Need-mul-s Inv-loop μ-loop
+mul-s c = search needs
 
-slice-write-s-2 : tie.Need-slice-write-s-2 Inv-loop μ-loop
-slice-write-s-2 c = search needs
+slice-write-s : tie.Need-slice-write-s Inv-loop μ-loop
+slice-write-s c = search needs
 
 add-i : tie.Need-add-i Inv-loop μ-loop
 add-i c = search needs
@@ -48,11 +36,11 @@ loop-less c = search needs
 loop-again : tie.Need-loop-again Inv-loop μ-loop
 loop-again c = search (fill-zero, zero-next, needs)
 
-same-length-2 : tie.Need-same-length-2 Inv-loop μ-loop
-same-length-2 c = search needs
+same-length : tie.Need-same-length Inv-loop μ-loop
+same-length c = search needs
 
-returns-2 : tie.Need-returns-2 Inv-loop μ-loop
-returns-2 c = search (fill-end, zero-end, needs)
+returns : tie.Need-returns Inv-loop μ-loop
+returns c = search (fill-end, zero-end, needs)
 
 pub clear-row-spec : {M : Type 1} → statement M
 clear-row-spec =
@@ -60,16 +48,12 @@ clear-row-spec =
     (tie.spec
     Inv-loop
     μ-loop
-    mul-s
-    slice-write-s
-    same-length
-    returns
     loop-holds
     add-s
-    mul-s-2
-    slice-write-s-2
+    mul-s
+    slice-write-s
     add-i
     loop-less
     loop-again
-    same-length-2
-    returns-2)
+    same-length
+    returns)

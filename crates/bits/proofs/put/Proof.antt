@@ -1,5 +1,5 @@
 -- `bits::put` meets its contract. Assumes nothing.
-use Rattle.bits.proofs.RowLaws.{put-no, put-yes, put-keep}
+use Rattle.bits.proofs.RowLaws.{put-same, put-new}
 use borrow.Author.Needs.{needs}
 use Rattle.bits.proofs.put.Statement.{statement}
 use Rattle.bits.proofs.put.Tie as tie
@@ -11,7 +11,7 @@ slice-read-if1 : tie.Need-slice-read-if1
 slice-read-if1 c = search needs
 
 returns : tie.Need-returns
-returns c = search (put-no, put-keep, needs)
+returns c = search (put-same, needs)
 
 mul-s : tie.Need-mul-s
 mul-s c = search needs
@@ -23,7 +23,7 @@ same-length : tie.Need-same-length
 same-length c = search needs
 
 returns-2 : tie.Need-returns-2
-returns-2 c = search (put-yes, needs)
+returns-2 c = search (put-new, needs)
 
 pub put-spec : {M : Type 1} → statement M
 put-spec =

@@ -16,8 +16,8 @@ add-todo c = search needs
 add-next : tie.Need-add-next
 add-next c = search needs
 
-store-row-requires : tie.Need-store-row-requires
-store-row-requires c κs = search needs
+copy-row-requires : tie.Need-copy-row-requires
+copy-row-requires c κs = search needs
 
 clear-row-requires : tie.Need-clear-row-requires
 clear-row-requires c κs = search needs
@@ -36,7 +36,7 @@ turn-spec =
     mul-todo-2
     add-todo
     add-next
-    store-row-requires
+    copy-row-requires
     clear-row-requires
     same-length
     returns)

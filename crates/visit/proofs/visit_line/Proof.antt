@@ -1,62 +1,89 @@
--- `visit::visit_line` meets its contract. Assumes nothing.
-use Rattle.visit.proofs.StepLaws.{visit-made}
+-- `visit::visit_line` meets its contract. The invariant: the first k words are visited. Assumes nothing.
+use Prim.Native.Nat.{_-_, _≤_}
+use mathlib.Core.Path.{_≡_, _∙_}
+use lib.ListN.{length}
+use Rattle.visit.proofs.StepLaws.{Visiting, visiting-start, visiting-ready, visiting-next, visit-made}
 use borrow.Author.Needs.{needs}
 use Rattle.visit.proofs.visit_line.Statement.{statement}
 use Rattle.visit.proofs.visit_line.Tie as tie
 
-given-row-requires : tie.Need-given-row-requires
-given-row-requires c κs = search needs
+abbrev Inv-loop : tie.InvT-loop
+Inv-loop space₀ defs n r w i u changed₀ k₀ space changed k = (k ≤ w) × (length space ≡ length space₀) × Visiting n r w i k defs space₀ space changed
 
-mul-base : tie.Need-mul-base
-mul-base c = search needs
+abbrev μ-loop : tie.MeasureT-loop
+μ-loop space₀ defs n r w i u changed₀ k₀ space changed k = w - k
 
-mul-base-2 : tie.Need-mul-base-2
-mul-base-2 c = search needs
+mul-u : tie.Need-mul-u Inv-loop μ-loop
+mul-u c = search needs
 
-add-base : tie.Need-add-base
-add-base c = search needs
+mul-u-2 : tie.Need-mul-u-2 Inv-loop μ-loop
+mul-u-2 c = search needs
 
-add-base-2 : tie.Need-add-base-2
-add-base-2 c = search needs
+add-u : tie.Need-add-u Inv-loop μ-loop
+add-u c = search needs
 
-add-base-3 : tie.Need-add-base-3
-add-base-3 c = search needs
+add-u-2 : tie.Need-add-u-2 Inv-loop μ-loop
+add-u-2 c = search needs
 
-row-requires : tie.Need-row-requires
+add-u-3 : tie.Need-add-u-3 Inv-loop μ-loop
+add-u-3 c = search needs
+
+row-requires : tie.Need-row-requires Inv-loop μ-loop
 row-requires c κs = search needs
 
-add-store-row : tie.Need-add-store-row
-add-store-row c = search needs
+add-u-4 : tie.Need-add-u-4 Inv-loop μ-loop
+add-u-4 c = search needs
 
-mul-store-row : tie.Need-mul-store-row
-mul-store-row c = search needs
+loop-holds : tie.Need-loop-holds Inv-loop μ-loop
+loop-holds c = search (visiting-start, needs)
 
-add-store-row-2 : tie.Need-add-store-row-2
-add-store-row-2 c = search needs
+given-word-requires : tie.Need-given-word-requires Inv-loop μ-loop
+given-word-requires c κs = visiting-ready _ _ _ _ _ _ _ _ _ (c .before .before .before .before .before .before .pre .0) (c .before .before .loop .inv .2) (c .before .before .before .before .before .before .pre .1) (c .before .before .loop .inv .1) (c .before .loop-test .taken) (c .before .before .before .before .before .before .pre .2) (c .before .before .before .before .before .before .pre .3)
 
-store-row-requires : tie.Need-store-row-requires
-store-row-requires c κs = search needs
+add-put : tie.Need-add-put Inv-loop μ-loop
+add-put c = search needs
 
-same-length : tie.Need-same-length
+put-requires : tie.Need-put-requires Inv-loop μ-loop
+put-requires c κs = search needs
+
+either-requires : tie.Need-either-requires Inv-loop μ-loop
+either-requires c κs = search needs
+
+add-k : tie.Need-add-k Inv-loop μ-loop
+add-k c = search needs
+
+loop-less : tie.Need-loop-less Inv-loop μ-loop
+loop-less c = search needs
+
+loop-again : tie.Need-loop-again Inv-loop μ-loop
+loop-again c = (search needs, c .before .before .before .put .kept .0 ∙ c .before .before .before .before .before .before .before .before .loop .inv .1, visiting-next _ _ _ _ _ _ _ _ _ (c .before .before .before .before .before .before .before .before .before .before .before .before .pre .0) (c .before .before .before .before .before .before .before .before .loop .inv .2) (c .before .before .before .before .before .before .before .before .before .before .before .before .pre .1) _ _ _ _ _ (c .before .before .before .before .before .before .before .before .loop .inv .1) (c .before .before .before .before .before .before .before .loop-test .taken) (c .before .before .before .before .before .before .before .before .before .row .ensures .0) (c .before .before .before .before .before .given-word .ensures) (c .before .before .before .put .ensures) (c .either .ensures))
+
+same-length : tie.Need-same-length Inv-loop μ-loop
 same-length c = search needs
 
-returns : tie.Need-returns
-returns c = visit-made _ _ _ _ _ _ _ _ _ _ (c .before .before .before .before .before .before .before .before .before .before .before .pre .1) (c .before .before .before .before .row .ensures .0) (c .before .before .before .before .before .before .before .given-row .ensures) (c .before .before .store-row .ensures .0) (c .before .before .store-row .ensures .1)
+returns : tie.Need-returns Inv-loop μ-loop
+returns c = search (visit-made, needs)
 
 pub visit-line-spec : {M : Type 1} → statement M
 visit-line-spec =
     tie.close
     (tie.spec
-    given-row-requires
-    mul-base
-    mul-base-2
-    add-base
-    add-base-2
-    add-base-3
+    Inv-loop
+    μ-loop
+    mul-u
+    mul-u-2
+    add-u
+    add-u-2
+    add-u-3
     row-requires
-    add-store-row
-    mul-store-row
-    add-store-row-2
-    store-row-requires
+    add-u-4
+    loop-holds
+    given-word-requires
+    add-put
+    put-requires
+    either-requires
+    add-k
+    loop-less
+    loop-again
     same-length
     returns)
