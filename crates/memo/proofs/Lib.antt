@@ -1,2 +1,3 @@
+pub mod Packs
 pub mod Memos
 pub mod PlaceRules

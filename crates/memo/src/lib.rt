@@ -1,4 +1,4 @@
-// The family of a register, looked up: a register of at most 4 bytes that was looked up before is found by its bytes as one number, in one of
+// The family of a register, looked up: a register of at most 7 bytes that was looked up before is found by its bytes as one number, in one of
 // 64 slots of `memo`; any other through the table of the families.
 //
 // `memo` is one lent slice: words [0, 64) have the number of the text in each slot, 0 for none, and words [64, 128) what was found of it.
@@ -56,26 +56,28 @@ fn register_place(
     search_place(lines, tokens, text, table, count, s, family::family(s))
 }
 
-// A text of at most 4 bytes as one number.
+// A text of at most 7 bytes as one number.
 fn pack(s: &[u8]) -> usize
-    requires { ⌜ length (now s) ≤ 4 ⌝ }
-    ensures { λ p. ⌜ (p ≡ pack (now (s .entry))) × (p < 25769803776) ⌝ }
+    requires { ⌜ length (now s) ≤ 7 ⌝ }
+    ensures { λ p. ⌜ p ≡ pack (now (s .entry)) ⌝ }
 {
-    let a = (s.len() + 1) * 256 + byte(s, 3);
-    let b = a * 256 + byte(s, 2);
-    let c = b * 256 + byte(s, 1);
-    c * 256 + byte(s, 0)
+    let mut p = 1;
+    let mut k = 0;
+    while k < s.len() {
+        p = p * 256 + byte(s, k);
+        k += 1;
+    }
+    p
 }
 
-// Its slot.
+// The slot of the text whose number is p, by its last bytes: there names differ.
 fn slot(p: usize) -> usize
-    requires { ⌜ p < 25769803776 ⌝ }
     ensures { λ h. ⌜ h < 64 ⌝ }
 {
-    (p + p / 256 + p / 65536 * 5) % 64
+    p % 16777216 * 11617 / 8192 % 64
 }
 
-// The same as `register_place` of a text of at most 4 bytes, whose number is p.
+// The same as `register_place` of a text whose number is p.
 fn short_place(
     lines: &[u32],
     tokens: &[u32],
@@ -87,7 +89,7 @@ fn short_place(
     p: usize,
 ) -> usize
     requires { ⌜ Finds (listing (now lines) (now tokens) (now text)) count (now table) ⌝ }
-    requires { ⌜ Memo (defined-families (listing (now lines) (now tokens) (now text))) (now memo) × (128 ≤ length (now memo)) × (length (now s) ≤ 4) × (p ≡ pack (now s)) × (p < 25769803776) ⌝ }
+    requires { ⌜ Memo (defined-families (listing (now lines) (now tokens) (now text))) (now memo) × (128 ≤ length (now memo)) × (p ≡ pack (now s)) ⌝ }
     ensures { λ c. ⌜ c ≡ found (defined-families (listing (now (lines .entry)) (now (tokens .entry)) (now (text .entry)))) (family (now (s .entry))) ⌝ }
     ensures { λ _. ⌜ Memo (defined-families (listing (now (lines .entry)) (now (tokens .entry)) (now (text .entry)))) (now (memo .exit)) ⌝ }
 {
@@ -116,7 +118,7 @@ fn text_place(
     ensures { λ c. ⌜ c ≡ found (defined-families (listing (now (lines .entry)) (now (tokens .entry)) (now (text .entry)))) (family (now (s .entry))) ⌝ }
     ensures { λ _. ⌜ Memo (defined-families (listing (now (lines .entry)) (now (tokens .entry)) (now (text .entry)))) (now (memo .exit)) ⌝ }
 {
-    if s.len() <= 4 {
+    if s.len() <= 7 {
         let p = pack(s);
         return short_place(lines, tokens, text, table, count, memo, s, p);
     }
@@ -159,7 +161,7 @@ fn known_text(lines: &[u32], tokens: &[u32], text: &[u8], memo: &[usize], s: &[u
     requires { ⌜ Memo (defined-families (listing (now lines) (now tokens) (now text))) (now memo) × (128 ≤ length (now memo)) ⌝ }
     ensures { λ r. ⌜ ((r ≡ 65535 → ⊥) → r ≡ found (defined-families (listing (now (lines .entry)) (now (tokens .entry)) (now (text .entry)))) (family (now (s .entry)))) ⌝ }
 {
-    if s.len() <= 4 {
+    if s.len() <= 7 {
         let p = pack(s);
         let h = slot(p);
         if memo[h] == p {

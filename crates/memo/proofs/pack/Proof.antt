@@ -1,67 +1,56 @@
--- `memo::pack` meets its contract. Assumes nothing.
+-- `memo::pack` meets its contract. The number is what the bytes from k on make of the one so far. Assumes nothing.
+use Prim.Native.Nat.{_≤_, _-_}
+use mathlib.Core.Path.{_≡_}
 use borrow.Author.Needs.{needs}
-use Rattle.memo.specs.Memo.{pack}
+use lib.ListN.{length, drop}
+use Rattle.definitions.specs.Lists.{fold}
+use Rattle.memo.specs.Memo.{digit, pack}
+use Rattle.memo.proofs.Packs.{packs}
 use Rattle.memo.proofs.pack.Statement.{statement}
 use Rattle.memo.proofs.pack.Tie as tie
 
-add-a : tie.Need-add-a
-add-a c = search needs
+abbrev Inv-loop : tie.InvT-loop
+Inv-loop s p₀ k₀ p k = (k ≤ length s) × (pack s ≡ fold digit p (drop k s))
 
-mul-a : tie.Need-mul-a
-mul-a c = search needs
+abbrev μ-loop : tie.MeasureT-loop
+μ-loop s p₀ k₀ p k = length s - k
 
-byte-requires : tie.Need-byte-requires
+loop-holds : tie.Need-loop-holds Inv-loop μ-loop
+unfolding pack
+loop-holds c = search needs
+
+mul-p : tie.Need-mul-p Inv-loop μ-loop
+mul-p c = search (packs, needs)
+
+byte-requires : tie.Need-byte-requires Inv-loop μ-loop
 byte-requires c κs = search needs
 
-add-a-2 : tie.Need-add-a-2
-add-a-2 c = search needs
+add-p : tie.Need-add-p Inv-loop μ-loop
+add-p c = search (packs, needs)
 
-mul-b : tie.Need-mul-b
-mul-b c = search needs
+add-k : tie.Need-add-k Inv-loop μ-loop
+add-k c = search needs
 
-byte-requires-2 : tie.Need-byte-requires-2
-byte-requires-2 c κs = search needs
+loop-less : tie.Need-loop-less Inv-loop μ-loop
+loop-less c = search needs
 
-add-b : tie.Need-add-b
-add-b c = search needs
+loop-again : tie.Need-loop-again Inv-loop μ-loop
+loop-again c = search (packs, needs)
 
-mul-c : tie.Need-mul-c
-mul-c c = search needs
-
-byte-requires-3 : tie.Need-byte-requires-3
-byte-requires-3 c κs = search needs
-
-add-c : tie.Need-add-c
-add-c c = search needs
-
-mul-result : tie.Need-mul-result
-mul-result c = search needs
-
-byte-requires-4 : tie.Need-byte-requires-4
-byte-requires-4 c κs = search needs
-
-add-result : tie.Need-add-result
-add-result c = search needs
-
-returns : tie.Need-returns
-unfolding pack
-returns c = search needs
+returns : tie.Need-returns Inv-loop μ-loop
+returns c = search (packs, needs)
 
 pub pack-spec : {M : Type 1} → statement M
 pack-spec =
     tie.close
     (tie.spec
-    add-a
-    mul-a
+    Inv-loop
+    μ-loop
+    loop-holds
+    mul-p
     byte-requires
-    add-a-2
-    mul-b
-    byte-requires-2
-    add-b
-    mul-c
-    byte-requires-3
-    add-c
-    mul-result
-    byte-requires-4
-    add-result
+    add-p
+    add-k
+    loop-less
+    loop-again
     returns)
