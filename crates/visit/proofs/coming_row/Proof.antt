@@ -61,7 +61,7 @@ loop-less : tie.Need-loop-less Inv-loop μ-loop
 loop-less c = search needs
 
 loop-again : tie.Need-loop-again Inv-loop μ-loop
-loop-again c = (search needs, simp length-set (c .before .before .before .loop .inv .1), row-next _ _ _ _ _ _ _ (c .before .before .before .before .before .pre .0) (c .before .before .before .loop .inv .2) (c .before .before .loop-test .taken) _ (c .before .before .before .loop .inv .1) (c .coming-word .ensures))
+loop-again c = (search needs, simp length-set (c .before .before .before .loop .inv .1), row-next _ _ _ (c .before .before .before .before .before .args .i) _ _ _ (c .before .before .before .before .before .pre .0) (c .before .before .before .loop .inv .2) (c .before .before .loop-test .taken) _ (c .before .before .before .loop .inv .1) (c .coming-word .ensures))
 
 same-length : tie.Need-same-length Inv-loop μ-loop
 same-length c = search needs
