@@ -1,10 +1,11 @@
 -- Finding a family by its hash.
 --   unique-families                no family is numbered twice
 --   latest-le, latest-hash, latest-above    the chain of one hash: it falls, has that hash, and leaves out no family of that hash
---   Searching fs count o c         the family o is at no place from c on, and the family at place c - 1 has its hash
+--   Searching m fs count o c       the family o is at no place from c on, and the family at place c - 1 has its hash
 --   searching-start, searching-next, searching-found, searching-end       rules for the loop of `search_chain`
 --   row-of, row-behind, row-numbered, row-var, row-nothing                rules for `row_word`
 --   found-row                                                             what stands for a row of the legacy names is its family's place
+--   family-at                                                             the hash of a family by its first definition
 --   last-inside, found-text                                               a register written as the first definition of the last family of its hash
 -- Assumes nothing.
 use Prim.Native.Nat.{ℕ, zero, suc, _+_, _-_, _<_, _≤_}
@@ -30,7 +31,7 @@ use Rattle.family.specs.declared.Register.{Register}
 use Rattle.family.specs.declared.Register.the-variants.{Legacy, Numbered, Var, Nothing}
 use Rattle.legacy.specs.Table.{row-name}
 use Rattle.family.specs.Register.{family-of, names-family}
-use Rattle.families.specs.Families.{hash, hash-of, latest, place, place-of, row-word, Table}
+use Rattle.families.specs.Families.{hash, hash-of, latest, place, place-of, row-word, Linked, Table}
 
 -- Each family once
 
@@ -123,34 +124,34 @@ place-none fs f n = ap place-at (position-none fs f n)
 
 -- The chain of one hash
 
-pub latest-le : (fs : List (List ℕ)) (h m : ℕ) → latest fs h m ≤ m
+pub latest-le : (m : ℕ) (fs : List (List ℕ)) (h n : ℕ) → latest m fs h n ≤ n
 unfolding latest
-latest-le fs h zero = omega arith
-latest-le fs h (suc m) = go (eqb (hash (getD fs m [])) h) (latest-le fs h m)
+latest-le m fs h zero = omega arith
+latest-le m fs h (suc n) = go (eqb (hash m (getD fs n [])) h) (latest-le m fs h n)
   where
-    go : (b : Bool) → latest fs h m ≤ m → cond b (suc m) (latest fs h m) ≤ suc m
+    go : (b : Bool) → latest m fs h n ≤ n → cond b (suc n) (latest m fs h n) ≤ suc n
     go true q = omega arith
     go false q = omega arith
 
-latest-hash : (fs : List (List ℕ)) (h m k : ℕ) → latest fs h m ≡ suc k → hash (getD fs k []) ≡ h
+latest-hash : (m : ℕ) (fs : List (List ℕ)) (h n k : ℕ) → latest m fs h n ≡ suc k → hash m (getD fs k []) ≡ h
 unfolding latest
-latest-hash fs h zero k e = absurd (omega arith)
-latest-hash fs h (suc m) k e = go (eqb (hash (getD fs m [])) h) refl (latest-hash fs h m k) e
+latest-hash m fs h zero k e = absurd (omega arith)
+latest-hash m fs h (suc n) k e = go (eqb (hash m (getD fs n [])) h) refl (latest-hash m fs h n k) e
   where
-    go : (b : Bool) → eqb (hash (getD fs m [])) h ≡ b → (latest fs h m ≡ suc k → hash (getD fs k []) ≡ h) → cond b (suc m) (latest fs h m) ≡ suc k → hash (getD fs k []) ≡ h
-    go true q rest e = let z : m ≡ k = omega arith in rw z at (eqb-true (hash (getD fs m [])) h q)
+    go : (b : Bool) → eqb (hash m (getD fs n [])) h ≡ b → (latest m fs h n ≡ suc k → hash m (getD fs k []) ≡ h) → cond b (suc n) (latest m fs h n) ≡ suc k → hash m (getD fs k []) ≡ h
+    go true q rest e = let z : n ≡ k = omega arith in rw z at (eqb-true (hash m (getD fs n [])) h q)
     go false q rest e = rest e
 
-latest-above : (fs : List (List ℕ)) (h m k : ℕ) → latest fs h m ≤ k → k < m → hash (getD fs k []) ≡ h → ⊥
+latest-above : (m : ℕ) (fs : List (List ℕ)) (h n k : ℕ) → latest m fs h n ≤ k → k < n → hash m (getD fs k []) ≡ h → ⊥
 unfolding latest
-latest-above fs h zero k l g e = omega arith
-latest-above fs h (suc m) k l g e = go (eqb (hash (getD fs m [])) h) refl (λ l s. latest-above fs h m k l s e) l
+latest-above m fs h zero k l g e = omega arith
+latest-above m fs h (suc n) k l g e = go (eqb (hash m (getD fs n [])) h) refl (λ l s. latest-above m fs h n k l s e) l
   where
-    go : (b : Bool) → eqb (hash (getD fs m [])) h ≡ b → (latest fs h m ≤ k → k < m → ⊥) → cond b (suc m) (latest fs h m) ≤ k → ⊥
+    go : (b : Bool) → eqb (hash m (getD fs n [])) h ≡ b → (latest m fs h n ≤ k → k < n → ⊥) → cond b (suc n) (latest m fs h n) ≤ k → ⊥
     go true q rest l = omega arith
-    go false q rest l = elim (lt-or-ge k m) [
+    go false q rest l = elim (lt-or-ge k n) [
       | inl s ↦ rest l s
-      | inr s ↦ eqb-false (hash (getD fs m [])) h q (let z : m ≡ k = omega arith in rw z e)
+      | inr s ↦ eqb-false (hash m (getD fs n [])) h q (let z : n ≡ k = omega arith in rw z e)
     ]
 
 -- The search
@@ -159,29 +160,29 @@ abbrev matches : Option Family → List ℕ → Bool
 matches none g = false
 matches (some f) g = g == f .name
 
-matches-hash : (o : Option Family) (g : List ℕ) → matches o g ≡ true → hash g ≡ hash-of o
-matches-hash none g e = absurd (false≢true e)
-matches-hash (some f) g e = ap hash (==-true g (f .name) e)
+matches-hash : (m : ℕ) (o : Option Family) (g : List ℕ) → matches o g ≡ true → hash m g ≡ hash-of m o
+matches-hash m none g e = absurd (false≢true e)
+matches-hash m (some f) g e = ap (hash m) (==-true g (f .name) e)
 
 names-matches : (o : Option Family) (l : Line) (g : List ℕ) → defines l ≡ some g → names-family o (token l 0) ≡ matches o g
 unfolding names
 names-matches none l g e = refl
 names-matches (some f) l g e = let w = defines-first l g e in rw (w .1, names, w .2)
 
-pub record Searching (fs : List (List ℕ)) (count : ℕ) (o : Option Family) (c : ℕ) : Type 0 where
+pub record Searching (m : ℕ) (fs : List (List ℕ)) (count : ℕ) (o : Option Family) (c : ℕ) : Type 0 where
   pub bound : c ≤ count
   pub above : (k : ℕ) → c ≤ k → k < count → matches o (getD fs k []) ≡ false
-  pub chain : (k : ℕ) → c ≡ suc k → hash (getD fs k []) ≡ hash-of o
+  pub chain : (k : ℕ) → c ≡ suc k → hash m (getD fs k []) ≡ hash-of m o
 
-from-latest : (fs : List (List ℕ)) (count m : ℕ) (o : Option Family) → m ≤ count
-    → ((k : ℕ) → m ≤ k → k < count → matches o (getD fs k []) ≡ false) → Searching fs count o (latest fs (hash-of o) m)
-from-latest fs count m o b a = record {
-  bound = omega (arith, latest-le fs (hash-of o) m);
-  above = λ k l h. elim (lt-or-ge k m) [
-    | inl g ↦ not-so _ (λ e. latest-above fs (hash-of o) m k l g (matches-hash o (getD fs k []) e))
+from-latest : (m : ℕ) (fs : List (List ℕ)) (count n : ℕ) (o : Option Family) → n ≤ count
+    → ((k : ℕ) → n ≤ k → k < count → matches o (getD fs k []) ≡ false) → Searching m fs count o (latest m fs (hash-of m o) n)
+from-latest m fs count n o b a = record {
+  bound = omega (arith, latest-le m fs (hash-of m o) n);
+  above = λ k l h. elim (lt-or-ge k n) [
+    | inl g ↦ not-so _ (λ e. latest-above m fs (hash-of m o) n k l g (matches-hash m o (getD fs k []) e))
     | inr g ↦ a k g h
   ];
-  chain = λ k e. latest-hash fs (hash-of o) m k e;
+  chain = λ k e. latest-hash m fs (hash-of m o) n k e;
 }
 
 -- the place of a family among the first
@@ -202,11 +203,11 @@ module _ (L : List Line) (count : ℕ) (t : List ℕ) (T : Table L count t) wher
           unique-families L j k (omega (arith, T .size)) (omega (arith, T .size)) (sym (here j a) ∙ e ∙ here k b)
 
 module _ (L : List Line) (count : ℕ) (t : List ℕ) (T : Table L count t) (o : Option Family) where
-  pub searching-start : (c h : ℕ) → h ≡ hash-of o → h < 248 → c ≡ getD t h 0 → Searching (defined-families L) count o c
+  pub searching-start : (c h : ℕ) → h ≡ hash-of (getD t 247 0) o → h < 247 → c ≡ getD t h 0 → Searching (getD t 247 0) (defined-families L) count o c
   searching-start c h e l q =
-      rw (q, T .heads h l, e) (from-latest (defined-families L) count count o (omega arith) (λ k g s. absurd (omega arith)))
+      rw (q, T .heads h l, e) (from-latest (getD t 247 0) (defined-families L) count count o (omega arith) (λ k g s. absurd (omega arith)))
 
-  module _ (c : ℕ) (s : Searching (defined-families L) count o c) (p : 0 < c) where
+  module _ (c : ℕ) (s : Searching (getD t 247 0) (defined-families L) count o c) (p : 0 < c) where
     at : (y : Bool) → y ≡ names-family o (token (line L (getD t (1280 + (c - 1)) 0)) 0) → y ≡ matches o (getD (defined-families L) (c - 1) [])
     at y q = q ∙ names-matches o _ _ (T .first (c - 1) (omega (arith, s .bound)))
 
@@ -219,21 +220,21 @@ module _ (L : List Line) (count : ℕ) (t : List ℕ) (T : Table L count t) (o :
         go (some x) m = omega (arith, place-taken L count t T (x .name) (c - 1) (omega (arith, s .bound)) (==-true _ (x .name) m))
 
     pub searching-next : (y : Bool) (next : ℕ) → y ≡ names-family o (token (line L (getD t (1280 + (c - 1)) 0)) 0) → y ≡ false
-        → next ≡ getD t (256 + (c - 1)) 0 → Searching (defined-families L) count o next
+        → next ≡ getD t (256 + (c - 1)) 0 → Searching (getD t 247 0) (defined-families L) count o next
     searching-next y next q f r =
         rw (r, T .next (c - 1) (omega (arith, s .bound)), s .chain (c - 1) (omega arith))
-        (from-latest (defined-families L) count (c - 1) o (omega (arith, s .bound)) (λ k l h. elim (lt-or-ge k c) [
+        (from-latest (getD t 247 0) (defined-families L) count (c - 1) o (omega (arith, s .bound)) (λ k l h. elim (lt-or-ge k c) [
           | inl g ↦ (let z : c - 1 ≡ k = omega arith in rw z at (sym (at y q) ∙ f))
           | inr g ↦ s .above k g h
         ]))
 
     pub searching-less : (next : ℕ) → next ≡ getD t (256 + (c - 1)) 0 → next < c
-    searching-less next r = omega (arith, r, T .next (c - 1) (omega (arith, s .bound)), latest-le (defined-families L) (hash (getD (defined-families L) (c - 1) [])) (c - 1))
+    searching-less next r = omega (arith, r, T .next (c - 1) (omega (arith, s .bound)), latest-le (getD t 247 0) (defined-families L) (hash (getD t 247 0) (getD (defined-families L) (c - 1) [])) (c - 1))
 
-  pub searching-end : (c : ℕ) → Searching (defined-families L) count o c → c ≤ 0 → 0 ≡ place-of (take count (defined-families L)) o
+  pub searching-end : (c : ℕ) → Searching (getD t 247 0) (defined-families L) count o c → c ≤ 0 → 0 ≡ place-of (take count (defined-families L)) o
   searching-end c s h = go o s
     where
-      go : (o : Option Family) → Searching (defined-families L) count o c → 0 ≡ place-of (take count (defined-families L)) o
+      go : (o : Option Family) → Searching (getD t 247 0) (defined-families L) count o c → 0 ≡ place-of (take count (defined-families L)) o
       go none s = refl
       go (some x) s = sym (place-none (take count (defined-families L)) (x .name) (λ j l.
           let b : j < count = omega (arith, length-take count (defined-families L)) in
@@ -290,10 +291,17 @@ family-some u x e = go (eqb (u .kind) 1) e
     go true q = q
     go false q = cc
 
+pub family-at : (L : List Line) (count n : ℕ) (t : List ℕ) → Linked L count n t → (k m h : ℕ) → k < count
+    → h ≡ hash-of m (family (token (line L (getD t (1280 + k) 0)) 0 .text)) → h ≡ hash m (getD (defined-families L) k [])
+family-at L count n t T k m h b e =
+    let l = line L (getD t (1280 + k) 0) in
+    let w = defines-first l (getD (defined-families L) k []) (T .first k b) in
+    e ∙ ap (hash-of m) (family-some (token l 0) (w .0) (w .1)) ∙ ap (hash m) (w .2)
+
 module _ (L : List Line) (count : ℕ) (t s : List ℕ) (r : Register) (T : Table L count t) (answer : family-of s r ≡ family s)
-    (c h : ℕ) (is-hash : h ≡ hash-of (family-of s r)) (low : h < 248) (is-last : c ≡ getD t h 0) where
+    (c h : ℕ) (is-hash : h ≡ hash-of (getD t 247 0) (family-of s r)) (low : h < 247) (is-last : c ≡ getD t h 0) where
   last-few : c ≤ count
-  last-few = omega (arith, is-last, T .heads h low, latest-le (defined-families L) h count)
+  last-few = omega (arith, is-last, T .heads h low, latest-le (getD t 247 0) (defined-families L) h count)
 
   pub last-inside : 0 < c → count ≤ 1024 → c - 1 < 1024
   last-inside p few = omega (arith, last-few)

@@ -3,11 +3,14 @@
 --   families-front      the families of the lines before line i are the first of all
 --   families-few        they are at most as many as the lines before
 --   defined-known       the family that a line defines is among all
+--   linked-more         one family more in its chain
 --   table-added         one family more in the table
+--   linked-none         no family in a chain
 --   table-kept          and its place at the row of a legacy name
 --   kept-row, kept-behind, kept-numbered, kept-var, kept-neither    rules for `keep_row`
---   added-by, added-line, search-by    rules for `add`, `add_line` and `search_line`
---   placed-none, placed-by, placed-other, placed-known, placed-new    rules for `place_register` and `place_line`
+--   emptied-by, linked-by, added-by, added-line, search-by    rules for `empty`, `link`, `add`, `add_line` and `search_line`
+--   rehash-start, rehash-next, rehash-end    rules for `rehash`
+--   placed-none, placed-by, placed-other, placed-known, placed-new, placed-table, placed-again    rules for `place_register` and `place_line`
 --   ready, defs-inside, place-fits, numbered-next, numbered-start, numbered-end     rules for `number_line` and `families`
 -- Assumes nothing.
 use Prim.Native.Nat.{ℕ, zero, suc, _+_, _-_, _<_, _≤_, max}
@@ -21,11 +24,11 @@ use native.Mathlib.Nat.{add-zero}
 use native.Mathlib.Numerals.{add-one}
 use lib.Dec.{eqb, ltb}
 use borrow.Author.Tests.{eqb-true, eq-eqb, lt-ltb, le-ltb, ltb-true}
-use lib.ListN.{length, getD, set, take, length-append, length-set, length-replicate, List·getD-append}
-use lib.Seq.{take-append-seam, getD-append-seam, getD-set-same, getD-set-other}
+use lib.ListN.{length, getD, set, take, drop, replicate, length-append, length-set, length-replicate, List·getD-append}
+use lib.Seq.{take-append-seam, getD-append-seam, getD-append-add, getD-drop, length-take-le, getD-set-same, getD-set-other}
 use Rattle.definitions.specs.Lists.{any, filter, concat, range, position, to-list, is-some, _==_}
 use Rattle.definitions.specs.Model.{Line, token, line}
-use Rattle.definitions.specs.Family.{Family}
+use Rattle.definitions.specs.Family.{Family, family}
 use Rattle.definitions.specs.Statements.{defines}
 use Rattle.definitions.specs.Recover.{distinct, defined-families}
 use Rattle.theory.proofs.Bools.{clash, same-test, eq-or-lt}
@@ -40,9 +43,9 @@ use Rattle.family.specs.Register.{family-of, row}
 use Rattle.assignment.specs.declared.definition.Defined.{Defined}
 use Rattle.assignment.specs.declared.definition.Defined.the-variants.{Family as Of, Nothing}
 use Rattle.assignment.specs.Definitions.{defined}
-use Rattle.families.specs.Families.{hash, hash-of, latest, place, place-of, Table, families-before, kept, added, of-register, Ready, Added, Placed, place-defined, defined-at, Numbered}
+use Rattle.families.specs.Families.{hash, hash-of, latest, place, place-of, Linked, Table, families-before, kept, linked, added, emptied, of-register, Ready, Added, Placed, place-defined, defined-at, Numbered}
 use Rattle.families.proofs.Lists.{any-snoc, range-snoc}
-use Rattle.families.proofs.Finding.{unique-families, place-here}
+use Rattle.families.proofs.Finding.{unique-families, place-here, family-at}
 
 -- Each once, with one more at the end
 
@@ -216,71 +219,115 @@ defined-known L i p h f e z =
 
 -- One family more
 
+-- one family more in its chain
+module _ (L : List Line) (count k : ℕ) (t : List ℕ) (T : Linked L count k t) (h : ℕ) (room : 2304 ≤ length t) (few : count ≤ 1024) (inside : k < count)
+    (low : h < 247) (is-hash : h ≡ hash (getD t 247 0) (getD (defined-families L) k [])) where
+  abbrev one : List ℕ
+  one = set t (256 + k) (getD t h 0)
+
+  other : (j : ℕ) → (j ≡ 256 + k → ⊥) → (j ≡ h → ⊥) → getD (linked t k h) j 0 ≡ getD t j 0
+  unfolding linked
+  other j a b = getD-set-other one h j (k + 1) 0 b ∙ getD-set-other t (256 + k) j (getD t h 0) 0 a
+
+  multiplier : getD (linked t k h) 247 0 ≡ getD t 247 0
+  multiplier = other 247 (λ q. omega arith) (λ q. omega arith)
+
+  head-at : getD (linked t k h) h 0 ≡ suc k
+  unfolding linked
+  head-at = getD-set-same one h (k + 1) 0 (rw length-set (omega arith)) ∙ add-one k
+
+  next-at : getD (linked t k h) (256 + k) 0 ≡ getD t h 0
+  unfolding linked
+  next-at = getD-set-other one h (256 + k) (k + 1) 0 (λ q. omega arith) ∙ getD-set-same t (256 + k) (getD t h 0) 0 (omega arith)
+
+  latest-new : (g : ℕ) (b : Bool) → eqb h g ≡ b
+      → latest (getD t 247 0) (defined-families L) g (suc k) ≡ cond b (suc k) (latest (getD t 247 0) (defined-families L) g k)
+  unfolding latest
+  latest-new g b e = ap (λ (c : Bool). cond c (suc k) (latest (getD t 247 0) (defined-families L) g k)) (ap (λ (v : ℕ). eqb v g) (sym is-hash) ∙ e)
+
+  head : (g : ℕ) → g < 247 → (b : Bool) → eqb h g ≡ b → getD (linked t k h) g 0 ≡ latest (getD t 247 0) (defined-families L) g (suc k)
+  head g l true e = ap (λ (j : ℕ). getD (linked t k h) j 0) (sym (eqb-true h g e)) ∙ head-at ∙ sym (latest-new g true e)
+  head g l false e = other g (λ q. omega arith) (λ q. clash (eq-eqb h g (sym q)) e) ∙ T .heads g l ∙ sym (latest-new g false e)
+
+  own : (j : ℕ) → j ≡ k → getD (linked t k h) (256 + j) 0 ≡ latest (getD t 247 0) (defined-families L) (hash (getD t 247 0) (getD (defined-families L) j [])) j
+  own j e = rw e (next-at ∙ T .heads h low ∙ ap (λ (g : ℕ). latest (getD t 247 0) (defined-families L) g k) is-hash)
+
+  pub linked-more : Linked L count (suc k) (linked t k h)
+  linked-more = record {
+    size = T .size;
+    heads = λ g l. rw multiplier (head g l (eqb h g) refl);
+    rows = λ i j l e. T .rows i j l (sym (other (248 + i) (λ q. omega arith) (λ q. omega arith)) ∙ e);
+    next = λ j l. rw multiplier (elim (eq-or-lt l) [ inl e ↦ own j e | inr m ↦ other (256 + j) (λ e. omega arith) (λ e. omega arith) ∙ T .next j m ]);
+    first = λ j l. rw (other (1280 + j) (λ e. omega arith) (λ e. omega arith)) (T .first j l);
+  }
+
+-- the line of one family more is written
+module _ (L : List Line) (count : ℕ) (t : List ℕ) (T : Table L count t) (f : List ℕ) (i : ℕ) (room : 2304 ≤ length t) (small : count < 1024)
+    (at-count : getD (defined-families L) count [] ≡ f) (inside : count < length (defined-families L)) (defines-f : defines (line L i) ≡ some f) where
+  beside : (j : ℕ) → (j ≡ 1280 + count → ⊥) → getD (set t (1280 + count) i) j 0 ≡ getD t j 0
+  beside j n = getD-set-other t (1280 + count) j i 0 n
+
+  first-at : (j : ℕ) → j ≡ count → defines (line L (getD (set t (1280 + count) i) (1280 + j) 0)) ≡ some (getD (defined-families L) j [])
+  first-at j e = rw (e, getD-set-same t (1280 + count) i 0 (omega arith)) (defines-f ∙ ap some (sym at-count))
+
+  line-set : Linked L (suc count) count (set t (1280 + count) i)
+  line-set = record {
+    size = inside;
+    heads = λ g l. rw (beside 247 (λ q. omega arith), beside g (λ q. omega arith)) (T .heads g l);
+    rows = λ j k l e. let u = T .rows j k l (sym (beside (248 + j) (λ q. omega arith)) ∙ e) in (omega (arith, u .0), u .1);
+    next = λ k l. rw (beside 247 (λ q. omega arith), beside (256 + k) (λ q. omega arith)) (T .next k l);
+    first = λ k l. elim (eq-or-lt l) [ inl e ↦ first-at k e | inr m ↦ rw (beside (1280 + k) (λ e. omega arith)) (T .first k m) ];
+  }
+
+  pub table-added : (h : ℕ) → h < 247 → h ≡ hash (getD t 247 0) f → Table L (suc count) (added t count i h)
+  unfolding added
+  table-added h low is-hash = linked-more L (suc count) count (set t (1280 + count) i) line-set h (rw length-set room) (omega arith) (omega arith) low
+      (rw (beside 247 (λ q. omega arith), at-count) is-hash)
+
 length-added : (t : List ℕ) (count i h : ℕ) → length (added t count i h) ≡ length t
-unfolding added
+unfolding added linked
 length-added t count i h = simp length-set
 
-module _ (L : List Line) (count : ℕ) (t : List ℕ) (T : Table L count t) (f : List ℕ) (i h : ℕ)
-    (room : 2304 ≤ length t) (small : count < 1024) (low : h < 248)
-    (at-count : getD (defined-families L) count [] ≡ f) (inside : count < length (defined-families L))
-    (is-hash : h ≡ hash f) (defines-f : defines (line L i) ≡ some f) where
-  abbrev one : List ℕ
-  one = set t (256 + count) (getD t h 0)
+-- The chains emptied
 
-  abbrev two : List ℕ
-  two = set one (1280 + count) i
+module _ (L : List Line) (count k m : ℕ) (t : List ℕ) (T : Linked L count k t) (room : 2304 ≤ length t) where
+  behind : (j : ℕ) → 248 ≤ j → getD (emptied t m) j 0 ≡ getD t j 0
+  unfolding emptied
+  behind j b =
+      let at : j ≡ length (replicate {A = ℕ} 247 0) + (j - 247) = omega (arith, length-replicate {A = ℕ} 247 0) in
+      let back : 247 + (j - 247) ≡ j = omega arith in
+      getD-set-other (replicate 247 0 ++ drop 247 t) 247 j m 0 (λ q. omega arith)
+      ∙ ap (λ (i : ℕ). getD (replicate 247 0 ++ drop 247 t) i 0) at ∙ getD-append-add (replicate 247 0) (drop 247 t) (j - 247) 0 ∙ getD-drop 247 t (j - 247) 0 ∙ ap (λ (i : ℕ). getD t i 0) back
 
-  other : (k : ℕ) → (k ≡ 256 + count → ⊥) → (k ≡ 1280 + count → ⊥) → (k ≡ h → ⊥) → getD (added t count i h) k 0 ≡ getD t k 0
-  unfolding added
-  other k a b c = getD-set-other two h k (count + 1) 0 c ∙ getD-set-other one (1280 + count) k i 0 b ∙ getD-set-other t (256 + count) k (getD t h 0) 0 a
+  front-empty : (g : ℕ) → g < 247 → getD (emptied t m) g 0 ≡ 0
+  unfolding emptied
+  front-empty g b = getD-set-other (replicate 247 0 ++ drop 247 t) 247 g m 0 (λ q. omega arith)
+      ∙ List·getD-append (replicate 247 0) (drop 247 t) 0 g (omega (arith, length-replicate {A = ℕ} 247 0)) ∙ replicate-default 247 g 0
 
-  latest-new : (g : ℕ) (b : Bool) → eqb (hash (getD (defined-families L) count [])) g ≡ b
-      → latest (defined-families L) g (suc count) ≡ cond b (suc count) (latest (defined-families L) g count)
+  pub linked-none : Linked L count 0 (emptied t m)
   unfolding latest
-  latest-new g b e = ap (λ (c : Bool). cond c (suc count) (latest (defined-families L) g count)) e
-
-  hash-count : hash (getD (defined-families L) count []) ≡ h
-  hash-count = ap hash at-count ∙ sym is-hash
-
-  head-at : getD (added t count i h) h 0 ≡ suc count
-  unfolding added
-  head-at = getD-set-same two h (count + 1) 0 (rw (length-set, length-set) (omega arith)) ∙ add-one count
-
-  next-at : getD (added t count i h) (256 + count) 0 ≡ getD t h 0
-  unfolding added
-  next-at =
-      getD-set-other two h (256 + count) (count + 1) 0 (λ q. omega arith) ∙ getD-set-other one (1280 + count) (256 + count) i 0 (λ q. omega arith)
-      ∙ getD-set-same t (256 + count) (getD t h 0) 0 (omega arith)
-
-  line-at : getD (added t count i h) (1280 + count) 0 ≡ i
-  unfolding added
-  line-at = getD-set-other two h (1280 + count) (count + 1) 0 (λ q. omega arith) ∙ getD-set-same one (1280 + count) i 0 (rw length-set (omega arith))
-
-  head : (g : ℕ) → g < 248 → (b : Bool) → eqb h g ≡ b → getD (added t count i h) g 0 ≡ latest (defined-families L) g (suc count)
-  head g l true e =
-      ap (λ (k : ℕ). getD (added t count i h) k 0) (sym (eqb-true h g e)) ∙ head-at ∙ sym (latest-new g true (rw hash-count e))
-  head g l false e =
-      other g (λ q. omega arith) (λ q. omega arith) (λ q. clash (eq-eqb h g (sym q)) e) ∙ T .heads g l ∙ sym (latest-new g false (rw hash-count e))
-
-  own : (k : ℕ) → k ≡ count → getD (added t count i h) (256 + k) 0 ≡ latest (defined-families L) (hash (getD (defined-families L) k [])) k
-  own k e = rw e (next-at ∙ T .heads h low ∙ ap (λ (g : ℕ). latest (defined-families L) g count) (sym hash-count))
-
-  first-at : (k : ℕ) → k ≡ count → defines (line L (getD (added t count i h) (1280 + k) 0)) ≡ some (getD (defined-families L) k [])
-  first-at k e = rw (e, line-at) (defines-f ∙ ap some (sym at-count))
-
-  pub table-added : Table L (suc count) (added t count i h)
-  table-added = record {
-    size = inside;
-    heads = λ g l. head g l (eqb h g) refl;
-    rows = λ j k l e.
-        let u = T .rows j k l (sym (other (248 + j) (λ q. omega arith) (λ q. omega arith) (λ q. omega arith)) ∙ e) in
-        (omega (arith, u .0), u .1);
-    next = λ k l. elim (eq-or-lt l) [ inl e ↦ own k e | inr m ↦ other (256 + k) (λ e. omega arith) (λ e. omega arith) (λ e. omega arith) ∙ T .next k m ];
-    first = λ k l. elim (eq-or-lt l) [
-      | inl e ↦ first-at k e
-      | inr m ↦ rw (other (1280 + k) (λ e. omega arith) (λ e. omega arith) (λ e. omega arith)) (T .first k m)
-    ];
+  linked-none = record {
+    size = T .size;
+    heads = λ g l. front-empty g l;
+    rows = λ i j l e. T .rows i j l (sym (behind (248 + i) (omega arith)) ∙ e);
+    next = λ j l. absurd (omega arith);
+    first = λ j l. rw (behind (1280 + j) (omega arith)) (T .first j l);
   }
+
+-- `rehash`
+
+module _ (L : List Line) (count : ℕ) (few : count ≤ 1024) where
+  pub rehash-start : (m : ℕ) (t₀ t : List ℕ) → Table L count t₀ → 2304 ≤ length t₀ → t ≡ emptied t₀ m → Linked L count 0 t
+  rehash-start m t₀ t T room e = rw e (linked-none L count count m t₀ T room)
+
+  module _ (k : ℕ) (t : List ℕ) (T : Linked L count k t) where
+    pub rehash-next : (h : ℕ) (t′ : List ℕ) → 2304 ≤ length t → k < count → h ≡ hash-of (getD t 247 0) (family (token (line L (getD t (1280 + k) 0)) 0 .text)) → h < 247
+        → t′ ≡ linked t k h → Linked L count (k + 1) t′
+    rehash-next h t′ room inside is-hash low e =
+        rw (add-one, e) (linked-more L count k t T h room few inside low (family-at L count k t T k (getD t 247 0) h inside is-hash))
+
+    pub rehash-end : k ≤ count → count ≤ k → Table L count t
+    rehash-end a b = let z : k ≡ count = omega arith in rw z at T
 
 -- The row of a legacy name
 
@@ -301,9 +348,9 @@ module _ (L : List Line) (count c : ℕ) (t : List ℕ) (T : Table L count t) (i
   row-set : Table L count (set t (248 + i) c)
   row-set = record {
     size = T .size;
-    heads = λ h l. aside h (λ n. omega arith) ∙ T .heads h l;
+    heads = λ h l. rw (aside 247 (λ n. omega arith), aside h (λ n. omega arith)) (T .heads h l);
     rows = λ j m l q. rows-set j m l (eqb j i) refl q;
-    next = λ m l. aside (256 + m) (λ n. omega arith) ∙ T .next m l;
+    next = λ m l. rw (aside 247 (λ n. omega arith), aside (256 + m) (λ n. omega arith)) (T .next m l);
     first = λ m l. rw (aside (1280 + m) (λ n. omega arith)) (T .first m l);
   }
 
@@ -382,7 +429,7 @@ module _ (L : List Line) (i count : ℕ) (t : List ℕ) (R : Ready L i count t) 
           → Placed L i count (count + 1) t′
       placed-new y a b z t′ A = go found refl (sym (a (token (line L i) 0 .text)) ∙ b) (sym z ∙ m ∙ ap (λ (fs : List (List ℕ)). place-of fs found) front) (A .hash-is)
         where
-          go : (o : Option Family) → found ≡ o → is-some o ≡ true → 0 ≡ place-of (families-before L i) o → A .hash ≡ hash-of o → Placed L i count (count + 1) t′
+          go : (o : Option Family) → found ≡ o → is-some o ≡ true → 0 ≡ place-of (families-before L i) o → A .hash ≡ hash-of (getD t 247 0) o → Placed L i count (count + 1) t′
           go none k n b vh = clash n refl
           go (some x) k n b vh = elim (place-cases (families-before L i) (x .name)) [
             | inr g ↦ absurd (omega (arith, b, g .1))
@@ -400,11 +447,21 @@ module _ (L : List Line) (i count : ℕ) (t : List ℕ) (R : Ready L i count t) 
                   place = rw n (add-one count ∙ sym (place-here (defined-families L) (x .name) count (unique-families L) inside at-count));
                   families = v ∙ sym size;
                   table = rw (v, A .table) (table-kept L count (added t count i (A .hash)) (token (line L i) 0 .text) r x
-                      (table-added L count t (R .table) (x .name) i (A .hash) (R .room) (omega (arith, R .small, R .inside, R .few)) (A .hash-low) at-count inside vh n) k at-count
+                      (table-added L count t (R .table) (x .name) i (R .room) (omega (arith, R .small, R .inside, R .few)) at-count inside n (A .hash) (A .hash-low) vh) k at-count
                       (rw (length-added t count i (A .hash)) (R .room)) (omega (arith, R .small, R .inside, R .few)));
                   small = omega (arith, R .small);
                 })
           ]
+
+module _ (L : List Line) (i count c : ℕ) (t : List ℕ) (P : Placed L i count c t) (more : count < c) where
+  greatest : max count c ≡ c
+  greatest = omega arith
+
+  pub placed-table : Table L c t
+  placed-table = rw greatest at (P .table)
+
+  pub placed-again : (t′ : List ℕ) → Table L c t′ → Placed L i count c t′
+  placed-again t′ T = record { place = P .place; families = P .families; table = rw greatest T; small = P .small }
 
 -- `number_line` and `families`
 
@@ -451,35 +508,48 @@ module _ (l t x : List ℕ) (i count : ℕ) (table ds : List ℕ) (N : Numbered 
   pub numbered-end : length l ≤ i → Numbered (listing l t x) (length l) count table ds
   numbered-end h = let z : i ≡ length l = omega (arith, N .upto, length-listing l t x) in rw z at N
 
-pub numbered-start : (l t x table₀ table ds : List ℕ) → 0 < length l → length l ≤ 1024 → 2304 ≤ length table₀ → length l ≤ length ds → table ≡ zeroed 0 table₀
-    → Numbered (listing l t x) 1 0 table (set ds 0 0)
+pub numbered-start : (l t x table₀ table ds : List ℕ) (m : ℕ) → 0 < length l → length l ≤ 1024 → 2304 ≤ length table₀ → length l ≤ length ds → table ≡ zeroed 0 table₀
+    → Numbered (listing l t x) 1 0 (set table 247 m) (set ds 0 0)
 unfolding families-before range concat distinct latest defined-at
-numbered-start l t x table₀ table ds a b c d z = record {
+numbered-start l t x table₀ table ds m a b c d z = record {
   above = omega arith;
   upto = omega (arith, length-listing l t x);
   few = omega (arith, length-listing l t x);
-  room = rw z (omega (arith, length-replicate {A = ℕ} (length table₀ - 0) 0));
+  room = rw (length-set, z) (omega (arith, length-replicate {A = ℕ} (length table₀ - 0) 0));
   width = rw length-set (omega (arith, length-listing l t x));
   known = refl;
   small = omega arith;
   table = record {
     size = omega arith;
-    heads = λ h l. rw z (replicate-default (length table₀ - 0) h 0);
-    rows = λ i k l e.
-        let none : getD table (248 + i) 0 ≡ 0 = rw z (replicate-default (length table₀ - 0) (248 + i) 0) in
-        absurd (omega arith);
+    heads = λ h l. zero-at h (λ q. omega arith);
+    rows = λ i k l e. absurd (omega (arith, zero-at (248 + i) (λ q. omega arith)));
     next = λ k l. absurd (omega arith);
     first = λ k l. absurd (omega arith);
   };
   defs = λ j h. let e : j ≡ 0 = omega arith in rw e (getD-set-same ds 0 0 0 (omega arith));
 }
+  where
+    zero-at : (j : ℕ) → (j ≡ 247 → ⊥) → getD (set table 247 m) j 0 ≡ 0
+    zero-at j n = getD-set-other table 247 j m 0 n ∙ rw z (replicate-default (length table₀ - 0) j 0)
+
+-- `empty`
+
+pub emptied-by : (t z : List ℕ) (m : ℕ) → z ≡ zeroed 0 (take 247 t) → 2304 ≤ length t → set (z ++ drop 247 t) 247 m ≡ emptied t m
+unfolding emptied
+emptied-by t z m e room =
+    let n : length (take 247 t) - 0 ≡ 247 = omega (arith, length-take-le 247 t (omega arith)) in
+    rw (e, n)
 
 -- `add` and `search_line`
 
-module _ (t : List ℕ) (count i h : ℕ) where
-  pub added-by : (a b c : ℕ) → a ≡ getD t h 0 → b ≡ i → c ≡ count + 1 → set (set (set t (256 + count) a) (1280 + count) b) h c ≡ added t count i h
+module _ (t : List ℕ) (count h : ℕ) where
+  pub linked-by : (a c : ℕ) → a ≡ getD t h 0 → c ≡ count + 1 → set (set t (256 + count) a) h c ≡ linked t count h
+  unfolding linked
+  linked-by a c p r = rw (p, r)
+
+  pub added-by : (i b : ℕ) (t′ : List ℕ) → b ≡ i → t′ ≡ linked (set t (1280 + count) b) count h → t′ ≡ added t count i h
   unfolding added
-  added-by a b c p q r = rw (p, q, r)
+  added-by i b t′ q e = rw q at e
 
 module _ (t : List ℕ) (r : Register) (c : ℕ) where
   pub kept-row : (i w v : ℕ) → r ≡ Legacy i w → i < 8 → v ≡ c → set t (248 + i) v ≡ kept t r c
@@ -502,12 +572,14 @@ module _ (t : List ℕ) (r : Register) (c : ℕ) where
   unfolding kept
   kept-neither e = rw e
 
-pub added-line : (l : Line) (count i h : ℕ) (r : Register) (s t₀ t₁ t : List ℕ) → s ≡ token l 0 .text → h ≡ hash-of (family-of s r) → h < 248
+pub added-line : (l : Line) (count i h : ℕ) (r : Register) (s t₀ t₁ t : List ℕ) → s ≡ token l 0 .text → h ≡ hash-of (getD t₀ 247 0) (family-of s r) → h < 247
     → t₁ ≡ added t₀ count i h → t ≡ kept t₁ r (count + 1) → Added l count i r t₀ t
 added-line l count i h r s t₀ t₁ t w a b c d =
-    record { hash = h; hash-is = a ∙ ap (λ (s : List ℕ). hash-of (family-of s r)) w; hash-low = b; table = rw c at d }
+    record { hash = h; hash-is = a ∙ ap (λ (s : List ℕ). hash-of (getD t₀ 247 0) (family-of s r)) w; hash-low = b; table = rw c at d }
 
 pub search-by : (fs : List (List ℕ)) (r : Register) (s x : List ℕ) (c : ℕ) → s ≡ x → c ≡ place-of fs (family-of s r) → c ≡ place-of fs (family-of x r)
 search-by fs r s x c w e = rw w at e
 
-pub ruleset place-rules = (placed-none, placed-by, placed-other, placed-known, placed-new, added-by, added-line, kept-row, kept-behind, kept-numbered, kept-var, kept-neither, search-by, ready, defs-inside, place-fits, numbered-next, numbered-end, numbered-start)
+pub ruleset rehash-rules = (rehash-start, rehash-next, rehash-end)
+
+pub ruleset place-rules = (placed-none, placed-by, placed-other, placed-known, placed-new, placed-table, placed-again, emptied-by, linked-by, added-by, added-line, kept-row, kept-behind, kept-numbered, kept-var, kept-neither, search-by, ready, defs-inside, place-fits, numbered-next, numbered-end, numbered-start)

@@ -1,13 +1,16 @@
 -- The families that have a definition, numbered in the order of their first definition, and the table by which one is found.
---   hash s              a number below 248, by the bytes of a name
---   hash-of o           the same of a family
---   latest fs h m       1 + the last place below m of a family whose hash is h, 0 where there is none
+--   mixed m h b         h * m + b modulo 2^31 - 1, not reduced in full: the bits from 31 on are added to those below
+--   hash m s            a number below 247, by the multiplier m and the bytes of a name
+--   hash-of m o         the same of a family
+--   latest m fs h k     1 + the last place below k of a family whose hash is h, 0 where there is none
 --   place fs f          1 + the place of f among the families fs, 0 where it is not there
 --   place-of fs o       the same of a family
 --   place-defined fs o  the same of a family's name
---   Table L count t     the table t finds the first `count` families of the listing L: its words 0 .. 247 have `latest` for each hash; the words
---                       248 .. 255, for each row of the legacy names, 0 or 1 + the place of its family; the words from 256 on, for each family,
---                       `latest` before it of its own hash; the words from 1280 on the line of its first definition
+--   Linked L count k t  the table t has the first `count` families of the listing L, the first k of them in chains: its words 0 .. 246 have
+--                       `latest` for each hash, by the multiplier in word 247; the words 248 .. 255, for each row of the legacy names, 0 or 1 + the
+--                       place of its family; the words from 256 on, for each of the k, `latest` before it of its own hash; the words from 1280 on,
+--                       for each family, the line of its first definition
+--   Table L count t     the same, all in chains: the table t finds the first `count` families of the listing L
 --   row-word t r        what the table t has for the row of the answer r, 0 where that is no row
 --   kept t r c          the table t with c for that row
 --   defined-at L i      the family that line i defines, none on line 0
@@ -15,18 +18,20 @@
 --   Defs L ds           ds has the place of the family that each line defines, 0 where it defines none
 --   Numbered L i count t ds    the lines before line i are done: `count` families are in the table t, and ds has the place of the family that
 --                       each line defines, 0 where it defines none
+--   linked t k h        the table t with family k, of hash h, in front of its chain
 --   added t count i h   the table t with one family more
+--   emptied t m         the table t with no chains, and the multiplier m
 --   Added l count i r t₀ t    the same, of the family of line l
 --   of-register l r     the family that line l defines by its register r
 --   Ready L i count t   line i is next, `count` families being in the table t
 --   Placed L i count c t    line i is done: c is the place of the family that it defines
 -- Assumes nothing.
-use Prim.Native.Nat.{ℕ, zero, suc, _+_, _*_, _-_, _%_, _<_, _≤_, max}
+use Prim.Native.Nat.{ℕ, zero, suc, _+_, _*_, _-_, _/_, _%_, _<_, _≤_, max}
 use mathlib.Core.Path.{_≡_}
-use mathlib.Core.List.{List, [], map}
+use mathlib.Core.List.{List, [], _++_, map}
 use mathlib.Core.Option.{Option, none, some, Option·map}
 use lib.Dec.{eqb, ltb}
-use lib.ListN.{length, getD, set}
+use lib.ListN.{length, getD, set, drop, replicate}
 use Rattle.definitions.specs.Lists.{if_then_else_, fold, position, concat, range, to-list, _==_}
 use Rattle.definitions.specs.Model.{Line, token, line}
 use Rattle.definitions.specs.Family.{Family}
@@ -36,16 +41,19 @@ use Rattle.legacy.specs.Table.{row-name}
 use Rattle.family.specs.Register.{family-of, row}
 use Rattle.definitions.specs.Recover.{distinct, defined-families}
 
-unfoldable pub hash : List ℕ → ℕ
-hash s = fold (λ h b. (h * 10 + b) % 256) 0 s % 248
+unfoldable pub mixed : ℕ → ℕ → ℕ → ℕ
+mixed m h b = (h * m + b) % 2147483648 + (h * m + b) / 2147483648
 
-abbrev pub hash-of : Option Family → ℕ
-hash-of none = 0
-hash-of (some f) = hash (f .name)
+unfoldable pub hash : ℕ → List ℕ → ℕ
+hash m s = fold (mixed m) 0 s % 247
 
-unfoldable pub latest : List (List ℕ) → ℕ → ℕ → ℕ
-latest fs h zero = 0
-latest fs h (suc m) = if eqb (hash (getD fs m [])) h then suc m else latest fs h m
+abbrev pub hash-of : ℕ → Option Family → ℕ
+hash-of m none = 0
+hash-of m (some f) = hash m (f .name)
+
+unfoldable pub latest : ℕ → List (List ℕ) → ℕ → ℕ → ℕ
+latest m fs h zero = 0
+latest m fs h (suc k) = if eqb (hash m (getD fs k [])) h then suc k else latest m fs h k
 
 unfoldable pub place : List (List ℕ) → List ℕ → ℕ
 place fs f = elim (position (λ g. g == f) fs) [ none ↦ 0 | some k ↦ suc k ]
@@ -54,12 +62,15 @@ abbrev pub place-of : List (List ℕ) → Option Family → ℕ
 place-of fs none = 0
 place-of fs (some f) = place fs (f .name)
 
-pub record Table (L : List Line) (count : ℕ) (t : List ℕ) : Type 0 where
+pub record Linked (L : List Line) (count k : ℕ) (t : List ℕ) : Type 0 where
   pub size : count ≤ length (defined-families L)
-  pub heads : (h : ℕ) → h < 248 → getD t h 0 ≡ latest (defined-families L) h count
-  pub rows : (i k : ℕ) → i < 8 → getD t (248 + i) 0 ≡ suc k → (k < count) × (getD (defined-families L) k [] ≡ row-name i)
-  pub next : (k : ℕ) → k < count → getD t (256 + k) 0 ≡ latest (defined-families L) (hash (getD (defined-families L) k [])) k
-  pub first : (k : ℕ) → k < count → defines (line L (getD t (1280 + k) 0)) ≡ some (getD (defined-families L) k [])
+  pub heads : (h : ℕ) → h < 247 → getD t h 0 ≡ latest (getD t 247 0) (defined-families L) h k
+  pub rows : (i j : ℕ) → i < 8 → getD t (248 + i) 0 ≡ suc j → (j < count) × (getD (defined-families L) j [] ≡ row-name i)
+  pub next : (j : ℕ) → j < k → getD t (256 + j) 0 ≡ latest (getD t 247 0) (defined-families L) (hash (getD t 247 0) (getD (defined-families L) j [])) j
+  pub first : (j : ℕ) → j < count → defines (line L (getD t (1280 + j) 0)) ≡ some (getD (defined-families L) j [])
+
+abbrev pub Table : List Line → ℕ → List ℕ → Type 0
+Table L count t = Linked L count count t
 
 unfoldable pub defined-at : List Line → ℕ → Option (List ℕ)
 defined-at L zero = none
@@ -78,15 +89,22 @@ row-word t r = if ltb (row r) 8 then getD t (248 + row r) 0 else 0
 unfoldable pub kept : List ℕ → Register → ℕ → List ℕ
 kept t r c = if ltb (row r) 8 then set t (248 + row r) c else t
 
+-- the table t with family k, of hash h, in front of its chain
+unfoldable pub linked : List ℕ → ℕ → ℕ → List ℕ
+linked t k h = set (set t (256 + k) (getD t h 0)) h (k + 1)
+
 -- the table t with family `count`, first defined on line i, of hash h
 unfoldable pub added : List ℕ → ℕ → ℕ → ℕ → List ℕ
-added t count i h = set (set (set t (256 + count) (getD t h 0)) (1280 + count) i) h (count + 1)
+added t count i h = linked (set t (1280 + count) i) count h
+
+unfoldable pub emptied : List ℕ → ℕ → List ℕ
+emptied t m = set (replicate 247 0 ++ drop 247 t) 247 m
 
 -- t is t₀ with the family of token 0 of line l, whose answer is r
 pub record Added (l : Line) (count i : ℕ) (r : Register) (t₀ t : List ℕ) : Type 0 where
   pub hash : ℕ
-  pub hash-is : hash ≡ hash-of (family-of (token l 0 .text) r)
-  pub hash-low : hash < 248
+  pub hash-is : hash ≡ hash-of (getD t₀ 247 0) (family-of (token l 0 .text) r)
+  pub hash-low : hash < 247
   pub table : t ≡ kept (added t₀ count i hash) r (count + 1)
 
 -- the name of the family that line l defines if its token 0 is the register r

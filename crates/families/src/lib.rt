@@ -1,9 +1,15 @@
 // The families that have a definition, numbered in the order of their first definition. The family of a legacy name is one word of the table
-// once it is there; any other is found through the chain of those with its hash, 248 chains for all: one look-up compares the families of one
+// once it is there; any other is found through the chain of those with its hash, 247 chains for all: one look-up compares the families of one
 // chain. All lines together take one look-up a line.
 //
+// The hash is a polynomial in a multiplier modulo a prime, so two names have one hash by few multipliers. Where a family joins a chain of 16
+// or more, the table takes the next of 128 multipliers and all chains are made anew; 1,023 families cannot use up 128 multipliers by filling a
+// chain of each. At most 127 times the families are hashed again, with 18021 hardly ever: r0 to r99 and the legacy names have a chain each, r0
+// to r1014 at most 6 families a chain.
+//
 // The table, one lent slice:
-//   words [0, 248)         1 + the last family of each hash, 0 for none
+//   words [0, 247)         1 + the last family of each hash, 0 for none
+//   word 247               the multiplier
 //   words [248, 256)       for each row of the legacy names 1 + its family, 0 for none
 //   words [256, 1280)      for each family 1 + the one before it of the same hash, 0 for none
 //   words [1280, 2304)     for each family the line of its first definition
@@ -20,57 +26,76 @@ ghost use Rattle.definitions.specs.Columns.{listing};
 ghost use Rattle.definitions.specs.Recover.{defined-families};
 ghost use Rattle.legacy.specs.Table.{row-name};
 ghost use Rattle.family.specs.Register.{family-of, names-family};
-ghost use Rattle.families.specs.Families.{hash, hash-of, place-of, row-word, kept, added, of-register, Table, Ready, Added, Placed, Numbered};
+ghost use Rattle.families.specs.Families.{mixed, hash, hash-of, place-of, row-word, kept, linked, added, emptied, of-register, Table, Ready, Added, Placed, Numbered};
 use assignment::definition::Defined;
 use family::Register;
+use model::columns::text_at;
 use words::greater;
 use words::narrow;
 use words::number;
+use words::wide;
+use words::word;
 use words::zero;
 
-const ROW_HASHES: [u8; 8] = [202, 212, 222, 232, 111, 217, 204, 118];
+const FIRST: u16 = 18021;
+// The 128th multiplier.
+const LAST: u16 = 36589;
 
-fn mixed(h: usize, b: u8) -> usize
-    requires { ⌜ h < 256 ⌝ }
-    ensures { λ r. ⌜ (r ≡ (h * 10 + b) % 256) × (r < 256) ⌝ }
-{
-    (h * 10 + b as usize) % 256
+// The second and the third byte of the names of the rows; the first is `r`.
+const SECONDS: [u8; 8] = *b"abcdsdbs";
+
+const THIRDS: [u8; 8] = *b"xxxxiipp";
+
+// The multiplier after m.
+fn next(m: u16) -> u16 {
+    narrow(wide(m) * 12 % 65521)
 }
 
-fn hash(s: &[u8]) -> usize
-    ensures { λ r. ⌜ (r ≡ hash (now (s .entry))) × (r < 248) ⌝ }
+// h * m + b, modulo 2^31 - 1: the bits from 31 on are added to those below.
+fn mixed(m: u16, h: usize, b: u8) -> usize
+    requires { ⌜ h < 4294967296 ⌝ }
+    ensures { λ r. ⌜ (r ≡ mixed m h b) × (r < 4294967296) ⌝ }
 {
-    let mut h = 0;
-    let mut i = 0;
-    while i < s.len() {
-        h = mixed(h, s[i]);
-        i += 1;
-    }
-    h % 248
+    let x = h * wide(m) + widen(b);
+    x % 2147483648 + x / 2147483648
 }
 
 fn widen(x: u8) -> usize
-    ensures { λ r. ⌜ r ≡ x ⌝ }
+    ensures { λ r. ⌜ (r ≡ x) × (r < 256) ⌝ }
 {
     x as usize
 }
 
-// The hash of the family in row i of the table of names.
-fn row_hash(i: usize) -> usize
-    requires { ⌜ i < 8 ⌝ }
-    ensures { λ r. ⌜ (r ≡ hash (row-name i)) × (r < 248) ⌝ }
+fn hash(m: u16, s: &[u8]) -> usize
+    ensures { λ r. ⌜ (r ≡ hash m (now (s .entry))) × (r < 247) ⌝ }
 {
-    widen(ROW_HASHES[i])
+    let mut h = 0;
+    let mut i = 0;
+    while i < s.len() {
+        h = mixed(m, h, s[i]);
+        i += 1;
+    }
+    h % 247
 }
 
-// The hash of the family that the answer r of the text s is.
-fn hash_of(s: &[u8], r: Register) -> usize
-    ensures { λ h. ⌜ (h ≡ hash-of (family-of (now (s .entry)) r)) × (h < 248) ⌝ }
+// The hash of the family in row i of the table of names.
+fn row_hash(m: u16, i: usize) -> usize
+    requires { ⌜ i < 8 ⌝ }
+    ensures { λ r. ⌜ (r ≡ hash m (row-name i)) × (r < 247) ⌝ }
 {
+    let h = mixed(m, mixed(m, 0, b'r'), SECONDS[i]);
+    mixed(m, h, THIRDS[i]) % 247
+}
+
+// The hash, by the table's multiplier, of the family that the answer r of the text s is.
+fn hash_of(table: &[u16], s: &[u8], r: Register) -> usize
+    ensures { λ h. ⌜ (h ≡ hash-of (getD (now (table .entry)) 247 0) (family-of (now (s .entry)) r)) × (h < 247) ⌝ }
+{
+    let m = word(table, 247);
     match r {
-        Register::Legacy(i, _) => if i < 8 { row_hash(i) } else { 0 },
-        Register::Numbered(n, _) => hash(text::part(s, 0, n)),
-        Register::Var => hash(s),
+        Register::Legacy(i, _) => if i < 8 { row_hash(m, i) } else { 0 },
+        Register::Numbered(n, _) => hash(m, text::part(s, 0, n)),
+        Register::Var => hash(m, s),
         Register::Nothing => 0,
     }
 }
@@ -115,20 +140,22 @@ fn row_word(table: &[u16], r: Register) -> usize
     }
 }
 
-// The same as `search`, by the chain of the hash.
+// The same as `search`, by the chain of the hash h.
 fn search_chain(
     lines: &[u32],
     tokens: &[u32],
     text: &[u8],
     table: &[u16],
     count: usize,
+    h: usize,
     s: &[u8],
     r: Register,
 ) -> usize
     requires { ⌜ Table (listing (now lines) (now tokens) (now text)) count (now table) × (count ≤ 1024) ⌝ }
+    requires { ⌜ (h ≡ hash-of (getD (now table) 247 0) (family-of (now s) r)) × (h < 247) ⌝ }
     ensures { λ c. ⌜ c ≡ place-of (take count (defined-families (listing (now (lines .entry)) (now (tokens .entry)) (now (text .entry))))) (family-of (now (s .entry)) r) ⌝ }
 {
-    let mut c = number(table, hash_of(s, r));
+    let mut c = number(table, h);
     while 0 < c {
         if is_family(lines, tokens, text, table, c - 1, s, r) {
             return c;
@@ -144,7 +171,7 @@ fn has_text(lines: &[u32], tokens: &[u32], text: &[u8], table: &[u16], k: usize,
     ensures { λ y. ⌜ y ≡ (token (line (listing (now (lines .entry)) (now (tokens .entry)) (now (text .entry))) (getD (now (table .entry)) (1280 + k) 0)) 0 .text == now (s .entry)) ⌝ }
 {
     let i = number(table, 1280 + k);
-    text::equal(model::columns::text_at(lines, tokens, text, i, 0), s)
+    text::equal(text_at(lines, tokens, text, i, 0), s)
 }
 
 // 1 + the place among the first `count` families of the one that the answer r of the register s is, 0 where it is none of them. A text that is
@@ -165,26 +192,35 @@ pub fn search(
     if c != 0 {
         return c;
     }
-    let last = number(table, hash_of(s, r));
+    let h = hash_of(table, s, r);
+    let last = number(table, h);
     if 0 < last {
         if has_text(lines, tokens, text, table, last - 1, s) {
             return last;
         }
     }
-    search_chain(lines, tokens, text, table, count, s, r)
+    search_chain(lines, tokens, text, table, count, h, s, r)
 }
 
-// One family more in the table: its number is `count`, its first definition on line i, its hash h.
-fn add(table: &mut [u16], count: usize, i: usize, h: usize)
-    requires { ⌜ (count < 1024) × (i < 1024) × (h < 248) × (2304 ≤ length (now table)) ⌝ }
-    ensures { λ _. ⌜ now (table .exit) ≡ added (now (table .entry)) count i h ⌝ }
+// One family more in the chains: its number is `count`, its hash h.
+fn link(table: &mut [u16], count: usize, h: usize)
+    requires { ⌜ (count < 1024) × (h < 247) × (2304 ≤ length (now table)) ⌝ }
+    ensures { λ _. ⌜ now (table .exit) ≡ linked (now (table .entry)) count h ⌝ }
 {
     let head = table[h];
     table[256 + count] = head;
-    let first = narrow(i);
-    table[1280 + count] = first;
     let last = narrow(count + 1);
     table[h] = last;
+}
+
+// One family more in the table: its first definition is on line i.
+fn add(table: &mut [u16], count: usize, i: usize, h: usize)
+    requires { ⌜ (count < 1024) × (i < 1024) × (h < 247) × (2304 ≤ length (now table)) ⌝ }
+    ensures { λ _. ⌜ now (table .exit) ≡ added (now (table .entry)) count i h ⌝ }
+{
+    let first = narrow(i);
+    table[1280 + count] = first;
+    link(table, count, h);
 }
 
 // The table gets c for the row of the answer r, if that is a row.
@@ -220,15 +256,9 @@ fn search_line(
 {
     let c = row_word(table, r);
     if c == 0 {
-        return search_chain(
-            lines,
-            tokens,
-            text,
-            table,
-            count,
-            model::columns::text_at(lines, tokens, text, i, 0),
-            r,
-        );
+        let s = text_at(lines, tokens, text, i, 0);
+        let h = hash_of(table, s, r);
+        return search_chain(lines, tokens, text, table, count, h, s, r);
     }
     c
 }
@@ -246,9 +276,69 @@ fn add_line(
     requires { ⌜ Ready (listing (now lines) (now tokens) (now text)) i count (now table) ⌝ }
     ensures { λ _. ⌜ Added (line (listing (now (lines .entry)) (now (tokens .entry)) (now (text .entry))) i) count i r (now (table .entry)) (now (table .exit)) ⌝ }
 {
-    let h = hash_of(model::columns::text_at(lines, tokens, text, i, 0), r);
+    let h = hash_of(table, text_at(lines, tokens, text, i, 0), r);
     add(table, count, i, h);
     keep_row(table, r, count + 1);
+}
+
+// The chain of family c - 1, from it on, has more than 16 families.
+fn is_long(table: &[u16], c: u16) -> bool {
+    let mut c = c;
+    let mut n: usize = 0;
+    while n < 16 {
+        if c == 0 {
+            return false;
+        }
+        c = word(table, 255 + wide(c));
+        n += 1;
+    }
+    c != 0
+}
+
+// Empties the chains; m is the multiplier from now on.
+fn empty(table: &mut [u16], m: u16)
+    requires { ⌜ 2304 ≤ length (now table) ⌝ }
+    ensures { λ _. ⌜ now (table .exit) ≡ emptied (now (table .entry)) m ⌝ }
+{
+    zero(&mut table[..247]);
+    table[247] = m;
+}
+
+// The hash of family k, by its first definition.
+fn family_hash(lines: &[u32], tokens: &[u32], text: &[u8], table: &[u16], k: usize) -> usize
+    requires { ⌜ k < 1024 ⌝ }
+    ensures { λ h. ⌜ (let L = listing (now (lines .entry)) (now (tokens .entry)) (now (text .entry)) in let t = now (table .entry) in (h ≡ hash-of (getD t 247 0) (family (token (line L (getD t (1280 + k) 0)) 0 .text))) × (h < 247)) ⌝ }
+{
+    let s = text_at(lines, tokens, text, number(table, 1280 + k), 0);
+    let r = family::family(s);
+    hash_of(table, s, r)
+}
+
+// The chains by the multiplier m.
+fn rehash(lines: &[u32], tokens: &[u32], text: &[u8], table: &mut [u16], count: usize, m: u16)
+    requires { ⌜ Table (listing (now lines) (now tokens) (now text)) count (now table) × (count ≤ 1024) × (2304 ≤ length (now table)) ⌝ }
+    ensures { λ _. ⌜ Table (listing (now (lines .entry)) (now (tokens .entry)) (now (text .entry))) count (now (table .exit)) ⌝ }
+{
+    empty(table, m);
+    let mut k = 0;
+    while k < count {
+        let h = family_hash(lines, tokens, text, table, k);
+        link(table, k, h);
+        k += 1;
+    }
+}
+
+// The table goes on with the next multiplier, if there is one, where the last family is in a long chain.
+fn shorten(lines: &[u32], tokens: &[u32], text: &[u8], table: &mut [u16], count: usize)
+    requires { ⌜ Table (listing (now lines) (now tokens) (now text)) count (now table) × (count ≤ 1024) × (2304 ≤ length (now table)) ⌝ }
+    ensures { λ _. ⌜ Table (listing (now (lines .entry)) (now (tokens .entry)) (now (text .entry))) count (now (table .exit)) ⌝ }
+{
+    let m = word(table, 247);
+    if m != LAST {
+        if is_long(table, narrow(count)) {
+            rehash(lines, tokens, text, table, count, next(m));
+        }
+    }
 }
 
 // 1 + the number of the family that line i defines by the register r; a family that is not in the table yet is added.
@@ -276,7 +366,7 @@ fn place_register(
     0
 }
 
-// 1 + the number of the family that line i defines, 0 where it defines none.
+// 1 + the number of the family that line i defines, 0 where it defines none; where that is a new one, its chain is kept short.
 fn place_line(
     lines: &[u32],
     tokens: &[u32],
@@ -291,7 +381,12 @@ fn place_line(
     let Defined::Family(r) = assignment::definition::defines(lines, tokens, text, i) else {
         return 0;
     };
-    place_register(lines, tokens, text, table, i, count, r)
+    let c = place_register(lines, tokens, text, table, i, count, r);
+    if count < c {
+        shorten(lines, tokens, text, table, c);
+        return c;
+    }
+    c
 }
 
 // Line i is done; answers how many families there are now.
@@ -325,6 +420,7 @@ pub fn families(
     ensures { λ c. ⌜ Numbered (listing (now (lines .entry)) (now (tokens .entry)) (now (text .entry))) (length (now (lines .entry))) c (now (table .exit)) (now (defs .exit)) ⌝ }
 {
     zero(table);
+    table[247] = FIRST;
     defs[0] = 0;
     let mut count = 0;
     let mut i = 1;

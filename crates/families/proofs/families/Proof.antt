@@ -19,6 +19,9 @@ abbrev μ-loop : tie.MeasureT-loop
 zero-requires : tie.Need-zero-requires Inv-loop μ-loop
 zero-requires c κs = search (place-rules, needs)
 
+slice-write-table : tie.Need-slice-write-table Inv-loop μ-loop
+slice-write-table c = search (place-rules, needs)
+
 slice-write-defs : tie.Need-slice-write-defs Inv-loop μ-loop
 slice-write-defs c = search (place-rules, needs)
 
@@ -38,7 +41,7 @@ loop-again : tie.Need-loop-again Inv-loop μ-loop
 loop-again c = (c .before .before .before .before .number-line .kept .1 .1 .1 .0 ∙ c .before .before .before .before .before .before .before .before .loop .inv .0, c .before .before .before .before .number-line .kept .1 .1 .1 .1 .0 ∙ c .before .before .before .before .before .before .before .before .loop .inv .1, c .before .before .before .before .number-line .ensures)
 
 same-length : tie.Need-same-length Inv-loop μ-loop
-same-length c = search (place-rules, needs)
+same-length c = (simp length-set at (c .before .loop .inv .0)) ∙ c .before .before .before .before .zero .kept .0
 
 same-length-2 : tie.Need-same-length-2 Inv-loop μ-loop
 same-length-2 c = simp length-set at (c .before .loop .inv .1)
@@ -53,6 +56,7 @@ families-spec =
     Inv-loop
     μ-loop
     zero-requires
+    slice-write-table
     slice-write-defs
     loop-holds
     number-line-requires

@@ -10,10 +10,10 @@ use Rattle.families.proofs.hash.Statement.{statement}
 use Rattle.families.proofs.hash.Tie as tie
 
 abbrev Inv-loop : tie.InvT-loop
-Inv-loop s h₀ i₀ h i = (i ≤ length s) × (h < 256) × (hashed h (drop i s) ≡ hash s)
+Inv-loop m s h₀ i₀ h i = (i ≤ length s) × (h < 4294967296) × (hashed m h (drop i s) ≡ hash m s)
 
 abbrev μ-loop : tie.MeasureT-loop
-μ-loop s h₀ i₀ h i = length s - i
+μ-loop m s h₀ i₀ h i = length s - i
 
 loop-holds : tie.Need-loop-holds Inv-loop μ-loop
 loop-holds c = search (hash-rules, needs)

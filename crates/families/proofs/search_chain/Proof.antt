@@ -1,5 +1,6 @@
 -- `families::search_chain` meets its contract. The family is at no place from c on, and is in the chain at c - 1 if it is anywhere.
 -- Assumes nothing.
+use lib.ListN.{getD}
 use Rattle.definitions.specs.Columns.{listing}
 use Rattle.definitions.specs.Recover.{defined-families}
 use Rattle.family.specs.Register.{family-of}
@@ -9,13 +10,10 @@ use Rattle.families.proofs.search_chain.Statement.{statement}
 use Rattle.families.proofs.search_chain.Tie as tie
 
 abbrev Inv-loop : tie.InvT-loop
-Inv-loop lines tokens text table count s r c₀ c = Searching (defined-families (listing lines tokens text)) count (family-of s r) c
+Inv-loop lines tokens text table count h s r c₀ c = Searching (getD table 247 0) (defined-families (listing lines tokens text)) count (family-of s r) c
 
 abbrev μ-loop : tie.MeasureT-loop
-μ-loop lines tokens text table count s r c₀ c = c
-
-hash-of-requires : tie.Need-hash-of-requires Inv-loop μ-loop
-hash-of-requires c κs = search (search-rules, needs)
+μ-loop lines tokens text table count h s r c₀ c = c
 
 number-requires : tie.Need-number-requires Inv-loop μ-loop
 number-requires c κs = search (search-rules, needs)
@@ -56,7 +54,6 @@ search-chain-spec =
     (tie.spec
     Inv-loop
     μ-loop
-    hash-of-requires
     number-requires
     loop-holds
     sub-is-family

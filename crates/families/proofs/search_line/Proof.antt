@@ -12,6 +12,9 @@ row-word-requires c κs = search (place-rules, row-rules, needs)
 text-at-requires : tie.Need-text-at-requires
 text-at-requires c κs = search (place-rules, row-rules, needs)
 
+hash-of-requires : tie.Need-hash-of-requires
+hash-of-requires c κs = search (place-rules, row-rules, needs)
+
 search-chain-requires : tie.Need-search-chain-requires
 search-chain-requires c κs = search (place-rules, row-rules, needs)
 
@@ -23,4 +26,4 @@ returns-2 c = search (place-rules, row-rules, needs)
 
 pub search-line-spec : {M : Type 1} → statement M
 search-line-spec =
-    tie.close (tie.spec row-word-requires text-at-requires search-chain-requires returns returns-2)
+    tie.close (tie.spec row-word-requires text-at-requires hash-of-requires search-chain-requires returns returns-2)
