@@ -31,7 +31,7 @@ use Rattle.family.specs.declared.Register.{Register}
 use Rattle.family.specs.declared.Register.the-variants.{Legacy, Numbered, Var, Nothing}
 use Rattle.legacy.specs.Table.{row-name}
 use Rattle.family.specs.Register.{family-of, names-family}
-use Rattle.families.specs.Families.{hash, hash-of, latest, place, place-of, row-word, Linked, Table}
+use Rattle.families.specs.Families.{hash, hash-of, latest, place, place-of, row-word, multiplier, Linked, Table}
 
 -- Each family once
 
@@ -203,11 +203,11 @@ module _ (L : List Line) (count : ℕ) (t : List ℕ) (T : Table L count t) wher
           unique-families L j k (omega (arith, T .size)) (omega (arith, T .size)) (sym (here j a) ∙ e ∙ here k b)
 
 module _ (L : List Line) (count : ℕ) (t : List ℕ) (T : Table L count t) (o : Option Family) where
-  pub searching-start : (c h : ℕ) → h ≡ hash-of (getD t 247 0) o → h < 247 → c ≡ getD t h 0 → Searching (getD t 247 0) (defined-families L) count o c
+  pub searching-start : (c h : ℕ) → h ≡ hash-of (multiplier t) o → h < 247 → c ≡ getD t h 0 → Searching (multiplier t) (defined-families L) count o c
   searching-start c h e l q =
-      rw (q, T .heads h l, e) (from-latest (getD t 247 0) (defined-families L) count count o (omega arith) (λ k g s. absurd (omega arith)))
+      rw (q, T .heads h l, e) (from-latest (multiplier t) (defined-families L) count count o (omega arith) (λ k g s. absurd (omega arith)))
 
-  module _ (c : ℕ) (s : Searching (getD t 247 0) (defined-families L) count o c) (p : 0 < c) where
+  module _ (c : ℕ) (s : Searching (multiplier t) (defined-families L) count o c) (p : 0 < c) where
     at : (y : Bool) → y ≡ names-family o (token (line L (getD t (1280 + (c - 1)) 0)) 0) → y ≡ matches o (getD (defined-families L) (c - 1) [])
     at y q = q ∙ names-matches o _ _ (T .first (c - 1) (omega (arith, s .bound)))
 
@@ -220,21 +220,21 @@ module _ (L : List Line) (count : ℕ) (t : List ℕ) (T : Table L count t) (o :
         go (some x) m = omega (arith, place-taken L count t T (x .name) (c - 1) (omega (arith, s .bound)) (==-true _ (x .name) m))
 
     pub searching-next : (y : Bool) (next : ℕ) → y ≡ names-family o (token (line L (getD t (1280 + (c - 1)) 0)) 0) → y ≡ false
-        → next ≡ getD t (256 + (c - 1)) 0 → Searching (getD t 247 0) (defined-families L) count o next
+        → next ≡ getD t (256 + (c - 1)) 0 → Searching (multiplier t) (defined-families L) count o next
     searching-next y next q f r =
         rw (r, T .next (c - 1) (omega (arith, s .bound)), s .chain (c - 1) (omega arith))
-        (from-latest (getD t 247 0) (defined-families L) count (c - 1) o (omega (arith, s .bound)) (λ k l h. elim (lt-or-ge k c) [
+        (from-latest (multiplier t) (defined-families L) count (c - 1) o (omega (arith, s .bound)) (λ k l h. elim (lt-or-ge k c) [
           | inl g ↦ (let z : c - 1 ≡ k = omega arith in rw z at (sym (at y q) ∙ f))
           | inr g ↦ s .above k g h
         ]))
 
     pub searching-less : (next : ℕ) → next ≡ getD t (256 + (c - 1)) 0 → next < c
-    searching-less next r = omega (arith, r, T .next (c - 1) (omega (arith, s .bound)), latest-le (getD t 247 0) (defined-families L) (hash (getD t 247 0) (getD (defined-families L) (c - 1) [])) (c - 1))
+    searching-less next r = omega (arith, r, T .next (c - 1) (omega (arith, s .bound)), latest-le (multiplier t) (defined-families L) (hash (multiplier t) (getD (defined-families L) (c - 1) [])) (c - 1))
 
-  pub searching-end : (c : ℕ) → Searching (getD t 247 0) (defined-families L) count o c → c ≤ 0 → 0 ≡ place-of (take count (defined-families L)) o
+  pub searching-end : (c : ℕ) → Searching (multiplier t) (defined-families L) count o c → c ≤ 0 → 0 ≡ place-of (take count (defined-families L)) o
   searching-end c s h = go o s
     where
-      go : (o : Option Family) → Searching (getD t 247 0) (defined-families L) count o c → 0 ≡ place-of (take count (defined-families L)) o
+      go : (o : Option Family) → Searching (multiplier t) (defined-families L) count o c → 0 ≡ place-of (take count (defined-families L)) o
       go none s = refl
       go (some x) s = sym (place-none (take count (defined-families L)) (x .name) (λ j l.
           let b : j < count = omega (arith, length-take count (defined-families L)) in
@@ -299,9 +299,9 @@ family-at L count n t T k m h b e =
     e ∙ ap (hash-of m) (family-some (token l 0) (w .0) (w .1)) ∙ ap (hash m) (w .2)
 
 module _ (L : List Line) (count : ℕ) (t s : List ℕ) (r : Register) (T : Table L count t) (answer : family-of s r ≡ family s)
-    (c h : ℕ) (is-hash : h ≡ hash-of (getD t 247 0) (family-of s r)) (low : h < 247) (is-last : c ≡ getD t h 0) where
+    (c h : ℕ) (is-hash : h ≡ hash-of (multiplier t) (family-of s r)) (low : h < 247) (is-last : c ≡ getD t h 0) where
   last-few : c ≤ count
-  last-few = omega (arith, is-last, T .heads h low, latest-le (getD t 247 0) (defined-families L) h count)
+  last-few = omega (arith, is-last, T .heads h low, latest-le (multiplier t) (defined-families L) h count)
 
   pub last-inside : 0 < c → count ≤ 1024 → c - 1 < 1024
   last-inside p few = omega (arith, last-few)

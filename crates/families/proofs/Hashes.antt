@@ -27,7 +27,7 @@ use Rattle.family.specs.declared.Register.{Register}
 use Rattle.family.specs.declared.Register.the-variants.{Legacy, Numbered, Var, Nothing}
 use Rattle.legacy.specs.Table.{row-name}
 use Rattle.family.specs.Register.{family-of, names-family}
-use Rattle.families.specs.Families.{mixed, hash, hash-of}
+use Rattle.families.specs.Families.{mixed, hash, hash-of, multiplier}
 
 pub product-small : (m h : ℕ) → m < 65536 → h < 4294967296 → h * m < 281474976710656
 product-small m h a b =
@@ -77,14 +77,14 @@ pub row-hash : (m i u v w : ℕ) → u ≡ mixed m 0 114 → v ≡ mixed m u (ge
 unfolding hash fold
 row-hash m i u v w a b c h = rw (row-bytes i h, c, b, a)
 
-module _ (m : ℕ) (t s : List ℕ) (r : Register) (is-m : m ≡ getD t 247 0) where
-  pub hash-row : (i w v : ℕ) → r ≡ Legacy i w → i < 8 → v ≡ hash m (row-name i) → v ≡ hash-of (getD t 247 0) (family-of s r)
+module _ (m : ℕ) (t s : List ℕ) (r : Register) (is-m : m ≡ multiplier t) where
+  pub hash-row : (i w v : ℕ) → r ≡ Legacy i w → i < 8 → v ≡ hash m (row-name i) → v ≡ hash-of (multiplier t) (family-of s r)
   hash-row i w v e h q = rw (← is-m, e, lt-ltb i 8 h) q
 
-  pub hash-part : (n w v : ℕ) (p : List ℕ) → r ≡ Numbered n w → p ≡ part 0 n s → v ≡ hash m p → v ≡ hash-of (getD t 247 0) (family-of s r)
+  pub hash-part : (n w v : ℕ) (p : List ℕ) → r ≡ Numbered n w → p ≡ part 0 n s → v ≡ hash m p → v ≡ hash-of (multiplier t) (family-of s r)
   hash-part n w v p e q f = rw (← is-m, e) (rw q at f)
 
-  pub hash-whole : (v : ℕ) → r ≡ Var → v ≡ hash m s → v ≡ hash-of (getD t 247 0) (family-of s r)
+  pub hash-whole : (v : ℕ) → r ≡ Var → v ≡ hash m s → v ≡ hash-of (multiplier t) (family-of s r)
   hash-whole v e f = rw (← is-m, e) f
 
 module _ (s : List ℕ) (r : Register) where
@@ -119,4 +119,4 @@ pub family-hash : (L : List Line) (t s : List ℕ) (r : Register) (k i m h : ℕ
     → h ≡ hash-of m (family-of s r) → h ≡ hash-of m (family (token (line L (getD t (1280 + k) 0)) 0 .text))
 family-hash L t s r k i m h e q f g = rw (← e, ← q) (g ∙ ap (hash-of m) f)
 
-pub ruleset hash-rules = (mixed-is, row-hash, hash-start, hash-next, hash-end, hash-row, hash-behind, hash-part, hash-whole, some-row, some-numbered, some-var, some-nothing, first-token, family-hash)
+pub ruleset hash-rules = (row-hash, hash-start, hash-next, hash-end, hash-row, hash-behind, hash-part, hash-whole, some-row, some-numbered, some-var, some-nothing, first-token, family-hash)

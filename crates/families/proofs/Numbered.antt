@@ -39,11 +39,11 @@ use Rattle.model.proofs.Decode.{length-listing}
 use Rattle.family.specs.declared.Register.{Register}
 use Rattle.family.specs.declared.Register.the-variants.{Legacy, Numbered as Digits, Var, Nothing as Neither}
 use Rattle.legacy.specs.Table.{row-name}
-use Rattle.family.specs.Register.{family-of, row}
+use Rattle.family.specs.Register.{family-of}
 use Rattle.assignment.specs.declared.definition.Defined.{Defined}
 use Rattle.assignment.specs.declared.definition.Defined.the-variants.{Family as Of, Nothing}
 use Rattle.assignment.specs.Definitions.{defined}
-use Rattle.families.specs.Families.{hash, hash-of, latest, place, place-of, Linked, Table, families-before, kept, linked, added, emptied, of-register, Ready, Added, Placed, place-defined, defined-at, Numbered}
+use Rattle.families.specs.Families.{hash, hash-of, latest, place, place-of, multiplier, Linked, Table, families-before, kept, linked, added, emptied, of-register, Ready, Added, Placed, place-defined, defined-at, Numbered}
 use Rattle.families.proofs.Lists.{any-snoc, range-snoc}
 use Rattle.families.proofs.Finding.{unique-families, place-here, family-at}
 
@@ -221,7 +221,7 @@ defined-known L i p h f e z =
 
 -- one family more in its chain
 module _ (L : List Line) (count k : ℕ) (t : List ℕ) (T : Linked L count k t) (h : ℕ) (room : 2304 ≤ length t) (few : count ≤ 1024) (inside : k < count)
-    (low : h < 247) (is-hash : h ≡ hash (getD t 247 0) (getD (defined-families L) k [])) where
+    (low : h < 247) (is-hash : h ≡ hash (multiplier t) (getD (defined-families L) k [])) where
   abbrev one : List ℕ
   one = set t (256 + k) (getD t h 0)
 
@@ -229,8 +229,8 @@ module _ (L : List Line) (count k : ℕ) (t : List ℕ) (T : Linked L count k t)
   unfolding linked
   other j a b = getD-set-other one h j (k + 1) 0 b ∙ getD-set-other t (256 + k) j (getD t h 0) 0 a
 
-  multiplier : getD (linked t k h) 247 0 ≡ getD t 247 0
-  multiplier = other 247 (λ q. omega arith) (λ q. omega arith)
+  same-multiplier : multiplier (linked t k h) ≡ multiplier t
+  same-multiplier = other 247 (λ q. omega arith) (λ q. omega arith)
 
   head-at : getD (linked t k h) h 0 ≡ suc k
   unfolding linked
@@ -241,23 +241,23 @@ module _ (L : List Line) (count k : ℕ) (t : List ℕ) (T : Linked L count k t)
   next-at = getD-set-other one h (256 + k) (k + 1) 0 (λ q. omega arith) ∙ getD-set-same t (256 + k) (getD t h 0) 0 (omega arith)
 
   latest-new : (g : ℕ) (b : Bool) → eqb h g ≡ b
-      → latest (getD t 247 0) (defined-families L) g (suc k) ≡ cond b (suc k) (latest (getD t 247 0) (defined-families L) g k)
+      → latest (multiplier t) (defined-families L) g (suc k) ≡ cond b (suc k) (latest (multiplier t) (defined-families L) g k)
   unfolding latest
-  latest-new g b e = ap (λ (c : Bool). cond c (suc k) (latest (getD t 247 0) (defined-families L) g k)) (ap (λ (v : ℕ). eqb v g) (sym is-hash) ∙ e)
+  latest-new g b e = ap (λ (c : Bool). cond c (suc k) (latest (multiplier t) (defined-families L) g k)) (ap (λ (v : ℕ). eqb v g) (sym is-hash) ∙ e)
 
-  head : (g : ℕ) → g < 247 → (b : Bool) → eqb h g ≡ b → getD (linked t k h) g 0 ≡ latest (getD t 247 0) (defined-families L) g (suc k)
+  head : (g : ℕ) → g < 247 → (b : Bool) → eqb h g ≡ b → getD (linked t k h) g 0 ≡ latest (multiplier t) (defined-families L) g (suc k)
   head g l true e = ap (λ (j : ℕ). getD (linked t k h) j 0) (sym (eqb-true h g e)) ∙ head-at ∙ sym (latest-new g true e)
   head g l false e = other g (λ q. omega arith) (λ q. clash (eq-eqb h g (sym q)) e) ∙ T .heads g l ∙ sym (latest-new g false e)
 
-  own : (j : ℕ) → j ≡ k → getD (linked t k h) (256 + j) 0 ≡ latest (getD t 247 0) (defined-families L) (hash (getD t 247 0) (getD (defined-families L) j [])) j
-  own j e = rw e (next-at ∙ T .heads h low ∙ ap (λ (g : ℕ). latest (getD t 247 0) (defined-families L) g k) is-hash)
+  own : (j : ℕ) → j ≡ k → getD (linked t k h) (256 + j) 0 ≡ latest (multiplier t) (defined-families L) (hash (multiplier t) (getD (defined-families L) j [])) j
+  own j e = rw e (next-at ∙ T .heads h low ∙ ap (λ (g : ℕ). latest (multiplier t) (defined-families L) g k) is-hash)
 
   pub linked-more : Linked L count (suc k) (linked t k h)
   linked-more = record {
     size = T .size;
-    heads = λ g l. rw multiplier (head g l (eqb h g) refl);
+    heads = λ g l. rw same-multiplier (head g l (eqb h g) refl);
     rows = λ i j l e. T .rows i j l (sym (other (248 + i) (λ q. omega arith) (λ q. omega arith)) ∙ e);
-    next = λ j l. rw multiplier (elim (eq-or-lt l) [ inl e ↦ own j e | inr m ↦ other (256 + j) (λ e. omega arith) (λ e. omega arith) ∙ T .next j m ]);
+    next = λ j l. rw same-multiplier (elim (eq-or-lt l) [ inl e ↦ own j e | inr m ↦ other (256 + j) (λ e. omega arith) (λ e. omega arith) ∙ T .next j m ]);
     first = λ j l. rw (other (1280 + j) (λ e. omega arith) (λ e. omega arith)) (T .first j l);
   }
 
@@ -279,7 +279,7 @@ module _ (L : List Line) (count : ℕ) (t : List ℕ) (T : Table L count t) (f :
     first = λ k l. elim (eq-or-lt l) [ inl e ↦ first-at k e | inr m ↦ rw (beside (1280 + k) (λ e. omega arith)) (T .first k m) ];
   }
 
-  pub table-added : (h : ℕ) → h < 247 → h ≡ hash (getD t 247 0) f → Table L (suc count) (added t count i h)
+  pub table-added : (h : ℕ) → h < 247 → h ≡ hash (multiplier t) f → Table L (suc count) (added t count i h)
   unfolding added
   table-added h low is-hash = linked-more L (suc count) count (set t (1280 + count) i) line-set h (rw length-set room) (omega arith) (omega arith) low
       (rw (beside 247 (λ q. omega arith), at-count) is-hash)
@@ -321,10 +321,10 @@ module _ (L : List Line) (count : ℕ) (few : count ≤ 1024) where
   rehash-start m t₀ t T room e = rw e (linked-none L count count m t₀ T room)
 
   module _ (k : ℕ) (t : List ℕ) (T : Linked L count k t) where
-    pub rehash-next : (h : ℕ) (t′ : List ℕ) → 2304 ≤ length t → k < count → h ≡ hash-of (getD t 247 0) (family (token (line L (getD t (1280 + k) 0)) 0 .text)) → h < 247
+    pub rehash-next : (h : ℕ) (t′ : List ℕ) → 2304 ≤ length t → k < count → h ≡ hash-of (multiplier t) (family (token (line L (getD t (1280 + k) 0)) 0 .text)) → h < 247
         → t′ ≡ linked t k h → Linked L count (k + 1) t′
     rehash-next h t′ room inside is-hash low e =
-        rw (add-one, e) (linked-more L count k t T h room few inside low (family-at L count k t T k (getD t 247 0) h inside is-hash))
+        rw (add-one, e) (linked-more L count k t T h room few inside low (family-at L count k t T k (multiplier t) h inside is-hash))
 
     pub rehash-end : k ≤ count → count ≤ k → Table L count t
     rehash-end a b = let z : k ≡ count = omega arith in rw z at T
@@ -429,7 +429,7 @@ module _ (L : List Line) (i count : ℕ) (t : List ℕ) (R : Ready L i count t) 
           → Placed L i count (count + 1) t′
       placed-new y a b z t′ A = go found refl (sym (a (token (line L i) 0 .text)) ∙ b) (sym z ∙ m ∙ ap (λ (fs : List (List ℕ)). place-of fs found) front) (A .hash-is)
         where
-          go : (o : Option Family) → found ≡ o → is-some o ≡ true → 0 ≡ place-of (families-before L i) o → A .hash ≡ hash-of (getD t 247 0) o → Placed L i count (count + 1) t′
+          go : (o : Option Family) → found ≡ o → is-some o ≡ true → 0 ≡ place-of (families-before L i) o → A .hash ≡ hash-of (multiplier t) o → Placed L i count (count + 1) t′
           go none k n b vh = clash n refl
           go (some x) k n b vh = elim (place-cases (families-before L i) (x .name)) [
             | inr g ↦ absurd (omega (arith, b, g .1))
@@ -572,10 +572,10 @@ module _ (t : List ℕ) (r : Register) (c : ℕ) where
   unfolding kept
   kept-neither e = rw e
 
-pub added-line : (l : Line) (count i h : ℕ) (r : Register) (s t₀ t₁ t : List ℕ) → s ≡ token l 0 .text → h ≡ hash-of (getD t₀ 247 0) (family-of s r) → h < 247
+pub added-line : (l : Line) (count i h : ℕ) (r : Register) (s t₀ t₁ t : List ℕ) → s ≡ token l 0 .text → h ≡ hash-of (multiplier t₀) (family-of s r) → h < 247
     → t₁ ≡ added t₀ count i h → t ≡ kept t₁ r (count + 1) → Added l count i r t₀ t
 added-line l count i h r s t₀ t₁ t w a b c d =
-    record { hash = h; hash-is = a ∙ ap (λ (s : List ℕ). hash-of (getD t₀ 247 0) (family-of s r)) w; hash-low = b; table = rw c at d }
+    record { hash = h; hash-is = a ∙ ap (λ (s : List ℕ). hash-of (multiplier t₀) (family-of s r)) w; hash-low = b; table = rw c at d }
 
 pub search-by : (fs : List (List ℕ)) (r : Register) (s x : List ℕ) (c : ℕ) → s ≡ x → c ≡ place-of fs (family-of s r) → c ≡ place-of fs (family-of x r)
 search-by fs r s x c w e = rw w at e

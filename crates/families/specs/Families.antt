@@ -6,8 +6,9 @@
 --   place fs f          1 + the place of f among the families fs, 0 where it is not there
 --   place-of fs o       the same of a family
 --   place-defined fs o  the same of a family's name
+--   multiplier t        the multiplier of the table t: its word 247
 --   Linked L count k t  the table t has the first `count` families of the listing L, the first k of them in chains: its words 0 .. 246 have
---                       `latest` for each hash, by the multiplier in word 247; the words 248 .. 255, for each row of the legacy names, 0 or 1 + the
+--                       `latest` for each hash; the words 248 .. 255, for each row of the legacy names, 0 or 1 + the
 --                       place of its family; the words from 256 on, for each of the k, `latest` before it of its own hash; the words from 1280 on,
 --                       for each family, the line of its first definition
 --   Table L count t     the same, all in chains: the table t finds the first `count` families of the listing L
@@ -62,11 +63,14 @@ abbrev pub place-of : List (List ℕ) → Option Family → ℕ
 place-of fs none = 0
 place-of fs (some f) = place fs (f .name)
 
+abbrev pub multiplier : List ℕ → ℕ
+multiplier t = getD t 247 0
+
 pub record Linked (L : List Line) (count k : ℕ) (t : List ℕ) : Type 0 where
   pub size : count ≤ length (defined-families L)
-  pub heads : (h : ℕ) → h < 247 → getD t h 0 ≡ latest (getD t 247 0) (defined-families L) h k
+  pub heads : (h : ℕ) → h < 247 → getD t h 0 ≡ latest (multiplier t) (defined-families L) h k
   pub rows : (i j : ℕ) → i < 8 → getD t (248 + i) 0 ≡ suc j → (j < count) × (getD (defined-families L) j [] ≡ row-name i)
-  pub next : (j : ℕ) → j < k → getD t (256 + j) 0 ≡ latest (getD t 247 0) (defined-families L) (hash (getD t 247 0) (getD (defined-families L) j [])) j
+  pub next : (j : ℕ) → j < k → getD t (256 + j) 0 ≡ latest (multiplier t) (defined-families L) (hash (multiplier t) (getD (defined-families L) j [])) j
   pub first : (j : ℕ) → j < count → defines (line L (getD t (1280 + j) 0)) ≡ some (getD (defined-families L) j [])
 
 abbrev pub Table : List Line → ℕ → List ℕ → Type 0
@@ -97,13 +101,14 @@ linked t k h = set (set t (256 + k) (getD t h 0)) h (k + 1)
 unfoldable pub added : List ℕ → ℕ → ℕ → ℕ → List ℕ
 added t count i h = linked (set t (1280 + count) i) count h
 
+-- the table t with no chains, and the multiplier m
 unfoldable pub emptied : List ℕ → ℕ → List ℕ
 emptied t m = set (replicate 247 0 ++ drop 247 t) 247 m
 
 -- t is t₀ with the family of token 0 of line l, whose answer is r
 pub record Added (l : Line) (count i : ℕ) (r : Register) (t₀ t : List ℕ) : Type 0 where
   pub hash : ℕ
-  pub hash-is : hash ≡ hash-of (getD t₀ 247 0) (family-of (token l 0 .text) r)
+  pub hash-is : hash ≡ hash-of (multiplier t₀) (family-of (token l 0 .text) r)
   pub hash-low : hash < 247
   pub table : t ≡ kept (added t₀ count i hash) r (count + 1)
 

@@ -2,10 +2,10 @@
 // once it is there; any other is found through the chain of those with its hash, 247 chains for all: one look-up compares the families of one
 // chain. All lines together take one look-up a line.
 //
-// The hash is a polynomial in a multiplier modulo a prime, so two names have one hash by few multipliers. Where a family joins a chain of 16
-// or more, the table takes the next of 128 multipliers and all chains are made anew; 1,023 families cannot use up 128 multipliers by filling a
-// chain of each. At most 127 times the families are hashed again, with 18021 hardly ever: r0 to r99 and the legacy names have a chain each, r0
-// to r1014 at most 6 families a chain.
+// The hash is a polynomial in a multiplier, modulo the prime 2^31 - 1 and then modulo 247, so names that share a hash by one multiplier hardly
+// share it by the next. Where a family joins a chain of 16 or more, all chains are made anew by the next of 128 multipliers, which hashes each
+// family once more; after the last the chains are left as they are. By the first, r0 to r99 and the legacy names have a chain each, and no
+// chain of r0 to r1014 has more than 6. 1,023 names chosen to fill a chain of each multiplier in turn come to the 109th (measured, not proved).
 //
 // The table, one lent slice:
 //   words [0, 247)         1 + the last family of each hash, 0 for none
@@ -16,7 +16,7 @@
 // Contracts cite `defined-families` of Rattle.definitions.specs.Recover and `defines` of Rattle.definitions.specs.Statements.
 ghost use mathlib.Core.Path.{_≡_};
 ghost use mathlib.Core.List.{List};
-ghost use Prim.Native.Nat.{ℕ, _+_, _*_, _%_, _<_, _≤_};
+ghost use Prim.Native.Nat.{ℕ, _+_, _<_, _≤_};
 ghost use lib.ListN.{length, take, getD};
 ghost use Rattle.definitions.specs.Lists.{is-some, _==_};
 ghost use Rattle.definitions.specs.Family.{family};
@@ -26,7 +26,7 @@ ghost use Rattle.definitions.specs.Columns.{listing};
 ghost use Rattle.definitions.specs.Recover.{defined-families};
 ghost use Rattle.legacy.specs.Table.{row-name};
 ghost use Rattle.family.specs.Register.{family-of, names-family};
-ghost use Rattle.families.specs.Families.{mixed, hash, hash-of, place-of, row-word, kept, linked, added, emptied, of-register, Table, Ready, Added, Placed, Numbered};
+ghost use Rattle.families.specs.Families.{mixed, hash, hash-of, place-of, multiplier, row-word, kept, linked, added, emptied, of-register, Table, Ready, Added, Placed, Numbered};
 use assignment::definition::Defined;
 use family::Register;
 use model::columns::text_at;
@@ -37,18 +37,27 @@ use words::wide;
 use words::word;
 use words::zero;
 
+// The first multiplier.
 const FIRST: u16 = 18021;
-// The 128th multiplier.
+
+// The last multiplier, 127 times the next after the first.
 const LAST: u16 = 36589;
 
-// The second and the third byte of the names of the rows; the first is `r`.
+// The second byte of the name of each row; the first is `r`.
 const SECONDS: [u8; 8] = *b"abcdsdbs";
 
+// The third byte.
 const THIRDS: [u8; 8] = *b"xxxxiipp";
 
 // The multiplier after m.
 fn next(m: u16) -> u16 {
     narrow(wide(m) * 12 % 65521)
+}
+
+fn widen(x: u8) -> usize
+    ensures { λ r. ⌜ (r ≡ x) × (r < 256) ⌝ }
+{
+    x as usize
 }
 
 // h * m + b, modulo 2^31 - 1: the bits from 31 on are added to those below.
@@ -58,12 +67,6 @@ fn mixed(m: u16, h: usize, b: u8) -> usize
 {
     let x = h * wide(m) + widen(b);
     x % 2147483648 + x / 2147483648
-}
-
-fn widen(x: u8) -> usize
-    ensures { λ r. ⌜ (r ≡ x) × (r < 256) ⌝ }
-{
-    x as usize
 }
 
 fn hash(m: u16, s: &[u8]) -> usize
@@ -89,7 +92,7 @@ fn row_hash(m: u16, i: usize) -> usize
 
 // The hash, by the table's multiplier, of the family that the answer r of the text s is.
 fn hash_of(table: &[u16], s: &[u8], r: Register) -> usize
-    ensures { λ h. ⌜ (h ≡ hash-of (getD (now (table .entry)) 247 0) (family-of (now (s .entry)) r)) × (h < 247) ⌝ }
+    ensures { λ h. ⌜ (h ≡ hash-of (multiplier (now (table .entry))) (family-of (now (s .entry)) r)) × (h < 247) ⌝ }
 {
     let m = word(table, 247);
     match r {
@@ -152,7 +155,7 @@ fn search_chain(
     r: Register,
 ) -> usize
     requires { ⌜ Table (listing (now lines) (now tokens) (now text)) count (now table) × (count ≤ 1024) ⌝ }
-    requires { ⌜ (h ≡ hash-of (getD (now table) 247 0) (family-of (now s) r)) × (h < 247) ⌝ }
+    requires { ⌜ (h ≡ hash-of (multiplier (now table)) (family-of (now s) r)) × (h < 247) ⌝ }
     ensures { λ c. ⌜ c ≡ place-of (take count (defined-families (listing (now (lines .entry)) (now (tokens .entry)) (now (text .entry))))) (family-of (now (s .entry)) r) ⌝ }
 {
     let mut c = number(table, h);
@@ -281,7 +284,7 @@ fn add_line(
     keep_row(table, r, count + 1);
 }
 
-// The chain of family c - 1, from it on, has more than 16 families.
+// The chain has more than 16 families from family c - 1 on. No contract depends on the answer.
 fn is_long(table: &[u16], c: u16) -> bool {
     let mut c = c;
     let mut n: usize = 0;
@@ -307,7 +310,7 @@ fn empty(table: &mut [u16], m: u16)
 // The hash of family k, by its first definition.
 fn family_hash(lines: &[u32], tokens: &[u32], text: &[u8], table: &[u16], k: usize) -> usize
     requires { ⌜ k < 1024 ⌝ }
-    ensures { λ h. ⌜ (let L = listing (now (lines .entry)) (now (tokens .entry)) (now (text .entry)) in let t = now (table .entry) in (h ≡ hash-of (getD t 247 0) (family (token (line L (getD t (1280 + k) 0)) 0 .text))) × (h < 247)) ⌝ }
+    ensures { λ h. ⌜ (let L = listing (now (lines .entry)) (now (tokens .entry)) (now (text .entry)) in let t = now (table .entry) in (h ≡ hash-of (multiplier t) (family (token (line L (getD t (1280 + k) 0)) 0 .text))) × (h < 247)) ⌝ }
 {
     let s = text_at(lines, tokens, text, number(table, 1280 + k), 0);
     let r = family::family(s);
@@ -328,7 +331,7 @@ fn rehash(lines: &[u32], tokens: &[u32], text: &[u8], table: &mut [u16], count: 
     }
 }
 
-// The table goes on with the next multiplier, if there is one, where the last family is in a long chain.
+// Where the last family is in a long chain, the table goes on with the next multiplier, if there is one.
 fn shorten(lines: &[u32], tokens: &[u32], text: &[u8], table: &mut [u16], count: usize)
     requires { ⌜ Table (listing (now lines) (now tokens) (now text)) count (now table) × (count ≤ 1024) × (2304 ≤ length (now table)) ⌝ }
     ensures { λ _. ⌜ Table (listing (now (lines .entry)) (now (tokens .entry)) (now (text .entry))) count (now (table .exit)) ⌝ }

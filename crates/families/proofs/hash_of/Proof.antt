@@ -1,4 +1,4 @@
--- `families::hash_of` meets its contract.
+-- `families::hash_of` meets its contract. By the kind of the answer.
 -- Assumes nothing.
 use Rattle.families.proofs.Hashes.{hash-rules}
 use borrow.Author.Needs.{needs}

@@ -1,4 +1,4 @@
--- `families::is_long` meets its contract.
+-- `families::is_long` ends. It passes at most 16 families.
 -- Assumes nothing.
 use Prim.Native.Nat.{_-_, _<_, _≤_}
 use borrow.Author.Needs.{needs}

@@ -1,4 +1,4 @@
--- `families::link` meets its contract.
+-- `families::link` meets its contract. By its stores.
 -- Assumes nothing.
 use native.Mathlib.Omega.{arith}
 use lib.ListN.{length-set}

@@ -1,4 +1,4 @@
--- `families::place_line` meets its contract.
+-- `families::place_line` meets its contract. A line that defines nothing, and one that defines a family, known or new.
 -- Assumes nothing.
 use Rattle.families.proofs.Numbered.{place-rules}
 use borrow.Author.Needs.{needs}

@@ -1,4 +1,4 @@
--- `families::rehash` meets its contract.
+-- `families::rehash` meets its contract. The first k families are in chains.
 -- Assumes nothing.
 use mathlib.Core.Path.{_≡_}
 use Prim.Native.Nat.{_-_, _≤_}

@@ -1,4 +1,4 @@
--- `families::row_hash` meets its contract.
+-- `families::row_hash` meets its contract. By the three bytes of the name.
 -- Assumes nothing.
 use Rattle.families.proofs.Hashes.{hash-rules}
 use borrow.Author.Needs.{needs}

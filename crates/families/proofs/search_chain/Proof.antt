@@ -1,16 +1,16 @@
 -- `families::search_chain` meets its contract. The family is at no place from c on, and is in the chain at c - 1 if it is anywhere.
 -- Assumes nothing.
-use lib.ListN.{getD}
 use Rattle.definitions.specs.Columns.{listing}
 use Rattle.definitions.specs.Recover.{defined-families}
 use Rattle.family.specs.Register.{family-of}
+use Rattle.families.specs.Families.{multiplier}
 use Rattle.families.proofs.Finding.{search-rules, Searching}
 use borrow.Author.Needs.{needs}
 use Rattle.families.proofs.search_chain.Statement.{statement}
 use Rattle.families.proofs.search_chain.Tie as tie
 
 abbrev Inv-loop : tie.InvT-loop
-Inv-loop lines tokens text table count h s r c₀ c = Searching (getD table 247 0) (defined-families (listing lines tokens text)) count (family-of s r) c
+Inv-loop lines tokens text table count h s r c₀ c = Searching (multiplier table) (defined-families (listing lines tokens text)) count (family-of s r) c
 
 abbrev μ-loop : tie.MeasureT-loop
 μ-loop lines tokens text table count h s r c₀ c = c
