@@ -1,5 +1,6 @@
 -- Labels in buckets.
---   bucket-start, bucket-next, bucket-end       the loop of `bucket`
+--   product-fits, sum-fits, bucket-start, bucket-next, bucket-end    the loop of `bucket`
+--   empty-next                                             the loop of `empty`
 --   indexed-start, indexed-label, indexed-other            the buckets before the first line, after a label, after another line
 --   lookup-start, lookup-found, lookup-next, lookup-end    the loop of `label_line`
 -- Assumes nothing.
@@ -10,7 +11,10 @@ use mathlib.Core.List.{List}
 use mathlib.Core.Option.{Option, none, some}
 use native.Mathlib.Numerals.{add-one}
 use native.Mathlib.Decide.{ℕ-discrete}
+use native.Mathlib.Nat.{mul-le-mul}
 use native.Mathlib.Omega.{arith}
+use mir.Syntax.{w16, w64}
+use mir.Val.{Fits}
 use lib.ListN.{length, getD, set, take, drop}
 use lib.Seq.{getD-set-same, getD-set-other, take-all}
 use Rattle.definitions.specs.Lists.{find, fold, last-position, _==_}
@@ -26,16 +30,30 @@ use Rattle.blocks.proofs.Links.{get-set, linked-set, linked-fuel}
 
 -- The bucket of a name
 
-pub bucket-start : (s : List ℕ) → bucket s ≡ fold mix 0 (drop 0 s)
-unfolding bucket
-bucket-start s = refl
+module _ (hs : List ℕ) (k h : ℕ) (low : h < 65536) (g : (j : ℕ) → Fits w16 (getD hs j 0)) where
+  product : h * getD hs k 0 ≤ 65535 * 65535
+  product = mul-le-mul {n₂ = 65535} {m₂ = 65535} (omega arith) (omega (arith, g k))
 
-module _ (s : List ℕ) (h k : ℕ) (inv : bucket s ≡ fold mix h (drop k s)) where
-  pub bucket-next : (v : ℕ) → v ≡ getD s k 0 → k < length s → bucket s ≡ fold mix ((h * 31 + v) % 256) (drop (k + 1) s)
+  pub product-fits : Fits w64 (h * getD hs k 0)
+  product-fits = record { fits = omega (arith, product) }
+
+  pub sum-fits : (c : ℕ) → c < 256 → Fits w64 (h * getD hs k 0 + c)
+  sum-fits c e = record { fits = omega (arith, product) }
+
+pub bucket-start : (m : ℕ) (s : List ℕ) → bucket m s ≡ fold (mix m) 0 (drop 0 s) % 255
+unfolding bucket
+bucket-start m s = refl
+
+bucket-low : (m : ℕ) (s : List ℕ) → bucket m s < 255
+unfolding bucket
+bucket-low m s = omega arith
+
+module _ (m : ℕ) (s : List ℕ) (h k : ℕ) (inv : bucket m s ≡ fold (mix m) h (drop k s) % 255) where
+  pub bucket-next : (v : ℕ) → v ≡ getD s k 0 → k < length s → bucket m s ≡ fold (mix m) ((h * m + v) % 65536) (drop (k + 1) s) % 255
   unfolding fold
   bucket-next v e g = inv ∙ rw (drop-step 0 s k, e)
 
-  pub bucket-end : length s ≤ k → h ≡ bucket s
+  pub bucket-end : length s ≤ k → h % 255 ≡ bucket m s
   unfolding fold
   bucket-end g = sym (inv ∙ rw (drop-end s k))
 
@@ -82,16 +100,27 @@ lookup-end L s ns p r inv e = sym (inv ∙ rw e)
 
 -- The buckets, line by line
 
-module _ (L : List Line) (hs ns : List ℕ) where
-  pub indexed-start : ((b : ℕ) → getD hs b 0 ≡ 0) → Indexed L hs ns 0
-  unfolding lookup linked find label-line last-position
-  indexed-start e = record { below = λ b. rw (e b) (omega arith); back = λ j g. absurd (omega arith); found = λ s. refl }
+pub empty-next : (hs : List ℕ) (k : ℕ) → ((b : ℕ) → b < k → getD hs b 0 ≡ 0) → k < length hs → (b : ℕ) → b < k + 1 → getD (set hs k 0) b 0 ≡ 0
+empty-next hs k e h b g = get-set hs k b 0 h (λ v. v ≡ 0) (λ z. refl) (λ z. e b (omega arith))
 
-  pub lookup-start : (n : ℕ) → Indexed L hs ns n → n ≡ length L → (s : List ℕ) (p : ℕ) → p ≡ getD hs (bucket s) 0
+-- the bucket of s for the multiplier that hs has
+abbrev bucket-in : List ℕ → List ℕ → ℕ
+bucket-in hs s = bucket (getD hs 255 0) s
+
+module _ (L : List Line) (hs ns : List ℕ) where
+  pub indexed-start : (m : ℕ) → ((b : ℕ) → b < 255 → getD hs b 0 ≡ 0) → Indexed L (set hs 255 m) ns 0
+  unfolding lookup linked find label-line last-position
+  indexed-start m e = record {
+    below = λ b g. rw (getD-set-other hs 255 b m 0 (λ z. omega arith), e b g) (omega arith);
+    back = λ j g. absurd (omega arith);
+    found = λ s. refl;
+  }
+
+  pub lookup-start : (n : ℕ) → Indexed L hs ns n → n ≡ length L → (s : List ℕ) (p : ℕ) → p ≡ getD hs (bucket-in hs s) 0
       → (p ≤ n) × (label-line L s ≡ lookup L ns p p s)
   unfolding lookup
   lookup-start n I e s p q =
-      let b : p ≤ n = rw q (I .below (bucket s)) in (
+      let b : p ≤ n = rw q (I .below (bucket-in hs s) (bucket-low _ s)) in (
         b,
         ap (λ (M : List Line). label-line M s) (sym (take-all n L (omega arith))) ∙ sym (I .found s)
             ∙ rw (← q) (ap (find (λ h. label (line L h) == s)) (linked-fuel ns n p p b (omega arith) (λ j g. I .back j (omega arith)))),
@@ -103,41 +132,47 @@ module _ (L : List Line) (hs ns : List ℕ) where
         linked-set ns i v k p b (λ j q. I .back j (omega arith)) ∙ linked-fuel ns k i p c b (λ j q. I .back j (omega arith))
 
     -- a bucket that is left alone holds what it held
-    kept : (v : ℕ) (s : List ℕ) → lookup L (set ns i v) (i + 1) (getD hs (bucket s) 0) s ≡ label-line (take i L) s
+    kept : (v : ℕ) (s : List ℕ) → lookup L (set ns i v) (i + 1) (getD hs (bucket-in hs s) 0) s ≡ label-line (take i L) s
     unfolding lookup
     kept v s =
-        let b = I .below (bucket s) in
-        ap (find (λ h. label (line L h) == s)) (walk v (i + 1) (getD hs (bucket s) 0) b (omega arith)) ∙ I .found s
+        let b = I .below (bucket-in hs s) (bucket-low _ s) in
+        ap (find (λ h. label (line L h) == s)) (walk v (i + 1) (getD hs (bucket-in hs s) 0) b (omega arith)) ∙ I .found s
 
     pub indexed-other : (t : Bool) → t ≡ is-label (line L i) → t ≡ false → Indexed L hs (set ns i 0) (i + 1)
     indexed-other t u v = record {
-      below = λ b. omega (arith, I .below b);
+      below = λ b a. omega (arith, I .below b a);
       back = λ j q. get-set ns i j 0 g (λ v. v ≤ j) (λ z. omega arith) (λ z. I .back j (omega arith));
       found = λ s. kept 0 s ∙ sym (label-at L i s h ∙ rw (← u, v));
     }
 
-    pub indexed-label : (t : Bool) → t ≡ is-label (line L i) → t ≡ true → (b : ℕ) (x : List ℕ) → b ≡ bucket x → x ≡ label (line L i) → b < length hs
+    pub indexed-label : (t : Bool) → t ≡ is-label (line L i) → t ≡ true → (b : ℕ) (x : List ℕ) → b ≡ bucket-in hs x → x ≡ label (line L i) → 256 ≤ length hs
         → Indexed L (set hs b (i + 1)) (set ns i (getD hs b 0)) (i + 1)
     unfolding lookup linked find
     indexed-label t u v b x q y m = record {
-      below = λ x. get-set hs b x (i + 1) m (λ v. v ≤ i + 1) (λ z. omega arith) (λ z. omega (arith, I .below x));
-      back = λ j a. get-set ns i j (getD hs b 0) g (λ v. v ≤ j) (λ z. omega (arith, I .below b)) (λ z. I .back j (omega arith));
-      found = λ s. go s (ℕ-discrete (bucket s) b);
+      below = λ x a. get-set hs b x (i + 1) inside (λ v. v ≤ i + 1) (λ z. omega arith) (λ z. omega (arith, I .below x a));
+      back = λ j a. get-set ns i j (getD hs b 0) g (λ v. v ≤ j) (λ z. omega (arith, I .below b low)) (λ z. I .back j (omega arith));
+      found = λ s. rw (getD-set-other hs b 255 (i + 1) 0 (λ z. omega (arith, low))) (go s (ℕ-discrete (bucket-in hs s) b));
     }
       where
-        go : (s : List ℕ) → Dec (bucket s ≡ b)
-            → lookup L (set ns i (getD hs b 0)) (i + 1) (getD (set hs b (i + 1)) (bucket s) 0) s ≡ label-line (take (i + 1) L) s
+        low : b < 255
+        low = rw q (bucket-low _ x)
+
+        inside : b < length hs
+        inside = omega (arith, low)
+
+        go : (s : List ℕ) → Dec (bucket-in hs s ≡ b)
+            → lookup L (set ns i (getD hs b 0)) (i + 1) (getD (set hs b (i + 1)) (bucket-in hs s) 0) s ≡ label-line (take (i + 1) L) s
         go s (yes z) =
-            let w = I .below b in
+            let w = I .below b low in
             let f : lookup L (set ns i (getD hs b 0)) i (getD hs b 0) s ≡ label-line (take i L) s =
             ap (find (λ h. label (line L h) == s)) (walk (getD hs b 0) i (getD hs b 0) w w)
             ∙ ap (λ (x : ℕ). lookup L ns i (getD hs x 0) s) (sym z) ∙ I .found s in
             let last : label-line (take (suc i) L) s ≡ cond (named s (line L i)) (some i) (label-line (take i L) s) = rw (add-one i) at (label-at L i s h) in
-            rw (z, getD-set-same hs b (i + 1) 0 m, add-one i, getD-set-same ns i (getD hs b 0) 0 g)
+            rw (z, getD-set-same hs b (i + 1) 0 inside, add-one i, getD-set-same ns i (getD hs b 0) 0 g)
             (ap (cond (label (line L i) == s) (some i)) f
             ∙ sym (last ∙ rw (← u, v)))
         go s (no z) =
-            rw (getD-set-other hs b (bucket s) (i + 1) 0 z)
-            (kept (getD hs b 0) s ∙ sym (label-at L i s h ∙ rw (← u, v, ne-== (label (line L i)) s (λ e. z (sym (q ∙ ap bucket (y ∙ e)))))))
+            rw (getD-set-other hs b (bucket-in hs s) (i + 1) 0 z)
+            (kept (getD hs b 0) s ∙ sym (label-at L i s h ∙ rw (← u, v, ne-== (label (line L i)) s (λ e. z (sym (q ∙ ap (bucket-in hs) (y ∙ e)))))))
 
-pub ruleset buckets = (bucket-start, bucket-next, bucket-end, lookup-found, lookup-next, lookup-end)
+pub ruleset buckets = (product-fits, sum-fits, bucket-start, bucket-next, bucket-end, lookup-found, lookup-next, lookup-end)

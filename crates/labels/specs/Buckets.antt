@@ -1,6 +1,6 @@
--- The labels of a listing as the code keeps them, in buckets by their names: of a bucket the entry of its last label, of a label the entry of
--- the one before it in its bucket.
---   mix h c, bucket s       the bucket of the name s, byte by byte; any function of s would do
+-- The labels of a listing as the code keeps them, in 255 buckets by their names: of a bucket the entry of its last label, of a label the entry
+-- of the one before it in its bucket. Behind the buckets stands the multiplier of the hash, which the code chooses so that buckets stay small.
+--   mix m h c, bucket m s   the bucket of the name s for the multiplier m, byte by byte; any function of s would do
 --   lookup L ns k p s       the first label named s from the entry p on, of at most k
 --   Indexed L hs ns i       the labels of the first i lines are in their buckets
 --   line-of r               the line that the code answers
@@ -18,19 +18,19 @@ use Rattle.blocks.specs.Entries.{linked}
 use Rattle.labels.specs.declared.Label.{Label}
 use Rattle.labels.specs.declared.Label.the-variants.{At, Missing}
 
-abbrev pub mix : ℕ → ℕ → ℕ
-mix h c = (h * 31 + c) % 256
+abbrev pub mix : ℕ → ℕ → ℕ → ℕ
+mix m h c = (h * m + c) % 65536
 
-unfoldable pub bucket : List ℕ → ℕ
-bucket s = fold mix 0 s
+unfoldable pub bucket : ℕ → List ℕ → ℕ
+bucket m s = fold (mix m) 0 s % 255
 
 unfoldable pub lookup : List Line → List ℕ → ℕ → ℕ → List ℕ → Option ℕ
 lookup L ns k p s = find (λ h. label (line L h) == s) (linked ns k p)
 
 pub record Indexed (L : List Line) (hs ns : List ℕ) (i : ℕ) : Type 0 where
-  pub below : (b : ℕ) → getD hs b 0 ≤ i
+  pub below : (b : ℕ) → b < 255 → getD hs b 0 ≤ i
   pub back : (j : ℕ) → j < i → getD ns j 0 ≤ j
-  pub found : (s : List ℕ) → lookup L ns i (getD hs (bucket s) 0) s ≡ label-line (take i L) s
+  pub found : (s : List ℕ) → lookup L ns i (getD hs (bucket (getD hs 255 0) s) 0) s ≡ label-line (take i L) s
 
 abbrev pub line-of : Label → Option ℕ
 line-of (At h) = some h

@@ -1,8 +1,10 @@
 // The labels of a listing, and where its gotos lead: question 9.
 //
-// Labels stand in 256 buckets by their names, each put in front in line order, so that of equal ones the last is met first. `index`
-// takes time linear in the tokens and in the bytes of the labels; `label_line` in the name and in the labels of its bucket. Contracts
-// cite `label-line`, `leads` and `gotos-lead` of Rattle.definitions.specs.FlowGraph.
+// Labels stand in 255 buckets by their names, each put in front in line order, so that of equal ones the last is met first. `heads` has
+// the buckets and, at place 255, the multiplier of the hash. Where a bucket holds more than 16 labels, all are put into their buckets
+// anew for the next of 8 multipliers, so that few labels share one. `index` takes time linear in the tokens and in the bytes of the
+// labels, at most 8 times; `label_line` in the name and in the labels of its bucket. Contracts cite `label-line`, `leads` and `gotos-lead`
+// of Rattle.definitions.specs.FlowGraph.
 ghost use mathlib.Core.Path.{_≡_};
 ghost use Prim.Native.Nat.{ℕ, _+_, _≤_, _<_};
 ghost use lib.ListN.{length, getD};
@@ -30,17 +32,19 @@ fn wide(b: u8) -> usize
     b as usize
 }
 
-// The bucket of a name.
-fn bucket(s: &[u8]) -> usize
-    ensures { λ r. ⌜ (r ≡ bucket (now (s .entry))) × (r < 256) ⌝ }
+// The bucket of a name, for the multiplier that `heads` has.
+fn bucket(heads: &[u16], s: &[u8]) -> usize
+    requires { ⌜ 256 ≤ length (now heads) ⌝ }
+    ensures { λ r. ⌜ (r ≡ bucket (getD (now (heads .entry)) 255 0) (now (s .entry))) × (r < 255) ⌝ }
 {
+    let m = heads[255] as usize;
     let mut h = 0;
     let mut k = 0;
     while k < s.len() {
-        h = (h * 31 + wide(s[k])) % 256;
+        h = (h * m + wide(s[k])) % 65536;
         k += 1;
     }
-    h
+    h % 255
 }
 
 // Line i is a label: of a line that has not two tokens only its word is read.
@@ -53,7 +57,25 @@ fn has_label(lines: &[u32], tokens: &[u32], text: &[u8], i: usize) -> bool
     is_label(lines, tokens, text, i)
 }
 
-// Line i more.
+// From the entry p on there are 16 labels or more. Nothing is promised of it: by a wrong answer labels would only be found more slowly.
+fn is_long(nexts: &[u16], p: usize) -> bool {
+    let mut q = p;
+    let mut left: usize = 16;
+    while 0 < left {
+        if q == 0 {
+            return false;
+        }
+        let h = q - 1;
+        if nexts.len() <= h {
+            return false;
+        }
+        q = nexts[h] as usize;
+        left -= 1;
+    }
+    true
+}
+
+// Line i more; answers whether its bucket now holds more than 16 labels.
 fn index_line(
     lines: &[u32],
     tokens: &[u32],
@@ -61,23 +83,64 @@ fn index_line(
     heads: &mut [u16],
     nexts: &mut [u16],
     i: usize,
-)
+) -> bool
     requires { ⌜ (i < length (now lines)) × (256 ≤ length (now heads)) × (i < length (now nexts)) × (i < 1024) ⌝ }
     requires { ⌜ Indexed (listing (now lines) (now tokens) (now text)) (now heads) (now nexts) i ⌝ }
-    ensures { λ z.
+    ensures { λ _.
         ⌜ (let L = listing (now (lines .entry)) (now (tokens .entry)) (now (text .entry)) in
         Indexed L (now (heads .exit)) (now (nexts .exit)) (i + 1)) ⌝ }
 {
     if has_label(lines, tokens, text, i) {
-        let b = bucket(text_at(lines, tokens, text, i, 0));
-        nexts[i] = heads[b];
+        let b = bucket(heads, text_at(lines, tokens, text, i, 0));
+        let p = heads[b];
+        nexts[i] = p;
         heads[b] = (i + 1) as u16;
+        is_long(nexts, p as usize)
     } else {
         nexts[i] = 0;
+        false
     }
 }
 
-// Puts every label into its bucket. The buckets are empty, and there is an entry for each line.
+// Puts every label into its bucket for the multiplier m; answers whether a bucket holds more than 16.
+fn index_all(
+    lines: &[u32],
+    tokens: &[u32],
+    text: &[u8],
+    heads: &mut [u16],
+    nexts: &mut [u16],
+    m: usize,
+) -> bool
+    requires { ⌜ (256 ≤ length (now heads)) × (length (now lines) ≤ length (now nexts)) × (length (now lines) ≤ 1024) × (m < 65536) ⌝ }
+    requires { ⌜ ((b : ℕ) → b < 255 → getD (now heads) b 0 ≡ 0) ⌝ }
+    ensures { λ _.
+        ⌜ (let L = listing (now (lines .entry)) (now (tokens .entry)) (now (text .entry)) in
+        Indexed L (now (heads .exit)) (now (nexts .exit)) (length (now (lines .entry)))) ⌝ }
+{
+    heads[255] = m as u16;
+    let mut long = false;
+    let mut i = 0;
+    while i < lines.len() {
+        long = long | index_line(lines, tokens, text, heads, nexts, i);
+        i += 1;
+    }
+    long
+}
+
+// Empties the first n words.
+fn empty(heads: &mut [u16], n: usize)
+    requires { ⌜ n ≤ length (now heads) ⌝ }
+    ensures { λ _. ⌜ ((b : ℕ) → b < n → getD (now (heads .exit)) b 0 ≡ 0) ⌝ }
+{
+    let mut k = 0;
+    while k < n {
+        heads[k] = 0;
+        k += 1;
+    }
+}
+
+// Puts every label into its bucket. The buckets are empty, and there is an entry for each line. The multipliers are odd, so that no byte
+// of a name is lost; by the first, 1,000 labels such as label_12, loc_401a3c or L7 are at most 9 to a bucket.
 pub fn index(lines: &[u32], tokens: &[u32], text: &[u8], heads: &mut [u16], nexts: &mut [u16])
     requires { ⌜ (256 ≤ length (now heads)) × (length (now lines) ≤ length (now nexts)) × (length (now lines) ≤ 1024) ⌝ }
     requires { ⌜ ((b : ℕ) → getD (now heads) b 0 ≡ 0) ⌝ }
@@ -85,10 +148,15 @@ pub fn index(lines: &[u32], tokens: &[u32], text: &[u8], heads: &mut [u16], next
         ⌜ (let L = listing (now (lines .entry)) (now (tokens .entry)) (now (text .entry)) in
         Indexed L (now (heads .exit)) (now (nexts .exit)) (length (now (lines .entry)))) ⌝ }
 {
-    let mut i = 0;
-    while i < lines.len() {
-        index_line(lines, tokens, text, heads, nexts, i);
-        i += 1;
+    let mut m = 31;
+    let mut left: usize = 7;
+    while index_all(lines, tokens, text, heads, nexts, m) {
+        if left == 0 {
+            return;
+        }
+        empty(heads, 255);
+        m = (m * 37 + 18) % 65536;
+        left -= 1;
     }
 }
 
@@ -105,7 +173,7 @@ pub fn label_line(
     requires { ⌜ Indexed (listing (now lines) (now tokens) (now text)) (now heads) (now nexts) (length (now lines)) ⌝ }
     ensures { λ r. ⌜ line-of r ≡ label-line (listing (now (lines .entry)) (now (tokens .entry)) (now (text .entry))) (now (s .entry)) ⌝ }
 {
-    let b = bucket(s);
+    let b = bucket(heads, s);
     let mut p = heads[b] as usize;
     while p != 0 {
         let h = p - 1;

@@ -1,19 +1,26 @@
 -- `labels::bucket` meets its contract. The bucket is what the bytes from k on make of the number so far. Assumes nothing.
-use Prim.Native.Nat.{_<_, _≤_, _-_}
+use Prim.Native.Nat.{_<_, _≤_, _-_, _%_}
 use mathlib.Core.Path.{_≡_}
 use borrow.Author.Needs.{needs}
 use lib.ListN.{length, drop}
 use Rattle.definitions.specs.Lists.{fold}
+use Rattle.blocks.proofs.Links.{wider}
 use Rattle.labels.specs.Buckets.{mix, bucket}
 use Rattle.labels.proofs.Buckets.{buckets}
 use Rattle.labels.proofs.bucket.Statement.{statement}
 use Rattle.labels.proofs.bucket.Tie as tie
 
 abbrev Inv-loop : tie.InvT-loop
-Inv-loop s h₀ k₀ h k = (k ≤ length s) × (h < 256) × (bucket s ≡ fold mix h (drop k s))
+Inv-loop heads s m h₀ k₀ h k = (k ≤ length s) × (h < 65536) × (bucket m s ≡ fold (mix m) h (drop k s) % 255)
 
 abbrev μ-loop : tie.MeasureT-loop
-μ-loop s h₀ k₀ h k = length s - k
+μ-loop heads s m h₀ k₀ h k = length s - k
+
+shared-slice-read-m : tie.Need-shared-slice-read-m Inv-loop μ-loop
+shared-slice-read-m c = search (buckets, needs)
+
+cast-m : tie.Need-cast-m Inv-loop μ-loop
+cast-m c = search (wider, needs)
 
 loop-holds : tie.Need-loop-holds Inv-loop μ-loop
 loop-holds c = search (buckets, needs)
@@ -48,6 +55,8 @@ bucket-spec =
     (tie.spec
     Inv-loop
     μ-loop
+    shared-slice-read-m
+    cast-m
     loop-holds
     mul-h
     shared-slice-read-wide

@@ -1,38 +1,22 @@
--- `labels::index` meets its contract. The labels of the first i lines are in their buckets. Assumes nothing.
-use Prim.Native.Nat.{_≤_, _-_}
+-- `labels::index` meets its contract. Before each time the buckets are empty. Assumes nothing.
+use Prim.Native.Nat.{ℕ, _<_}
 use mathlib.Core.Path.{_≡_, refl, _∙_}
-use native.Mathlib.Omega.{arith}
 use borrow.Author.Needs.{needs}
-use denote.Ref.{now}
-use lib.ListN.{length}
-use Rattle.definitions.specs.Columns.{listing}
-use Rattle.labels.specs.Buckets.{Indexed}
-use Rattle.labels.proofs.Buckets.{indexed-start}
+use lib.ListN.{length, getD}
 use Rattle.labels.proofs.index.Statement.{statement}
 use Rattle.labels.proofs.index.Tie as tie
 
 abbrev Inv-loop : tie.InvT-loop
-Inv-loop lines tokens text heads₀ nexts₀ i₀ heads nexts i = (i ≤ length lines) × (length heads ≡ length heads₀) × (length nexts ≡ length nexts₀) × Indexed (listing lines tokens text) heads nexts i
+Inv-loop lines tokens text heads₀ nexts₀ m₀ left₀ heads nexts m left = (m < 65536) × (length heads ≡ length heads₀) × (length nexts ≡ length nexts₀) × ((b : ℕ) → b < 255 → getD heads b 0 ≡ 0)
 
 abbrev μ-loop : tie.MeasureT-loop
-μ-loop lines tokens text heads₀ nexts₀ i₀ heads nexts i = length lines - i
+μ-loop lines tokens text heads₀ nexts₀ m₀ left₀ heads nexts m left = left
 
 loop-holds : tie.Need-loop-holds Inv-loop μ-loop
-loop-holds c = (search needs, refl, refl, indexed-start _ _ _ (c .before .before .before .before .before .pre .1))
+loop-holds c = (search needs, refl, refl, λ b h. c .before .before .before .before .before .pre .1 b)
 
-index-line-requires : tie.Need-index-line-requires Inv-loop μ-loop
-index-line-requires c κs = search needs
-
-add-i : tie.Need-add-i Inv-loop μ-loop
-add-i c = search needs
-
-loop-less : tie.Need-loop-less Inv-loop μ-loop
-loop-less c = search needs
-
-loop-again : tie.Need-loop-again Inv-loop μ-loop
-loop-again c =
-    let l = c .before .before .before .before .before .before .before .before .loop in
-    (search needs, c .before .before .before .before .index-line .kept .1 .1 .1 .0 ∙ l .inv .1, c .before .before .before .before .index-line .kept .1 .1 .1 .1 .0 ∙ l .inv .2, c .before .before .before .before .index-line .ensures)
+index-all-requires : tie.Need-index-all-requires Inv-loop μ-loop
+index-all-requires c κs = search needs
 
 same-length : tie.Need-same-length Inv-loop μ-loop
 same-length c = search needs
@@ -41,11 +25,36 @@ same-length-2 : tie.Need-same-length-2 Inv-loop μ-loop
 same-length-2 c = search needs
 
 returns : tie.Need-returns Inv-loop μ-loop
-returns c =
-    let l = c .before .loop in
-    let a = c .before .before .before .before .before .before .before .args in
-    let e : l .i ≡ length (now (a .lines)) = omega arith in
-    rw (← e) (l .inv .3)
+returns c = c .before .before .before .before .before .before .index-all .ensures
+
+empty-requires : tie.Need-empty-requires Inv-loop μ-loop
+empty-requires c κs = search needs
+
+mul-m : tie.Need-mul-m Inv-loop μ-loop
+mul-m c = search needs
+
+add-m : tie.Need-add-m Inv-loop μ-loop
+add-m c = search needs
+
+sub-left : tie.Need-sub-left Inv-loop μ-loop
+sub-left c = search needs
+
+loop-less : tie.Need-loop-less Inv-loop μ-loop
+loop-less c = search needs
+
+loop-again : tie.Need-loop-again Inv-loop μ-loop
+loop-again c =
+    let l = c .before .before .before .before .before .before .before .before .before .before .before .before .before .loop in
+    (search needs, c .before .before .empty .kept .0 ∙ c .before .before .before .before .before .before .before .before .before .before .index-all .kept .1 .1 .1 .0 ∙ l .inv .1, c .before .before .before .before .before .before .before .before .before .before .index-all .kept .1 .1 .1 .1 .0 ∙ l .inv .2, c .before .before .empty .ensures)
+
+same-length-3 : tie.Need-same-length-3 Inv-loop μ-loop
+same-length-3 c = search needs
+
+same-length-4 : tie.Need-same-length-4 Inv-loop μ-loop
+same-length-4 c = search needs
+
+returns-2 : tie.Need-returns-2 Inv-loop μ-loop
+returns-2 c = c .before .before .before .before .before .index-all .ensures
 
 pub index-spec : {M : Type 1} → statement M
 index-spec =
@@ -54,10 +63,16 @@ index-spec =
     Inv-loop
     μ-loop
     loop-holds
-    index-line-requires
-    add-i
-    loop-less
-    loop-again
+    index-all-requires
     same-length
     same-length-2
-    returns)
+    returns
+    empty-requires
+    mul-m
+    add-m
+    sub-left
+    loop-less
+    loop-again
+    same-length-3
+    same-length-4
+    returns-2)

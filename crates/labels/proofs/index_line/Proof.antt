@@ -4,7 +4,7 @@ use borrow.Author.Needs.{needs}
 use denote.Ref.{now}
 use Rattle.definitions.specs.Columns.{listing}
 use Rattle.model.proofs.Decode.{length-listing}
-use Rattle.labels.specs.Buckets.{bucket}
+use Rattle.blocks.proofs.Links.{wider}
 use Rattle.labels.proofs.Buckets.{indexed-label, indexed-other}
 use Rattle.labels.proofs.index_line.Statement.{statement}
 use Rattle.labels.proofs.index_line.Tie as tie
@@ -18,14 +18,14 @@ text-at-requires c κs = search needs
 bucket-requires : tie.Need-bucket-requires
 bucket-requires c κs = search needs
 
+mul-p : tie.Need-mul-p
+mul-p c = search needs
+
+slice-read-p : tie.Need-slice-read-p
+slice-read-p c = search needs
+
 mul-nexts : tie.Need-mul-nexts
 mul-nexts c = search needs
-
-slice-read-nexts : tie.Need-slice-read-nexts
-slice-read-nexts c = search needs
-
-mul-nexts-2 : tie.Need-mul-nexts-2
-mul-nexts-2 c = search needs
 
 slice-write-nexts : tie.Need-slice-write-nexts
 slice-write-nexts c = search needs
@@ -42,8 +42,14 @@ mul-heads c = search needs
 slice-write-heads : tie.Need-slice-write-heads
 slice-write-heads c = search needs
 
-mul-nexts-3 : tie.Need-mul-nexts-3
-mul-nexts-3 c = search needs
+cast-is-long : tie.Need-cast-is-long
+cast-is-long c = search (wider, needs)
+
+is-long-requires : tie.Need-is-long-requires
+is-long-requires c κs = search needs
+
+mul-nexts-2 : tie.Need-mul-nexts-2
+mul-nexts-2 c = search needs
 
 slice-write-nexts-2 : tie.Need-slice-write-nexts-2
 slice-write-nexts-2 c = search needs
@@ -56,10 +62,10 @@ same-length-2 c = search needs
 
 returns : tie.Need-returns
 returns c =
-    let a = c .before .before .before .before .before .before .before .before .before .before .args in
-    indexed-label (listing (now (a .lines)) (now (a .tokens)) (now (a .text))) (now (a .heads)) (now (a .nexts)) (a .i) (c .before .before .before .before .before .before .before .before .before .before .pre .1)
-    (omega (arith, c .before .before .before .before .before .before .before .before .before .before .pre .0 .0, length-listing (now (a .lines)) (now (a .tokens)) (now (a .text)))) (omega arith)
-    (c .before .before .before .before .has-label .result) (c .before .before .before .before .has-label .ensures) (c .before .before .before .if1 .taken) (c .before .bucket .result) _ (c .before .bucket .ensures .0) (c .before .before .text-at .ensures) (omega arith)
+    let a = c .before .before .before .before .before .before .before .before .before .before .before .before .before .args in
+    indexed-label (listing (now (a .lines)) (now (a .tokens)) (now (a .text))) (now (a .heads)) (now (a .nexts)) (a .i) (c .before .before .before .before .before .before .before .before .before .before .before .before .before .pre .1)
+    (omega (arith, c .before .before .before .before .before .before .before .before .before .before .before .before .before .pre .0 .0, length-listing (now (a .lines)) (now (a .tokens)) (now (a .text)))) (omega arith)
+    (c .before .before .before .before .before .before .before .has-label .result) (c .before .before .before .before .before .before .before .has-label .ensures) (c .before .before .before .before .before .before .if1 .taken) (c .before .before .before .bucket .result) _ (c .before .before .before .bucket .ensures .0) (c .before .before .before .before .text-at .ensures) (c .before .before .before .before .before .before .before .before .before .before .before .before .before .pre .0 .1)
 
 same-length-3 : tie.Need-same-length-3
 same-length-3 c = search needs
@@ -78,15 +84,17 @@ index-line-spec =
     has-label-requires
     text-at-requires
     bucket-requires
+    mul-p
+    slice-read-p
     mul-nexts
-    slice-read-nexts
-    mul-nexts-2
     slice-write-nexts
     add-heads
     cast-heads
     mul-heads
     slice-write-heads
-    mul-nexts-3
+    cast-is-long
+    is-long-requires
+    mul-nexts-2
     slice-write-nexts-2
     same-length
     same-length-2
