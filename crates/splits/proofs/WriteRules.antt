@@ -4,10 +4,10 @@
 --   number-by, mark-by, over-start, over-next, over-done     the loop of `write_part`
 --   over-join                                 one part after the other
 --   line-order-by, line-by                    `write_line`
---   count-fits, count-by                      `count_line`
+--   count-fits, count-low, count-by           `count_before`
 --   Tallied ds i cs             cs has how many of the first i entries of ds are c, for each c
 --   Written l t g us ms₀ i ms   ms is ms₀ with g of the elements us of the first i lines
---   tallied-start, tallied-few, tallied-next, number-tallied, written-start, written-next, written-end     the loop of `write_lines`
+--   start-low, tallied-start, tallied-few, tallied-next, number-tallied, written-start, written-next, written-end     the loop of `write_lines`
 -- Assumes nothing.
 use Prim.Native.Nat.{ℕ, zero, suc, _+_, _-_, _<_, _≤_}
 use mathlib.Core.Path.{_≡_, refl, sym, ap, _∙_, fun-ext}
@@ -128,17 +128,23 @@ module _ (l t : List ℕ) (i s e : ℕ) (p : s ≡ line-start l i) (q : e ≡ li
   pub line-by : {A : Type 0} (f : A → ℕ) (us : List A) (ms next : List ℕ) → next ≡ over s e f us ms → next ≡ over (line-start l i) (line-end l t i) f us ms
   line-by f us ms next u = rw (p, q) at u
 
-module _ (ds cs : List ℕ) (i c w : ℕ) (p : c ≡ getD ds i 0) (q : w ≡ getD cs c 0) where
-  pub count-fits : getD cs (getD ds i 0) 0 < 65535 → Fits w16 (w + 1)
-  count-fits h = record { fits = (let z : w < 65535 = rw (q, p) h in omega arith) }
+module _ (ds cs : List ℕ) (e k c w : ℕ) (r : k ≡ e - 1) (p : c ≡ getD ds k 0) (q : w ≡ getD cs c 0) where
+  pub count-fits : getD cs (getD ds (e - 1) 0) 0 < 65535 → Fits w16 (w + 1)
+  count-fits h = record { fits = (let z : w < 65535 = rw (q, p, r) h in omega arith) }
 
-  pub count-by : set cs c (w + 1) ≡ set cs (getD ds i 0) (getD cs (getD ds i 0) 0 + 1)
-  count-by = rw (q, p)
+  pub count-low : getD ds (e - 1) 0 < length cs → c < length cs
+  count-low h = rw (p, r) h
+
+  pub count-by : set cs c (w + 1) ≡ set cs (getD ds (e - 1) 0) (getD cs (getD ds (e - 1) 0) 0 + 1)
+  count-by = rw (q, p, r)
 
 -- The loops
 
 pub record Tallied (ds : List ℕ) (i : ℕ) (cs : List ℕ) : Type 0 where
   pub at : (c : ℕ) → getD cs c 0 ≡ tally ds i c
+
+pub start-low : (ds : List ℕ) (n : ℕ) → ((j : ℕ) → j < n → getD ds j 0 < 1024) → (k : ℕ) → k < n → (m : ℕ) → 1024 ≤ m → getD ds k 0 < m
+start-low ds n p k h m e = omega (arith, p k h)
 
 pub tallied-start : (ds cs : List ℕ) → ((c : ℕ) → getD cs c 0 ≡ 0) → Tallied ds 0 cs
 unfolding tally range filter
@@ -159,11 +165,11 @@ module _ (ds : List ℕ) (i : ℕ) (cs : List ℕ) (T : Tallied ds i cs) where
       ∙ count-snoc (λ j. eqb (getD ds j 0) c) (up-to i) (0 + i)
       ∙ ap (λ (j : ℕ). count (λ j. eqb (getD ds j 0) c) (up-to i) + cond (eqb (getD ds j 0) c) 1 0) (zero-add i)
 
-  pub tallied-next : (next : List ℕ) → getD ds i 0 < length cs → next ≡ set cs (getD ds i 0) (getD cs (getD ds i 0) 0 + 1) → Tallied ds (i + 1) next
-  tallied-next next h e = record {
+  pub tallied-next : (k : ℕ) → k ≡ i → (next : List ℕ) → getD ds i 0 < length cs → next ≡ set cs (getD ds k 0) (getD cs (getD ds k 0) 0 + 1) → Tallied ds (i + 1) next
+  tallied-next k q next h e = record {
     at = λ c. elim (ℕ-discrete (getD ds i 0) c) [
-      | yes z ↦ rw (e, ← z, getD-set-same cs (getD ds i 0) (getD cs (getD ds i 0) 0 + 1) 0 h, T .at (getD ds i 0), tally-more (getD ds i 0), eq-eqb (getD ds i 0) (getD ds i 0) refl)
-      | no z ↦ rw (e, getD-set-other cs (getD ds i 0) c (getD cs (getD ds i 0) 0 + 1) 0 (λ y. z (sym y)), T .at c, tally-more c, ne-eqb (getD ds i 0) c z) (omega arith)
+      | yes z ↦ rw (e, q, ← z, getD-set-same cs (getD ds i 0) (getD cs (getD ds i 0) 0 + 1) 0 h, T .at (getD ds i 0), tally-more (getD ds i 0), eq-eqb (getD ds i 0) (getD ds i 0) refl)
+      | no z ↦ rw (e, q, getD-set-other cs (getD ds i 0) c (getD cs (getD ds i 0) 0 + 1) 0 (λ y. z (sym y)), T .at c, tally-more c, ne-eqb (getD ds i 0) c z) (omega arith)
     ];
   }
 
@@ -191,4 +197,4 @@ module _ (l t : List ℕ) (ok : covers 512 0 l (length t) ≡ true) {A : Type 0}
 pub number-tallied : (fs : List (List ℕ)) (ds : List ℕ) (i : ℕ) (cs : List ℕ) → Tallied ds (i + 1) cs → token-number fs (λ c. getD cs c 0) ≡ number-at fs ds i
 number-tallied fs ds i cs T = ap (token-number fs) (fun-ext (λ c. T .at c))
 
-pub ruleset writes = (number-none, number-zero, number-some, mark-none, mark-zero, mark-yes, mark-no, count-fits, count-by)
+pub ruleset writes = (number-none, number-zero, number-some, mark-none, mark-zero, mark-yes, mark-no, count-fits, count-low, count-by)

@@ -4,7 +4,7 @@
 // `number-is` and `mark-is` of proofs/Places say that these are `split-key` and `split-starts` of Rattle.definitions.specs.SplitPoints.
 ghost use mathlib.Core.Path.{_≡_};
 ghost use mathlib.Core.Bool.{true};
-ghost use Prim.Native.Nat.{ℕ, _+_, _≤_, _<_};
+ghost use Prim.Native.Nat.{ℕ, _+_, _-_, _≤_, _<_};
 ghost use lib.ListN.{length, getD, set};
 ghost use Rattle.definitions.specs.Columns.{token-list, listing};
 ghost use Rattle.definitions.specs.Questions.{covers};
@@ -232,12 +232,20 @@ fn write_line(
     }
 }
 
-// One more of what `starts` has for line i.
-fn count_line(starts: &[u16], counts: &mut [u16], i: usize)
-    requires { ⌜ (getD (now starts) i 0 < length (now counts)) × (getD (now counts) (getD (now starts) i 0) 0 < 65535) ⌝ }
-    ensures { λ _. ⌜ (let d = getD (now (starts .entry)) i 0 in now (counts .exit) ≡ set (now (counts .entry)) d (getD (now (counts .entry)) d 0 + 1)) ⌝ }
+// The line before line e, line 0 for line 0.
+fn before(e: usize) -> usize
+    ensures { λ r. ⌜ r ≡ e - 1 ⌝ }
 {
-    let c = number(starts, i);
+    if e == 0 { 0 } else { e - 1 }
+}
+
+// One more of what `starts` has for that line.
+fn count_before(starts: &[u16], counts: &mut [u16], e: usize)
+    requires { ⌜ (getD (now starts) (e - 1) 0 < length (now counts)) × (getD (now counts) (getD (now starts) (e - 1) 0) 0 < 65535) ⌝ }
+    ensures { λ _.
+        ⌜ (let d = getD (now (starts .entry)) (e - 1) 0 in now (counts .exit) ≡ set (now (counts .entry)) d (getD (now (counts .entry)) d 0 + 1)) ⌝ }
+{
+    let c = number(starts, before(e));
     let v = word(counts, c) + 1;
     counts[c] = v;
 }
@@ -272,7 +280,8 @@ pub fn write_lines(
     let n = lines.len();
     let mut i = 0;
     while i < n {
-        count_line(starts, counts, i);
+        let e = i + 1;
+        count_before(starts, counts, e);
         let d = number(starts, i);
         write_line(
             lines,
@@ -287,6 +296,6 @@ pub fn write_lines(
             d,
             i,
         );
-        i += 1;
+        i = e;
     }
 }

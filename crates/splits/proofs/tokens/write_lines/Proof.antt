@@ -11,7 +11,7 @@ use Rattle.model.specs.Places.{line-start, line-end}
 use Rattle.model.proofs.Decode.{length-tokens}
 use Rattle.memo.specs.Memo.{Memo}
 use Rattle.splits.specs.Tokens.{token-mark, over}
-use Rattle.splits.proofs.WriteRules.{Tallied, Written, number-at, mark-at, tallied-start, tallied-few, tallied-next, number-tallied, written-start, written-next, written-end}
+use Rattle.splits.proofs.WriteRules.{Tallied, Written, number-at, mark-at, tallied-start, start-low, tallied-few, tallied-next, number-tallied, written-start, written-next, written-end}
 use Rattle.splits.proofs.tokens.write_lines.Statement.{statement}
 use Rattle.splits.proofs.tokens.write_lines.Tie as tie
 
@@ -38,12 +38,15 @@ loop-holds c =
       written-start (now (a .lines)) (now (a .tokens)) (p .1 .0 .0) (mark-at fs (now (a .starts))) us (now (a .marks)),
     )
 
-count-line-requires : tie.Need-count-line-requires Inv-loop μ-loop
-count-line-requires c κs =
+add-e : tie.Need-add-e Inv-loop μ-loop
+add-e c = search needs
+
+count-before-requires : tie.Need-count-before-requires Inv-loop μ-loop
+count-before-requires c κs =
     let a = c .before .before .before .before .before .before .before .before .before .before .before .before .args in
     let p = c .before .before .before .before .before .before .before .before .before .before .before .before .pre in
     let l = c .before .before .loop in (
-      omega (arith, p .1 .1 .0 (l .i) (c .before .loop-test .taken), p .1 .1 .1, l .inv .3),
+      start-low (now (a .starts)) (length (now (a .lines))) (p .1 .1 .0) _ (omega arith) (length (l .counts)) (omega (arith, p .1 .1 .1, l .inv .3)),
       tallied-few (now (a .starts)) (l .i) (l .counts) (l .inv .6) _ (omega (arith, c .before .loop-test .taken, p .1 .0 .1)),
     )
 
@@ -58,9 +61,6 @@ write-line-requires c κs =
       (p .1 .0 .0, c .before .before .before .before .before .before .before .before .before .loop-test .taken, l .inv .4 ∙ p .1 .0 .2, l .inv .5 ∙ p .1 .0 .3, omega (arith, p .1 .1 .0 (l .i) (c .before .before .before .before .before .before .before .before .before .loop-test .taken), c .before .before .before .before .number .ensures)),
     )
 
-add-i : tie.Need-add-i Inv-loop μ-loop
-add-i c = search needs
-
 loop-less : tie.Need-loop-less Inv-loop μ-loop
 loop-less c = search needs
 
@@ -72,11 +72,11 @@ loop-again c =
     let fs = defined-families (listing (now (a .lines)) (now (a .tokens)) (now (a .text))) in
     let us = token-list (now (a .tokens)) (now (a .text)) in
     let n = length-tokens (now (a .tokens)) (now (a .text)) in
-    let T = tallied-next (now (a .starts)) (l .i) (l .counts) (l .inv .6) _ (omega (arith, p .1 .1 .0 (l .i) (c .before .before .before .before .before .before .before .before .before .before .before .before .before .before .before .before .loop-test .taken), p .1 .1 .1, l .inv .3)) (c .before .before .before .before .before .before .before .before .before .before .before .before .before .before .count-line .ensures) in (
+    let T = tallied-next (now (a .starts)) (l .i) (l .counts) (l .inv .6) _ (omega arith) _ (omega (arith, p .1 .1 .0 (l .i) (c .before .before .before .before .before .before .before .before .before .before .before .before .before .before .before .before .loop-test .taken), p .1 .1 .1, l .inv .3)) (c .before .before .before .before .before .before .before .before .before .before .before .before .before .before .count-before .ensures) in (
       c .before .before .before .before .before .before .write-line .kept .1 .1 .1 .1 .1 .1 .0 ∙ l .inv .0,
       c .before .before .before .before .before .before .write-line .ensures .1 .1,
       omega (arith, c .before .before .before .before .before .before .before .before .before .before .before .before .before .before .before .before .loop-test .taken),
-      c .before .before .before .before .before .before .before .before .before .before .before .before .before .before .count-line .kept .1 .0 ∙ l .inv .3,
+      c .before .before .before .before .before .before .before .before .before .before .before .before .before .before .count-before .kept .1 .0 ∙ l .inv .3,
       c .before .before .before .before .before .before .write-line .kept .1 .1 .1 .1 .1 .1 .1 .0 ∙ l .inv .4,
       c .before .before .before .before .before .before .write-line .kept .1 .1 .1 .1 .1 .1 .1 .1 .0 ∙ l .inv .5,
       T,
@@ -114,10 +114,10 @@ write-lines-spec =
     Inv-loop
     μ-loop
     loop-holds
-    count-line-requires
+    add-e
+    count-before-requires
     number-requires
     write-line-requires
-    add-i
     loop-less
     loop-again
     same-length

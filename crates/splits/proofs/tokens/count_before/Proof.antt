@@ -1,8 +1,11 @@
--- `splits::tokens::count_line` meets its contract. Assumes nothing.
+-- `splits::tokens::count_before` meets its contract. Assumes nothing.
 use borrow.Author.Needs.{needs}
 use Rattle.splits.proofs.WriteRules.{writes}
-use Rattle.splits.proofs.tokens.count_line.Statement.{statement}
-use Rattle.splits.proofs.tokens.count_line.Tie as tie
+use Rattle.splits.proofs.tokens.count_before.Statement.{statement}
+use Rattle.splits.proofs.tokens.count_before.Tie as tie
+
+before-requires : tie.Need-before-requires
+before-requires c κs = search (writes, needs)
 
 number-requires : tie.Need-number-requires
 number-requires c κs = search (writes, needs)
@@ -25,10 +28,11 @@ same-length c = search (writes, needs)
 returns : tie.Need-returns
 returns c = search (writes, needs)
 
-pub count-line-spec : {M : Type 1} → statement M
-count-line-spec =
+pub count-before-spec : {M : Type 1} → statement M
+count-before-spec =
     tie.close
     (tie.spec
+    before-requires
     number-requires
     word-requires
     add-v
