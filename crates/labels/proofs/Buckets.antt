@@ -1,10 +1,11 @@
 -- Labels in buckets.
 --   product-fits, sum-fits, bucket-start, bucket-next, bucket-end    the loop of `bucket`
+--   behind-none, behind-equal, behind-other                what is put behind a label
 --   empty-next                                             the loop of `empty`
 --   indexed-start, indexed-label, indexed-other            the buckets before the first line, after a label, after another line
 --   lookup-start, lookup-found, lookup-next, lookup-end    the loop of `label_line`
 -- Assumes nothing.
-use Prim.Native.Nat.{ℕ, suc, _+_, _-_, _*_, _%_, _<_, _≤_}
+use Prim.Native.Nat.{ℕ, zero, suc, _+_, _-_, _*_, _%_, _<_, _≤_}
 use mathlib.Core.Path.{_≡_, refl, sym, ap, _∙_}
 use mathlib.Core.Bool.{Bool, true, false, cond, _&&_}
 use mathlib.Core.List.{List}
@@ -22,9 +23,9 @@ use Rattle.definitions.specs.Model.{Line, line, no-line, token}
 use Rattle.definitions.specs.Statements.{is-label, label}
 use Rattle.definitions.specs.FlowGraph.{label-line}
 use Rattle.text.proofs.Parts.{drop-step, drop-end}
-use Rattle.text.proofs.Texts.{ne-==}
+use Rattle.text.proofs.Texts.{==-eq, ne-==}
 use Rattle.text.proofs.Loops.{last-found, last-next}
-use Rattle.labels.specs.Buckets.{mix, bucket, lookup, Indexed}
+use Rattle.labels.specs.Buckets.{mix, bucket, lookup, behind, Indexed}
 use Rattle.blocks.specs.Entries.{linked}
 use Rattle.blocks.proofs.Links.{get-set, linked-set, linked-fuel}
 
@@ -98,6 +99,24 @@ pub lookup-end : (L : List Line) (s ns : List ℕ) (p : ℕ) (r : Option ℕ) �
 unfolding lookup linked find
 lookup-end L s ns p r inv e = sym (inv ∙ rw e)
 
+-- What is put behind a label s
+
+module _ (L : List Line) (ns s : List ℕ) (p : ℕ) where
+  pub behind-none : p ≡ 0 → 0 ≡ behind L ns s p
+  unfolding behind
+  behind-none e = rw e
+
+  module _ (z : p ≡ 0 → ⊥) (b : Bool) (t : List ℕ) (eb : b ≡ (t == s)) (et : t ≡ token (line L (p - 1)) 0 .text) where
+    behind-step : behind L ns s p ≡ cond b (getD ns (p - 1) 0) p
+    unfolding behind
+    behind-step = let e : p ≡ suc (p - 1) = omega arith in ap (behind L ns s) e ∙ rw (eb, et, ← e)
+
+    pub behind-equal : b ≡ true → getD ns (p - 1) 0 ≡ behind L ns s p
+    behind-equal e = sym (behind-step ∙ rw e)
+
+    pub behind-other : b ≡ false → p ≡ behind L ns s p
+    behind-other e = sym (behind-step ∙ rw e)
+
 -- The buckets, line by line
 
 pub empty-next : (hs : List ℕ) (k : ℕ) → ((b : ℕ) → b < k → getD hs b 0 ≡ 0) → k < length hs → (b : ℕ) → b < k + 1 → getD (set hs k 0) b 0 ≡ 0
@@ -145,12 +164,36 @@ module _ (L : List Line) (hs ns : List ℕ) where
       found = λ s. kept 0 s ∙ sym (label-at L i s h ∙ rw (← u, v));
     }
 
-    pub indexed-label : (t : Bool) → t ≡ is-label (line L i) → t ≡ true → (b : ℕ) (x : List ℕ) → b ≡ bucket-in hs x → x ≡ label (line L i) → 256 ≤ length hs
-        → Indexed L (set hs b (i + 1)) (set ns i (getD hs b 0)) (i + 1)
+    -- the entry behind a label x stands no later than the one before which x is put; but for x, the same is found from it on
+    behind-low : (x : List ℕ) (p : ℕ) → p ≤ i → behind L ns x p ≤ p
+    unfolding behind
+    behind-low x zero b = omega arith
+    behind-low x (suc j) b = go (label (line L j) == x)
+      where
+        go : (t : Bool) → cond t (getD ns j 0) (suc j) ≤ suc j
+        go true = omega (arith, I .back j (omega arith))
+        go false = omega arith
+
+    behind-same : (x s : List ℕ) (p : ℕ) → p ≤ i → (x == s) ≡ false → lookup L ns i (behind L ns x p) s ≡ lookup L ns i p s
+    unfolding behind lookup linked find
+    behind-same x s zero b e = refl
+    behind-same x s (suc j) b e = go (label (line L j) == x) refl
+      where
+        go : (t : Bool) → (label (line L j) == x) ≡ t → lookup L ns i (cond t (getD ns j 0) (suc j)) s ≡ lookup L ns i (suc j) s
+        go true z =
+            let w = I .back j (omega arith) in
+            let k : i ≡ suc (i - 1) = omega arith in
+            let o : (label (line L j) == s) ≡ false = rw (==-eq (label (line L j)) x z) e in
+            sym (ap (λ (v : ℕ). lookup L ns v (suc j) s) k
+            ∙ rw o (ap (find (λ h. label (line L h) == s)) (linked-fuel ns (i - 1) i (getD ns j 0) (omega arith) (omega arith) (λ a q. I .back a (omega arith)))))
+        go false z = refl
+
+    pub indexed-label : is-label (line L i) ≡ true → (b : ℕ) (x : List ℕ) → b ≡ bucket-in hs x → x ≡ label (line L i) → 256 ≤ length hs → (p : ℕ) → p ≡ behind L ns x (getD hs b 0)
+        → Indexed L (set hs b (i + 1)) (set ns i p) (i + 1)
     unfolding lookup linked find
-    indexed-label t u v b x q y m = record {
+    indexed-label u b x q y m p r = record {
       below = λ x a. get-set hs b x (i + 1) inside (λ v. v ≤ i + 1) (λ z. omega arith) (λ z. omega (arith, I .below x a));
-      back = λ j a. get-set ns i j (getD hs b 0) g (λ v. v ≤ j) (λ z. omega (arith, I .below b low)) (λ z. I .back j (omega arith));
+      back = λ j a. get-set ns i j p g (λ v. v ≤ j) (λ z. omega (arith, small)) (λ z. I .back j (omega arith));
       found = λ s. rw (getD-set-other hs b 255 (i + 1) 0 (λ z. omega (arith, low))) (go s (ℕ-discrete (bucket-in hs s) b));
     }
       where
@@ -160,19 +203,30 @@ module _ (L : List Line) (hs ns : List ℕ) where
         inside : b < length hs
         inside = omega (arith, low)
 
+        small : p ≤ i
+        small = omega (arith, r, behind-low x (getD hs b 0) (I .below b low), I .below b low)
+
+        -- the labels behind the new one
+        rest : (s : List ℕ) → bucket-in hs s ≡ b → (x == s) ≡ false → lookup L (set ns i p) i p s ≡ label-line (take i L) s
+        rest s z e =
+            ap (find (λ h. label (line L h) == s)) (walk p i p small small)
+            ∙ ap (λ (v : ℕ). lookup L ns i v s) r
+            ∙ behind-same x s (getD hs b 0) (I .below b low) e
+            ∙ ap (λ (v : ℕ). lookup L ns i (getD hs v 0) s) (sym z) ∙ I .found s
+
+        front : (s : List ℕ) → bucket-in hs s ≡ b → (t : Bool) → (x == s) ≡ t → cond t (some i) (lookup L (set ns i p) i p s) ≡ cond t (some i) (label-line (take i L) s)
+        front s z true e = refl
+        front s z false e = rest s z e
+
         go : (s : List ℕ) → Dec (bucket-in hs s ≡ b)
-            → lookup L (set ns i (getD hs b 0)) (i + 1) (getD (set hs b (i + 1)) (bucket-in hs s) 0) s ≡ label-line (take (i + 1) L) s
+            → lookup L (set ns i p) (i + 1) (getD (set hs b (i + 1)) (bucket-in hs s) 0) s ≡ label-line (take (i + 1) L) s
         go s (yes z) =
-            let w = I .below b low in
-            let f : lookup L (set ns i (getD hs b 0)) i (getD hs b 0) s ≡ label-line (take i L) s =
-            ap (find (λ h. label (line L h) == s)) (walk (getD hs b 0) i (getD hs b 0) w w)
-            ∙ ap (λ (x : ℕ). lookup L ns i (getD hs x 0) s) (sym z) ∙ I .found s in
             let last : label-line (take (suc i) L) s ≡ cond (named s (line L i)) (some i) (label-line (take i L) s) = rw (add-one i) at (label-at L i s h) in
-            rw (z, getD-set-same hs b (i + 1) 0 inside, add-one i, getD-set-same ns i (getD hs b 0) 0 g)
-            (ap (cond (label (line L i) == s) (some i)) f
-            ∙ sym (last ∙ rw (← u, v)))
+            rw (z, getD-set-same hs b (i + 1) 0 inside, add-one i, getD-set-same ns i p 0 g)
+            (rw y at (front s z (x == s) refl)
+            ∙ sym (last ∙ rw u))
         go s (no z) =
             rw (getD-set-other hs b (bucket-in hs s) (i + 1) 0 z)
-            (kept (getD hs b 0) s ∙ sym (label-at L i s h ∙ rw (← u, v, ne-== (label (line L i)) s (λ e. z (sym (q ∙ ap (bucket-in hs) (y ∙ e)))))))
+            (kept p s ∙ sym (label-at L i s h ∙ rw (u, ne-== (label (line L i)) s (λ e. z (sym (q ∙ ap (bucket-in hs) (y ∙ e)))))))
 
-pub ruleset buckets = (product-fits, sum-fits, bucket-start, bucket-next, bucket-end, lookup-found, lookup-next, lookup-end)
+pub ruleset buckets = (product-fits, sum-fits, bucket-start, bucket-next, bucket-end, behind-none, behind-equal, behind-other, lookup-found, lookup-next, lookup-end)

@@ -1,18 +1,19 @@
 // The labels of a listing, and where its gotos lead: question 9.
 //
-// Labels stand in 255 buckets by their names, each put in front in line order, so that of equal ones the last is met first. `heads` has
-// the buckets and, at place 255, the multiplier of the hash. Where a bucket holds more than 16 labels, all are put into their buckets
-// anew for the next of 8 multipliers, so that few labels share one. `index` takes time linear in the tokens and in the bytes of the
-// labels, at most 8 times; `label_line` in the name and in the labels of its bucket. Contracts cite `label-line`, `leads` and `gotos-lead`
-// of Rattle.definitions.specs.FlowGraph.
+// Labels stand in 255 buckets by their names, each put in front in line order, so that of equal ones the last is met first; where one comes
+// in front of another of its name, it takes its place. `heads` has the buckets and, at place 255, the multiplier of the hash. Where a bucket
+// holds more than 16 labels, all are put into their buckets anew for the next of 8 multipliers, so that few share one. `index` takes time
+// linear in the tokens and in the bytes of the labels, at most 8 times; `label_line` in the name and in the labels of its bucket. Contracts
+// cite `label-line`, `leads` and `gotos-lead` of Rattle.definitions.specs.FlowGraph.
 ghost use mathlib.Core.Path.{_≡_};
+ghost use mathlib.Core.Bool.{true};
 ghost use Prim.Native.Nat.{ℕ, _+_, _≤_, _<_};
 ghost use lib.ListN.{length, getD};
 ghost use Rattle.definitions.specs.Model.{line};
 ghost use Rattle.definitions.specs.Columns.{listing};
 ghost use Rattle.definitions.specs.Statements.{is-label};
 ghost use Rattle.definitions.specs.FlowGraph.{label-line};
-ghost use Rattle.labels.specs.Buckets.{bucket, Indexed, line-of};
+ghost use Rattle.labels.specs.Buckets.{bucket, behind, Indexed, line-of};
 
 pub mod gotos;
 
@@ -75,7 +76,46 @@ fn is_long(nexts: &[u16], p: usize) -> bool {
     true
 }
 
-// Line i more; answers whether its bucket now holds more than 16 labels.
+// The entry behind a label s that is put in front of the entry p: that behind p where p's label has the same name, as it would never be met.
+fn behind(lines: &[u32], tokens: &[u32], text: &[u8], nexts: &[u16], s: &[u8], p: u16) -> u16
+    requires { ⌜ p ≤ length (now nexts) ⌝ }
+    ensures { λ r. ⌜ r ≡ behind (listing (now (lines .entry)) (now (tokens .entry)) (now (text .entry))) (now (nexts .entry)) (now (s .entry)) p ⌝ }
+{
+    if p == 0 {
+        return 0;
+    }
+    let h = p as usize - 1;
+    if text::equal(text_at(lines, tokens, text, h, 0), s) {
+        return nexts[h];
+    }
+    p
+}
+
+// The label of line i more; answers whether its bucket now holds more than 16 labels.
+fn index_label(
+    lines: &[u32],
+    tokens: &[u32],
+    text: &[u8],
+    heads: &mut [u16],
+    nexts: &mut [u16],
+    i: usize,
+) -> bool
+    requires { ⌜ (i < length (now lines)) × (256 ≤ length (now heads)) × (i < length (now nexts)) × (i < 1024) ⌝ }
+    requires { ⌜ is-label (line (listing (now lines) (now tokens) (now text)) i) ≡ true ⌝ }
+    requires { ⌜ Indexed (listing (now lines) (now tokens) (now text)) (now heads) (now nexts) i ⌝ }
+    ensures { λ _.
+        ⌜ (let L = listing (now (lines .entry)) (now (tokens .entry)) (now (text .entry)) in
+        Indexed L (now (heads .exit)) (now (nexts .exit)) (i + 1)) ⌝ }
+{
+    let s = text_at(lines, tokens, text, i, 0);
+    let b = bucket(heads, s);
+    let p = behind(lines, tokens, text, nexts, s, heads[b]);
+    nexts[i] = p;
+    heads[b] = (i + 1) as u16;
+    is_long(nexts, p as usize)
+}
+
+// Line i more; answers the same.
 fn index_line(
     lines: &[u32],
     tokens: &[u32],
@@ -91,11 +131,7 @@ fn index_line(
         Indexed L (now (heads .exit)) (now (nexts .exit)) (i + 1)) ⌝ }
 {
     if has_label(lines, tokens, text, i) {
-        let b = bucket(heads, text_at(lines, tokens, text, i, 0));
-        let p = heads[b];
-        nexts[i] = p;
-        heads[b] = (i + 1) as u16;
-        is_long(nexts, p as usize)
+        index_label(lines, tokens, text, heads, nexts, i)
     } else {
         nexts[i] = 0;
         false
