@@ -3,9 +3,10 @@
 // chain. All lines together take one look-up a line.
 //
 // The hash is a polynomial in a multiplier, modulo the prime 2^31 - 1 and then modulo 247, so names that share a hash by one multiplier hardly
-// share it by the next. Where a family joins a chain of 16 or more, all chains are made anew by the next of 128 multipliers, which hashes each
-// family once more; after the last the chains are left as they are. By the first, r0 to r99 and the legacy names have a chain each, and no
-// chain of r0 to r1014 has more than 6. 1,023 names chosen to fill a chain of each multiplier in turn come to the 109th (measured, not proved).
+// share it by the next. Where a family joins a chain of 16 or more, all chains are made anew by the next of 256 multipliers, which hashes each
+// family once more; after the last the chains are left as they are. That the chains are short is measured, not proved: by the first multiplier
+// r0 to r99 and the legacy names have a chain each, and no chain of r0 to r1014 has more than 6; 1,023 names chosen to fill a chain of each
+// multiplier in turn come to the 109th, and chosen to fill one of each two to the 204th.
 //
 // The table, one lent slice:
 //   words [0, 247)         1 + the last family of each hash, 0 for none
@@ -40,8 +41,8 @@ use words::zero;
 // The first multiplier.
 const FIRST: u16 = 18021;
 
-// The last multiplier, 127 times the next after the first.
-const LAST: u16 = 36589;
+// The last multiplier, 255 times the next after the first.
+const LAST: u16 = 16032;
 
 // The second byte of the name of each row; the first is `r`.
 const SECONDS: [u8; 8] = *b"abcdsdbs";
