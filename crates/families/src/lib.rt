@@ -6,7 +6,7 @@
 // share it by the next. Where a family joins a chain of 16 or more, all chains are made anew by the next of 256 multipliers, which hashes each
 // family once more; after the last the chains are left as they are. That the chains are short is measured, not proved: by the first multiplier
 // r0 to r99 and the legacy names have a chain each, and no chain of r0 to r1014 has more than 6; 1,023 names chosen to fill a chain of each
-// multiplier in turn come to the 109th, and chosen to fill one of each two to the 204th.
+// multiplier in turn come to the 109th, and in a simulation names that fill one of each two come to the 204th.
 //
 // The table, one lent slice:
 //   words [0, 247)         1 + the last family of each hash, 0 for none
