@@ -7,6 +7,7 @@
 -- Assumes nothing.
 use Prim.Native.Nat.{ℕ, zero, suc, _+_, _-_, _*_, _%_, _<_, _≤_}
 use mathlib.Core.Path.{_≡_, refl, sym, ap, _∙_}
+use mathlib.Core.Logic.{⊎-elim}
 use mathlib.Core.Bool.{Bool, true, false, cond, _&&_}
 use mathlib.Core.List.{List}
 use mathlib.Core.Option.{Option, none, some}
@@ -25,7 +26,7 @@ use Rattle.definitions.specs.FlowGraph.{label-line}
 use Rattle.text.proofs.Parts.{drop-step, drop-end}
 use Rattle.text.proofs.Texts.{==-eq, ne-==}
 use Rattle.text.proofs.Loops.{last-found, last-next}
-use Rattle.labels.specs.Buckets.{mix, bucket, lookup, behind, Indexed}
+use Rattle.labels.specs.Buckets.{mix, bucket, lookup, behind, Follows, Indexed}
 use Rattle.blocks.specs.Entries.{linked}
 use Rattle.blocks.proofs.Links.{get-set, linked-set, linked-fuel}
 
@@ -188,7 +189,7 @@ module _ (L : List Line) (hs ns : List ℕ) where
             ∙ rw o (ap (find (λ h. label (line L h) == s)) (linked-fuel ns (i - 1) i (getD ns j 0) (omega arith) (omega arith) (λ a q. I .back a (omega arith)))))
         go false z = refl
 
-    pub indexed-label : is-label (line L i) ≡ true → (b : ℕ) (x : List ℕ) → b ≡ bucket-in hs x → x ≡ label (line L i) → 256 ≤ length hs → (p : ℕ) → p ≡ behind L ns x (getD hs b 0)
+    pub indexed-label : is-label (line L i) ≡ true → (b : ℕ) (x : List ℕ) → b ≡ bucket-in hs x → x ≡ label (line L i) → 256 ≤ length hs → (p : ℕ) → Follows L ns x (getD hs b 0) p
         → Indexed L (set hs b (i + 1)) (set ns i p) (i + 1)
     unfolding lookup linked find
     indexed-label u b x q y m p r = record {
@@ -204,14 +205,13 @@ module _ (L : List Line) (hs ns : List ℕ) where
         inside = omega (arith, low)
 
         small : p ≤ i
-        small = omega (arith, r, behind-low x (getD hs b 0) (I .below b low), I .below b low)
+        small = let w = I .below b low in ⊎-elim (λ e. omega arith) (λ e. omega (arith, behind-low x (getD hs b 0) w)) r
 
         -- the labels behind the new one
         rest : (s : List ℕ) → bucket-in hs s ≡ b → (x == s) ≡ false → lookup L (set ns i p) i p s ≡ label-line (take i L) s
         rest s z e =
             ap (find (λ h. label (line L h) == s)) (walk p i p small small)
-            ∙ ap (λ (v : ℕ). lookup L ns i v s) r
-            ∙ behind-same x s (getD hs b 0) (I .below b low) e
+            ∙ ⊎-elim (λ k. ap (λ (v : ℕ). lookup L ns i v s) k) (λ k. ap (λ (v : ℕ). lookup L ns i v s) k ∙ behind-same x s (getD hs b 0) (I .below b low) e) r
             ∙ ap (λ (v : ℕ). lookup L ns i (getD hs v 0) s) (sym z) ∙ I .found s
 
         front : (s : List ℕ) → bucket-in hs s ≡ b → (t : Bool) → (x == s) ≡ t → cond t (some i) (lookup L (set ns i p) i p s) ≡ cond t (some i) (label-line (take i L) s)

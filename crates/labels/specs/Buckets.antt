@@ -3,11 +3,13 @@
 --   mix m h c, bucket m s   the bucket of the name s for the multiplier m, byte by byte; any function of s would do
 --   lookup L ns k p s       the first label named s from the entry p on, of at most k
 --   behind L ns s p         the entry behind a label s that is put in front of the entry p: that behind p where p's label is named s too
+--   Follows L ns s p r      r is p, or that entry: either may be put behind it
 --   Indexed L hs ns i       the labels of the first i lines are in their buckets
 --   line-of r               the line that the code answers
 -- Assumes nothing.
 use Prim.Native.Nat.{ℕ, zero, suc, _+_, _*_, _%_, _<_, _≤_}
 use mathlib.Core.Path.{_≡_}
+use mathlib.Core.Logic.{_⊎_}
 use mathlib.Core.List.{List}
 use mathlib.Core.Option.{Option, none, some}
 use lib.ListN.{getD, take}
@@ -31,6 +33,9 @@ lookup L ns k p s = find (λ h. label (line L h) == s) (linked ns k p)
 unfoldable pub behind : List Line → List ℕ → List ℕ → ℕ → ℕ
 behind L ns s zero = zero
 behind L ns s (suc h) = if label (line L h) == s then getD ns h 0 else suc h
+
+abbrev pub Follows : List Line → List ℕ → List ℕ → ℕ → ℕ → Type 0
+Follows L ns s p r = (r ≡ p) ⊎ (r ≡ behind L ns s p)
 
 pub record Indexed (L : List Line) (hs ns : List ℕ) (i : ℕ) : Type 0 where
   pub below : (b : ℕ) → b < 255 → getD hs b 0 ≤ i

@@ -1,10 +1,10 @@
 // The labels of a listing, and where its gotos lead: question 9.
 //
-// Labels stand in 255 buckets by their names, each put in front in line order, so that of equal ones the last is met first; where one comes
-// in front of another of its name, it takes its place. `heads` has the buckets and, at place 255, the multiplier of the hash. Where a bucket
-// holds more than 16 labels, all are put into their buckets anew for the next of 8 multipliers, so that few share one. `index` takes time
-// linear in the tokens and in the bytes of the labels, at most 8 times; `label_line` in the name and in the labels of its bucket. Contracts
-// cite `label-line`, `leads` and `gotos-lead` of Rattle.definitions.specs.FlowGraph.
+// Labels stand in 255 buckets by their names, each put in front in line order, so that of equal ones the last is met first. `heads` has the
+// buckets and, at place 255, the multiplier of the hash. In a bucket that holds 16 labels a label takes the place of one of its name in
+// front; for any other label, all are put into their buckets anew, by the next of 8 multipliers. So few labels share a bucket, but where
+// names are chosen against all 8. `index` takes time linear in the tokens and in the bytes of the labels, at most 8 times; `label_line` in
+// the name and in the labels of its bucket. Contracts cite `label-line`, `leads` and `gotos-lead` of Rattle.definitions.specs.FlowGraph.
 ghost use mathlib.Core.Path.{_≡_};
 ghost use mathlib.Core.Bool.{true};
 ghost use Prim.Native.Nat.{ℕ, _+_, _≤_, _<_};
@@ -13,7 +13,7 @@ ghost use Rattle.definitions.specs.Model.{line};
 ghost use Rattle.definitions.specs.Columns.{listing};
 ghost use Rattle.definitions.specs.Statements.{is-label};
 ghost use Rattle.definitions.specs.FlowGraph.{label-line};
-ghost use Rattle.labels.specs.Buckets.{bucket, behind, Indexed, line-of};
+ghost use Rattle.labels.specs.Buckets.{bucket, behind, Follows, Indexed, line-of};
 
 pub mod gotos;
 
@@ -91,6 +91,17 @@ fn behind(lines: &[u32], tokens: &[u32], text: &[u8], nexts: &[u16], s: &[u8], p
     p
 }
 
+// The entry to put there: that one where the bucket is long, else p, so that names are compared only in long ones.
+fn link(lines: &[u32], tokens: &[u32], text: &[u8], nexts: &[u16], s: &[u8], p: u16) -> u16
+    requires { ⌜ p ≤ length (now nexts) ⌝ }
+    ensures { λ r. ⌜ Follows (listing (now (lines .entry)) (now (tokens .entry)) (now (text .entry))) (now (nexts .entry)) (now (s .entry)) p r ⌝ }
+{
+    if is_long(nexts, p as usize) {
+        return behind(lines, tokens, text, nexts, s, p);
+    }
+    p
+}
+
 // The label of line i more; answers whether its bucket now holds more than 16 labels.
 fn index_label(
     lines: &[u32],
@@ -109,7 +120,7 @@ fn index_label(
 {
     let s = text_at(lines, tokens, text, i, 0);
     let b = bucket(heads, s);
-    let p = behind(lines, tokens, text, nexts, s, heads[b]);
+    let p = link(lines, tokens, text, nexts, s, heads[b]);
     nexts[i] = p;
     heads[b] = (i + 1) as u16;
     is_long(nexts, p as usize)

@@ -14,14 +14,14 @@ text-at-requires c κs = search needs
 bucket-requires : tie.Need-bucket-requires
 bucket-requires c κs = search needs
 
-mul-behind : tie.Need-mul-behind
-mul-behind c = search needs
+mul-link : tie.Need-mul-link
+mul-link c = search needs
 
-slice-read-behind : tie.Need-slice-read-behind
-slice-read-behind c = search needs
+slice-read-link : tie.Need-slice-read-link
+slice-read-link c = search needs
 
-behind-requires : tie.Need-behind-requires
-behind-requires c κs = omega (arith, c .before .before .before .before .before .before .before .before .before .before .pre .1 .1 .below (c .before .before .bucket .result) (c .before .before .bucket .ensures .1), c .before .before .before .before .before .before .before .before .before .before .pre .0 .2)
+link-requires : tie.Need-link-requires
+link-requires c κs = omega (arith, c .before .before .before .before .before .before .before .before .before .before .pre .1 .1 .below (c .before .before .bucket .result) (c .before .before .bucket .ensures .1), c .before .before .before .before .before .before .before .before .before .before .pre .0 .2)
 
 mul-nexts : tie.Need-mul-nexts
 mul-nexts c = search needs
@@ -58,7 +58,7 @@ returns c =
     let a = c .before .before .before .before .before .before .before .before .before .before .before .before .before .args in
     indexed-label (listing (now (a .lines)) (now (a .tokens)) (now (a .text))) (now (a .heads)) (now (a .nexts)) (a .i) (c .before .before .before .before .before .before .before .before .before .before .before .before .before .pre .1 .1)
     (omega (arith, c .before .before .before .before .before .before .before .before .before .before .before .before .before .pre .0 .0, length-listing (now (a .lines)) (now (a .tokens)) (now (a .text)))) (omega arith)
-    (c .before .before .before .before .before .before .before .before .before .before .before .before .before .pre .1 .0) (c .before .before .before .before .before .bucket .result) _ (c .before .before .before .before .before .bucket .ensures .0) (c .before .before .before .before .before .before .before .text-at .ensures) (c .before .before .before .before .before .before .before .before .before .before .before .before .before .pre .0 .1) (c .before .before .behind .result) (c .before .before .behind .ensures)
+    (c .before .before .before .before .before .before .before .before .before .before .before .before .before .pre .1 .0) (c .before .before .before .before .before .bucket .result) _ (c .before .before .before .before .before .bucket .ensures .0) (c .before .before .before .before .before .before .before .text-at .ensures) (c .before .before .before .before .before .before .before .before .before .before .before .before .before .pre .0 .1) (c .before .before .link .result) (c .before .before .link .ensures)
 
 pub index-label-spec : {M : Type 1} → statement M
 index-label-spec =
@@ -66,9 +66,9 @@ index-label-spec =
     (tie.spec
     text-at-requires
     bucket-requires
-    mul-behind
-    slice-read-behind
-    behind-requires
+    mul-link
+    slice-read-link
+    link-requires
     mul-nexts
     slice-write-nexts
     add-heads
