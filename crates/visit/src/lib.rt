@@ -86,15 +86,7 @@ fn wide(x: u16) -> usize
 }
 
 // Word k of what line i is given.
-fn given_word(
-    space: &[u64],
-    defs: &[u16],
-    n: usize,
-    r: usize,
-    w: usize,
-    i: usize,
-    k: usize,
-) -> u64
+fn given_word(space: &[u64], defs: &[u16], n: usize, r: usize, w: usize, i: usize, k: usize) -> u64
     requires { ⌜ Room n r w (now space) × (i < n) × (k < w) × Numbered n w (now defs) × Agree n r (now space) ⌝ }
     ensures { λ x. ⌜ Word k x (λ b. given (preds-of n r (now (space .entry))) (now (defs .entry)) b (outs n r w (now (space .entry)) b) i) ⌝ }
 {

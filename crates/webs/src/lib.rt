@@ -175,6 +175,44 @@ fn all_webs(
     )
 }
 
+// The same as `recover`, with the table of the families, the families that the lines define and the first places of the chains lent.
+fn recover_in(
+    lines: &[u32],
+    tokens: &[u32],
+    text: &[u8],
+    space: &mut [u64],
+    r: usize,
+    budget: usize,
+    numbers: &mut [u32],
+    marks: &mut [u8],
+    table: &mut [u16],
+    defs: &mut [u16],
+    first: &mut [u16],
+) -> Sweeps
+    requires { ⌜ (2 ≤ length (now lines)) × (length (now lines) ≤ 1024) × (length (now tokens) ≤ 16384) × (covers 512 0 (now lines) (length (now tokens)) ≡ true) × (r ≡ row-words (length (now lines))) ⌝ }
+    requires { ⌜ (space-words (length (now lines)) ≤ length (now space)) × (length (now numbers) ≡ length (now tokens)) × (length (now marks) ≡ length (now tokens)) × Drawn (listing (now lines) (now tokens) (now text)) (length (now lines)) r (now space) ⌝ }
+    requires { ⌜ (2304 ≤ length (now table)) × (length (now lines) ≤ length (now defs)) × (length (now lines) ≤ length (now first)) ⌝ }
+    ensures { λ a. ⌜ (let L = listing (now (lines .entry)) (now (tokens .entry)) (now (text .entry)) in AllDone budget (numbered-webs L (or-else (recover L) [])) (now (numbers .exit)) (now (marks .exit)) a) ⌝ }
+{
+    let count = families(lines, tokens, text, table, defs);
+    chain_tokens(lines, tokens, text, table, count, numbers, first);
+    text::zero_bytes(marks, 0);
+    all_webs(
+        lines,
+        tokens,
+        text,
+        table,
+        first,
+        count,
+        defs,
+        space,
+        r,
+        budget,
+        numbers,
+        marks,
+    )
+}
+
 // The webs of a listing whose flow graph is drawn in the working space: a number and a mark for each token. Answers the total of sweeps.
 pub fn recover(
     lines: &[u32],
@@ -191,23 +229,36 @@ pub fn recover(
     ensures { λ a. ⌜ (let L = listing (now (lines .entry)) (now (tokens .entry)) (now (text .entry)) in AllDone budget (numbered-webs L (or-else (recover L) [])) (now (numbers .exit)) (now (marks .exit)) a) ⌝ }
 {
     let mut table = [0u16; 2304];
+    if lines.len() <= 64 {
+        let mut defs = [0u16; 64];
+        let mut first = [0u16; 64];
+        return recover_in(
+            lines,
+            tokens,
+            text,
+            space,
+            r,
+            budget,
+            numbers,
+            marks,
+            &mut table,
+            &mut defs,
+            &mut first,
+        );
+    }
     let mut defs = [0u16; 1024];
     let mut first = [0u16; 1024];
-    let count = families(lines, tokens, text, &mut table, &mut defs);
-    chain_tokens(lines, tokens, text, &table, count, numbers, &mut first);
-    text::zero_bytes(marks, 0);
-    all_webs(
+    recover_in(
         lines,
         tokens,
         text,
-        &table,
-        &first,
-        count,
-        &defs,
         space,
         r,
         budget,
         numbers,
         marks,
+        &mut table,
+        &mut defs,
+        &mut first,
     )
 }

@@ -1,43 +1,19 @@
--- `webs::recover` meets its contract. By its calls.
--- Assumes nothing.
-use native.Mathlib.Omega.{arith}
-use Rattle.webs.proofs.Whole.{bounds-by, finds-all, known-by, state-start, whole-by}
+-- `webs::recover` meets its contract. By the length of the listing. Assumes nothing.
 use borrow.Author.Needs.{needs}
 use Rattle.webs.proofs.recover.Statement.{statement}
 use Rattle.webs.proofs.recover.Tie as tie
 
-slice-aggregate-families : tie.Need-slice-aggregate-families
-slice-aggregate-families c = search needs
+slice-aggregate-recover-in : tie.Need-slice-aggregate-recover-in
+slice-aggregate-recover-in c = search needs
 
-slice-aggregate-families-2 : tie.Need-slice-aggregate-families-2
-slice-aggregate-families-2 c = search needs
+slice-aggregate-recover-in-2 : tie.Need-slice-aggregate-recover-in-2
+slice-aggregate-recover-in-2 c = search needs
 
-families-requires : tie.Need-families-requires
-families-requires c κs = search needs
+slice-aggregate-recover-in-3 : tie.Need-slice-aggregate-recover-in-3
+slice-aggregate-recover-in-3 c = search needs
 
-slice-aggregate-chain-tokens : tie.Need-slice-aggregate-chain-tokens
-slice-aggregate-chain-tokens c = search needs
-
-slice-aggregate-chain-tokens-2 : tie.Need-slice-aggregate-chain-tokens-2
-slice-aggregate-chain-tokens-2 c = search needs
-
-chain-tokens-requires : tie.Need-chain-tokens-requires
-chain-tokens-requires c κs = let f = finds-all _ _ _ _ _ _ (c .before .before .before .before .before .families .ensures) in (f, bounds-by _ _ (c .before .before .before .before .before .before .before .before .before .before .before .before .before .before .pre .0 .3) (c .before .before .before .before .before .before .before .before .before .before .before .before .before .before .pre .0 .1) (c .before .before .before .before .before .before .before .before .before .before .before .before .before .before .pre .0 .2), c .before .before .before .before .before .before .before .before .before .before .before .before .before .before .pre .1 .1, omega (arith, f .few))
-
-zero-bytes-requires : tie.Need-zero-bytes-requires
-zero-bytes-requires c κs = search needs
-
-slice-aggregate-all-webs : tie.Need-slice-aggregate-all-webs
-slice-aggregate-all-webs c = search needs
-
-slice-aggregate-all-webs-2 : tie.Need-slice-aggregate-all-webs-2
-slice-aggregate-all-webs-2 c = search needs
-
-slice-aggregate-all-webs-3 : tie.Need-slice-aggregate-all-webs-3
-slice-aggregate-all-webs-3 c = search needs
-
-all-webs-requires : tie.Need-all-webs-requires
-all-webs-requires c κs = let B = bounds-by _ _ (c .before .before .before .before .before .before .before .before .before .before .before .before .before .before .before .before .before .before .before .before .before .before .before .before .before .before .before .before .pre .0 .3) (c .before .before .before .before .before .before .before .before .before .before .before .before .before .before .before .before .before .before .before .before .before .before .before .before .before .before .before .before .pre .0 .1) (c .before .before .before .before .before .before .before .before .before .before .before .before .before .before .before .before .before .before .before .before .before .before .before .before .before .before .before .before .pre .0 .2) in (known-by _ _ _ _ _ _ (c .before .before .before .before .before .before .before .before .before .before .before .before .before .before .before .before .before .before .before .families .ensures) _ B (c .before .before .before .before .before .before .before .before .before .before .before .before .before .before .before .before .before .before .before .before .before .before .before .before .before .before .before .before .pre .0 .0) (c .before .before .before .before .before .before .before .before .before .before .before .before .before .before .before .before .before .before .before .before .before .before .before .before .before .before .before .before .pre .0 .4) _ _ (c .before .before .before .before .before .before .before .before .before .before .before .before .before .chain-tokens .ensures), state-start _ _ _ _ _ (c .before .before .before .before .before .before .before .before .before .before .before .before .before .before .before .before .before .before .before .before .before .before .before .before .before .before .before .before .args .marks .now) B _ _ _ _ (c .before .before .before .before .before .before .before .before .before .before .before .before .before .before .before .before .before .before .before .before .before .before .before .before .before .before .before .before .pre .1 .3) (c .before .before .before .before .before .before .before .before .before .before .before .before .before .before .before .before .before .before .before .before .before .before .before .before .before .before .before .before .pre .1 .2) (c .before .before .before .before .before .before .before .before .zero-bytes .ensures) (c .before .before .before .before .before .before .before .before .before .before .before .before .before .chain-tokens .ensures), c .before .before .before .before .before .before .before .before .before .before .before .before .before .before .before .before .before .before .before .before .before .before .before .before .before .before .before .before .pre .1 .0)
+recover-in-requires : tie.Need-recover-in-requires
+recover-in-requires c κs = (c .before .before .before .before .before .before .before .before .before .before .before .before .before .pre .0, (c .before .before .before .before .before .before .before .before .before .before .before .before .before .pre .1, (search needs, search needs, search needs)))
 
 same-length : tie.Need-same-length
 same-length c = search needs
@@ -49,24 +25,49 @@ same-length-3 : tie.Need-same-length-3
 same-length-3 c = search needs
 
 returns : tie.Need-returns
-returns c = whole-by _ _ _ _ _ _ _ _ _ (c .before .before .before .before .before .before .before .before .before .before .before .before .before .before .before .before .before .before .before .before .before .before .before .before .before .before .before .before .before .before .before .before .before .before .before .pre .0 .0) (c .before .before .before .before .before .before .before .before .before .before .before .before .before .before .before .before .before .before .before .before .before .before .before .before .before .before .before .before .before .before .before .before .before .before .before .pre .1 .3) (c .before .before .before .before .before .before .all-webs .ensures)
+returns c = search needs
+
+slice-aggregate-recover-in-4 : tie.Need-slice-aggregate-recover-in-4
+slice-aggregate-recover-in-4 c = search needs
+
+slice-aggregate-recover-in-5 : tie.Need-slice-aggregate-recover-in-5
+slice-aggregate-recover-in-5 c = search needs
+
+slice-aggregate-recover-in-6 : tie.Need-slice-aggregate-recover-in-6
+slice-aggregate-recover-in-6 c = search needs
+
+recover-in-requires-2 : tie.Need-recover-in-requires-2
+recover-in-requires-2 c κs = (c .before .before .before .before .before .before .before .before .before .before .before .before .before .pre .0, (c .before .before .before .before .before .before .before .before .before .before .before .before .before .pre .1, (search needs, search needs, search needs)))
+
+same-length-4 : tie.Need-same-length-4
+same-length-4 c = search needs
+
+same-length-5 : tie.Need-same-length-5
+same-length-5 c = search needs
+
+same-length-6 : tie.Need-same-length-6
+same-length-6 c = search needs
+
+returns-2 : tie.Need-returns-2
+returns-2 c = search needs
 
 pub recover-spec : {M : Type 1} → statement M
 recover-spec =
     tie.close
     (tie.spec
-    slice-aggregate-families
-    slice-aggregate-families-2
-    families-requires
-    slice-aggregate-chain-tokens
-    slice-aggregate-chain-tokens-2
-    chain-tokens-requires
-    zero-bytes-requires
-    slice-aggregate-all-webs
-    slice-aggregate-all-webs-2
-    slice-aggregate-all-webs-3
-    all-webs-requires
+    slice-aggregate-recover-in
+    slice-aggregate-recover-in-2
+    slice-aggregate-recover-in-3
+    recover-in-requires
     same-length
     same-length-2
     same-length-3
-    returns)
+    returns
+    slice-aggregate-recover-in-4
+    slice-aggregate-recover-in-5
+    slice-aggregate-recover-in-6
+    recover-in-requires-2
+    same-length-4
+    same-length-5
+    same-length-6
+    returns-2)
