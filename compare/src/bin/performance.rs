@@ -131,6 +131,23 @@ fn webs() {
     }
 }
 
+/// The web call on plausible listings of about 20, 200 and 1,024 lines: the first 12 that it accepts of each.
+fn plausible_webs() {
+    println!("\n## The web call on plausible listings\n\nThe first 12 plausible listings of so many lines that the call accepts, by the sum of their times, and the listings with the least and the greatest ratio.\n");
+    println!("| lines | tokens | library, µs | original, µs | times faster | least | greatest |");
+    println!("|---|---|---|---|---|---|---|");
+    for (about, least, most) in [(12, 18, 22), (180, 180, 220), (900, 900, 1_024)] {
+        let accepts = |l: &Vec<PseudoLine>| (least..=most).contains(&l.len()) && answers::recover(l);
+        let listings: Vec<_> = (1..).map(|seed| plausible(seed, about)).filter(accepts).take(12).collect();
+        let times: Vec<_> = listings.iter().map(|l| (webs_cost(&encode(l)).0, nanoseconds(|| _ = black_box(answers::numbered(l))))).collect();
+        let tokens: usize = listings.iter().flatten().map(|l| l.tokens.len()).sum();
+        let (own, rust) = times.iter().fold((0.0, 0.0), |s, t| (s.0 + t.0, s.1 + t.1));
+        let ratios = || times.iter().map(|t| t.1 / t.0);
+        let (low, high) = (ratios().fold(f64::INFINITY, f64::min), ratios().fold(0.0, f64::max));
+        println!("| {least} to {most} | {tokens} | {} | {} | {:.1} | {low:.1} | {high:.1} |", microseconds(own), microseconds(rust), rust / own);
+    }
+}
+
 /// How the cost of the web call grows with the lines of plausible listings.
 fn growth() {
     println!("\n## How the web call grows\n\nPlausible listings of more and more lines.\n");
@@ -252,6 +269,7 @@ fn main() {
     println!("# Performance\n\nMade by `tools/performance`: the proved library beside the original Rust, one run, both optimised.\n");
     questions();
     webs();
+    plausible_webs();
     growth();
     splits();
     chooser();

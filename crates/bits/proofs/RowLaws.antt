@@ -5,18 +5,18 @@
 --   *-one                      the same of a row of one word
 --   zero-*                     the words of a cleared row
 --   differ-*                   so for the comparison of a row with what is written over it
---   none-*, found, past        so for the search of a set bit
+--   here*, none-*, found, past so for the search of a set bit
 --   low-last                   the last word of the low bits of a row
 -- Assumes nothing.
 use Prim.Native.Nat.{ℕ, _+_, _-_, _*_, _/_, _%_, _^_, _<_, _≤_}
 use mathlib.Core.Path.{_≡_, refl, sym, ap, ap₂, _∙_}
 use mathlib.Core.Logic.{_≢_, inl, inr}
-use mathlib.Core.Bool.{Bool, true, false, not, _&&_, _||_, or-false, true≢false}
+use mathlib.Core.Bool.{Bool, true, false, _&&_, _||_, or-false, true≢false}
 use mathlib.Core.List.{List}
 use native.Mathlib.Omega.{arith}
 use native.Mathlib.Decide.{decLt, ℕ-discrete}
 use native.Mathlib.Nat.{one-mul, mod-eq-of-lt, lt-of-lt-of-le, lt-of-le-of-lt}
-use lib.Dec.{eqb, leb}
+use lib.Dec.{eqb, leb, ltb}
 use lib.ListN.{length, getD, set}
 use lib.Seq.{getD-set-same, getD-set-other, set-getD}
 use lib.Pow.{pow-lt, pow-mono, shr-le}
@@ -24,8 +24,8 @@ use lib.Bits.{bitOr}
 use lib.Count.{trailingZeros}
 use mir.Syntax.{w64}
 use mir.Val.{Fits}
-use borrow.Author.Tests.{eq-eqb, ne-eqb, eqb-true, eqb-false, le-leb, lt-leb}
-use Rattle.theory.proofs.Bools.{clash, lt-or-ge}
+use borrow.Author.Tests.{eq-eqb, ne-eqb, lt-ltb, le-ltb, ltb-true, le-leb, lt-leb}
+use Rattle.theory.proofs.Bools.{clash, and-split, lt-or-ge}
 use Rattle.bits.specs.Rows.{word-bit, bit, Away, Filled, Zero, WithBit, joined, joined-low, copied, Put, Differs, First}
 use Rattle.bits.proofs.Words.{zero-bit, or-bit, shr-bit, one-bit, all-bits, above-bit, word-other, low-none, low-there, keep-low}
 
@@ -198,6 +198,17 @@ differ-next l₀ l l′ w i x f t b z F new D Q ez = go b refl
 
 abbrev pub NoneTo : List ℕ → ℕ → ℕ → Type 0
 NoneTo l a p = (j : ℕ) → a ≤ j → j < p → bit l j ≡ false
+
+pub here-inside : (l : List ℕ) (a e : ℕ) (b : Bool) → a < e → b ≡ bit l a → b ≡ (ltb a e && bit l a)
+here-inside l a e b h q = rw (lt-ltb a e h) q
+
+pub here-past : (l : List ℕ) (a e : ℕ) → e ≤ a → false ≡ (ltb a e && bit l a)
+here-past l a e h = rw (le-ltb a e h)
+
+pub here : (l : List ℕ) (a e : ℕ) (y : Bool) → y ≡ (ltb a e && bit l a) → y ≡ true → First l a e a
+here l a e y q t =
+    let s = and-split (ltb a e) (bit l a) (sym q ∙ t) in
+    record { from = omega arith; upto = omega (arith, ltb-true a e (s .0)); none = λ j h g. absurd (omega arith); there = λ h. s .1 }
 
 pub none-start : (l : List ℕ) (a : ℕ) → NoneTo l a a
 none-start l a j h g = absurd (omega arith)

@@ -12,10 +12,10 @@
 // `add_edge` sets two bits and widens two spans; `row_span` answers where a row's bits lie. The contracts cite `bit`, `Filled`, `edges`,
 // `succs`, `Spanned` and `Agree` of specs/; `preds-of` gives the predecessor lists that the sweeps of Rattle.definitions.specs.Sweeps are over.
 ghost use mathlib.Core.Path.{_≡_};
-ghost use mathlib.Core.Bool.{true, false, _||_, not};
+ghost use mathlib.Core.Bool.{true, false, _&&_, _||_};
 ghost use Prim.Native.Nat.{_+_, _*_, _/_, _<_, _≤_};
-ghost use lib.ListN.{length, getD, set};
-ghost use lib.Dec.{eqb};
+ghost use lib.ListN.{length};
+ghost use lib.Dec.{eqb, ltb};
 ghost use lib.Count.{trailingZeros};
 ghost use Rattle.bits.specs.Rows.{bit, Filled, Zero, WithBit, joined, joined-low, copied, Put, First};
 ghost use Rattle.bits.specs.Edges.{Matrices, Spanned, Widened, Widen, Noted, Between, NoEdges, Added};
@@ -124,11 +124,23 @@ fn low_zeros(x: u64) -> usize
     u64::trailing_zeros(x) as usize
 }
 
-// The first set bit from a on, below e; e where there is none.
+// Bit a is one below e, and set.
+fn is_here(s: &[u64], a: usize, e: usize) -> bool
+    requires { ⌜ e ≤ length (now s) * 64 ⌝ }
+    ensures { λ y. ⌜ y ≡ (ltb a e && bit (now (s .entry)) a) ⌝ }
+{
+    if a < e { get_bit(s, a) } else { false }
+}
+
+// The first set bit from a on, below e; e where there is none. Bit a itself is tested first: in a sweep it mostly is set, and a test that the
+// processor foresees does not make it wait for the word.
 pub fn find_bit(s: &[u64], a: usize, e: usize) -> usize
     requires { ⌜ (a ≤ e) × (e ≤ length (now s) * 64) × (e < 1000000000) ⌝ }
     ensures { λ q. ⌜ First (now (s .entry)) a e q ⌝ }
 {
+    if is_here(s, a, e) {
+        return a;
+    }
     let mut p = a;
     while p < e {
         let x = s[p / 64] >> (p % 64);

@@ -6,7 +6,7 @@
 --   alone-slices, family-by                            `family_reps`
 --   links-start, links-next, links-end, slices-next    the loop of `link_reads`
 -- Assumes nothing.
-use Prim.Native.Nat.{ℕ, zero, suc, _+_, _*_, _<_, _≤_}
+use Prim.Native.Nat.{ℕ, suc, _+_, _*_, _<_, _≤_}
 use mathlib.Core.Path.{_≡_, refl, sym, ap, _∙_}
 use mathlib.Core.Logic.{inl, inr}
 use mathlib.Core.List.{List, [], _∷_, _++_, map}
@@ -14,7 +14,7 @@ use native.Mathlib.Omega.{arith}
 use native.Mathlib.Numerals.{add-one}
 use lib.ListN.{length, getD, take, List·getD-eq-default}
 use lib.Seq.{take-suc, take-all}
-use Rattle.definitions.specs.Lists.{fold, up-to, member, or-else, first}
+use Rattle.definitions.specs.Lists.{fold, up-to, or-else, first}
 use Rattle.definitions.specs.Sweeps.{sweeps}
 use Rattle.definitions.specs.Recover.{link}
 use Rattle.theory.proofs.Bools.{lt-or-ge}

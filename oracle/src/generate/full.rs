@@ -119,16 +119,29 @@ pub fn uncrossed() -> Vec<PseudoLine> {
     }))
 }
 
-/// So many names `PREFIXn` that the hash h -> h * by + byte (mod 256), from 0, takes to 7: the library has a table with such a hash, the original a keyed one.
-fn colliding(prefix: &str, by: usize, count: usize) -> Vec<String> {
-    let hash = |s: &String| s.bytes().fold(0, |h, b| (h * by + usize::from(b)) % 256) == 7;
-    (16..).map(|n| format!("{prefix}{n}")).filter(hash).take(count).collect()
+/// The first names `{prefix}16`, `{prefix}17`, .. that a hash takes to one place of its table.
+fn colliding(prefix: &str, count: usize, hash: impl Fn(&str) -> u64) -> Vec<String> {
+    (16..).map(|n| format!("{prefix}{n}")).filter(|s| hash(s) == 7).take(count).collect()
 }
 
-/// 500 labels whose names collide in the library's table, and 500 lines with five gotos each.
+/// The place of a label in the library's table, by its first multiplier.
+fn label_place(s: &str) -> u64 {
+    s.bytes().fold(0, |h, b| (h * 31 + u64::from(b)) % 65_536) % 255
+}
+
+/// The place of a family in the library's table, by its first multiplier.
+fn family_place(s: &str) -> u64 {
+    let mixed = |h: u64, b| {
+        let x = h * 18_021 + u64::from(b);
+        x % (1 << 31) + x / (1 << 31)
+    };
+    s.bytes().fold(0, mixed) % 247
+}
+
+/// 500 labels whose names collide in the library's table by its first multiplier, and 500 lines with five gotos each.
 pub fn colliding_labels() -> Vec<PseudoLine> {
     let token = |t: &str, k| Token { t: t.to_string(), k };
-    let names = colliding("L", 31, 500);
+    let names = colliding("L", 500, label_place);
     let labels = names.iter().map(|n| line(0, &format!("{n}:")));
     let gotos = (0..500).map(|i| {
         let goto = |j: usize| [token("goto", TokenKind::Keyword), token(&names[(i * 7 + j * 91) % 500], TokenKind::Symbol)];
@@ -137,9 +150,9 @@ pub fn colliding_labels() -> Vec<PseudoLine> {
     function(MAX_LINES, labels.chain(gotos))
 }
 
-/// 300 families whose names collide in the library's table, among hundreds of gotos.
+/// 300 families whose names collide in the library's table by its first multiplier, among hundreds of gotos.
 pub fn colliding_families() -> Vec<PseudoLine> {
-    let names = colliding("r", 10, 300);
+    let names = colliding("r", 300, family_place);
     let is_definition = |l: &PseudoLine| l.tokens.get(1).is_some_and(|t| t.t.trim() == "=");
     let mut lines = uncrossed();
     for (k, l) in lines.iter_mut().filter(|l| is_definition(l)).enumerate() {

@@ -1,6 +1,6 @@
 -- `bits::find_bit` meets its contract. The invariant: no bit from a on below p is set. Assumes nothing.
 use Prim.Native.Nat.{_+_, _-_, _≤_}
-use Rattle.bits.proofs.RowLaws.{NoneTo, none-start, none-next, none-end, found, past}
+use Rattle.bits.proofs.RowLaws.{NoneTo, here, none-start, none-next, none-end, found, past}
 use borrow.Author.Needs.{needs}
 use Rattle.bits.proofs.find_bit.Statement.{statement}
 use Rattle.bits.proofs.find_bit.Tie as tie
@@ -10,6 +10,12 @@ Inv-loop s a e p₀ p = (a ≤ p) × (p ≤ e + 63) × NoneTo s a p
 
 abbrev μ-loop : tie.MeasureT-loop
 μ-loop s a e p₀ p = e + 63 - p
+
+is-here-requires : tie.Need-is-here-requires Inv-loop μ-loop
+is-here-requires c κs = search needs
+
+returns : tie.Need-returns Inv-loop μ-loop
+returns c = search (here, needs)
 
 loop-holds : tie.Need-loop-holds Inv-loop μ-loop
 loop-holds c = search (none-start, needs)
@@ -29,11 +35,11 @@ low-zeros-requires c κs = search needs
 add-q : tie.Need-add-q Inv-loop μ-loop
 add-q c = search needs
 
-returns : tie.Need-returns Inv-loop μ-loop
-returns c = search (found, needs)
-
 returns-2 : tie.Need-returns-2 Inv-loop μ-loop
-returns-2 c = search (past, needs)
+returns-2 c = search (found, needs)
+
+returns-3 : tie.Need-returns-3 Inv-loop μ-loop
+returns-3 c = search (past, needs)
 
 add-p : tie.Need-add-p Inv-loop μ-loop
 add-p c = search needs
@@ -47,8 +53,8 @@ loop-less c = search needs
 loop-again : tie.Need-loop-again Inv-loop μ-loop
 loop-again c = search (none-next, needs)
 
-returns-3 : tie.Need-returns-3 Inv-loop μ-loop
-returns-3 c = search (none-end, needs)
+returns-4 : tie.Need-returns-4 Inv-loop μ-loop
+returns-4 c = search (none-end, needs)
 
 pub find-bit-spec : {M : Type 1} → statement M
 find-bit-spec =
@@ -56,16 +62,18 @@ find-bit-spec =
     (tie.spec
     Inv-loop
     μ-loop
+    is-here-requires
+    returns
     loop-holds
     mul-x
     shared-slice-read-x
     shr-x
     low-zeros-requires
     add-q
-    returns
     returns-2
+    returns-3
     add-p
     mul-p
     loop-less
     loop-again
-    returns-3)
+    returns-4)
