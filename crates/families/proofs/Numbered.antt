@@ -24,7 +24,7 @@ use native.Mathlib.Nat.{add-zero}
 use native.Mathlib.Numerals.{add-one}
 use lib.Dec.{eqb, ltb}
 use borrow.Author.Tests.{eqb-true, eq-eqb, lt-ltb, le-ltb, ltb-true}
-use lib.ListN.{length, getD, set, take, drop, replicate, length-append, length-set, length-replicate, List·getD-append}
+use lib.ListN.{length, getD, set, take, drop, replicate, length-append, length-drop, length-set, length-replicate, List·getD-append}
 use lib.Seq.{take-append-seam, getD-append-seam, getD-append-add, getD-drop, length-take-le, getD-set-same, getD-set-other}
 use Rattle.definitions.specs.Lists.{any, filter, concat, range, position, to-list, is-some, _==_}
 use Rattle.definitions.specs.Model.{Line, token, line}
@@ -508,29 +508,32 @@ module _ (l t x : List ℕ) (i count : ℕ) (table ds : List ℕ) (N : Numbered 
   pub numbered-end : length l ≤ i → Numbered (listing l t x) (length l) count table ds
   numbered-end h = let z : i ≡ length l = omega (arith, N .upto, length-listing l t x) in rw z at N
 
-pub numbered-start : (l t x table₀ table ds : List ℕ) (m : ℕ) → 0 < length l → length l ≤ 1024 → 2304 ≤ length table₀ → length l ≤ length ds → table ≡ zeroed 0 table₀
-    → Numbered (listing l t x) 1 0 (set table 247 m) (set ds 0 0)
+pub numbered-start : (l t x table₀ zs ds : List ℕ) (m : ℕ) → 0 < length l → length l ≤ 1024 → 2304 ≤ length table₀ → length l ≤ length ds → zs ≡ zeroed 0 (take 256 table₀)
+    → Numbered (listing l t x) 1 0 (set (zs ++ drop 256 table₀) 247 m) (set ds 0 0)
 unfolding families-before range concat distinct latest defined-at
-numbered-start l t x table₀ table ds m a b c d z = record {
+numbered-start l t x table₀ zs ds m a b c d z = record {
   above = omega arith;
   upto = omega (arith, length-listing l t x);
   few = omega (arith, length-listing l t x);
-  room = rw (length-set, z) (omega (arith, length-replicate {A = ℕ} (length table₀ - 0) 0));
+  room = rw (length-set, length-append zs (drop 256 table₀)) (omega (arith, zeros-length, length-drop 256 table₀));
   width = rw length-set (omega (arith, length-listing l t x));
   known = refl;
   small = omega arith;
   table = record {
     size = omega arith;
-    heads = λ h l. zero-at h (λ q. omega arith);
-    rows = λ i k l e. absurd (omega (arith, zero-at (248 + i) (λ q. omega arith)));
+    heads = λ h l. zero-at h (omega arith) (λ q. omega arith);
+    rows = λ i k l e. absurd (omega (arith, zero-at (248 + i) (omega arith) (λ q. omega arith)));
     next = λ k l. absurd (omega arith);
     first = λ k l. absurd (omega arith);
   };
   defs = λ j h. let e : j ≡ 0 = omega arith in rw e (getD-set-same ds 0 0 0 (omega arith));
 }
   where
-    zero-at : (j : ℕ) → (j ≡ 247 → ⊥) → getD (set table 247 m) j 0 ≡ 0
-    zero-at j n = getD-set-other table 247 j m 0 n ∙ rw z (replicate-default (length table₀ - 0) j 0)
+    zeros-length : length zs ≡ 256
+    zeros-length = ap length z ∙ length-replicate {A = ℕ} (length (take 256 table₀) - 0) 0 ∙ omega (arith, length-take-le 256 table₀ (omega arith))
+
+    zero-at : (j : ℕ) → j < 256 → (j ≡ 247 → ⊥) → getD (set (zs ++ drop 256 table₀) 247 m) j 0 ≡ 0
+    zero-at j h n = getD-set-other (zs ++ drop 256 table₀) 247 j m 0 n ∙ List·getD-append zs (drop 256 table₀) 0 j (omega (arith, zeros-length)) ∙ rw z (replicate-default (length (take 256 table₀) - 0) j 0)
 
 -- `empty`
 

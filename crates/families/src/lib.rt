@@ -423,7 +423,7 @@ pub fn families(
     requires { ⌜ (0 < length (now lines)) × (length (now lines) ≤ 1024) × (2304 ≤ length (now table)) × (length (now lines) ≤ length (now defs)) ⌝ }
     ensures { λ c. ⌜ Numbered (listing (now (lines .entry)) (now (tokens .entry)) (now (text .entry))) (length (now (lines .entry))) c (now (table .exit)) (now (defs .exit)) ⌝ }
 {
-    zero(table);
+    zero(&mut table[..256]);
     table[247] = FIRST;
     defs[0] = 0;
     let mut count = 0;
