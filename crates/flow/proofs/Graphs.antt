@@ -1,28 +1,33 @@
 -- The edges of all lines are the flow graph.
 --   rest-next, rest-end, rest-all    the edges that are left to draw: line by line, none, all
+--   lines-start, lines-next, lines-fail, lines-end    whether the gotos of all lines lead to labels: line by line
 --   graph-drawn                      the matrices have the flow graph
 --   graph-predecessors               and stand for its predecessor lists
 --   refused-brace, refused-label, not-refused    the answers
 --   some-none                        a refusal is an answer
 --   webs-refusal-flow                questions 8 and 9 within `webs-refusal`
 -- Assumes nothing.
-use Prim.Native.Nat.{ℕ, suc, _+_, _<_, _≤_}
+use Prim.Native.Nat.{ℕ, _+_, _<_, _≤_}
 use mathlib.Core.Path.{_≡_, refl, sym, ap, ap₂, _∙_}
 use mathlib.Core.Bool.{Bool, true, false, cond, _&&_, _||_, or-true, or-false, and-true, and-or-distrib-right}
 use mathlib.Core.List.{List, [], _∷_, _++_, map}
 use mathlib.Core.Option.{Option, none, some}
+use native.Mathlib.Nat.{zero-add}
 use native.Mathlib.Decide.{ℕ-discrete, decLe}
 use native.Mathlib.Omega.{arith}
 use borrow.Author.Tests.{eq-eqb, ne-eqb, le-leb, lt-leb, lt-ltb}
 use lib.Dec.{eqb, leb, ltb}
-use lib.ListN.{length, getD}
-use Rattle.definitions.specs.Lists.{is-some, any, filter, up-to, member}
+use lib.ListN.{length, getD, drop}
+use Rattle.definitions.specs.Lists.{is-some, any, all, filter, up-to, member}
 use Rattle.definitions.specs.Model.{Line}
+use Rattle.definitions.specs.Columns.{listing}
 use Rattle.definitions.specs.Blocks.{Blocks, blocks}
-use Rattle.definitions.specs.FlowGraph.{falls, past-end, loops-back, cases, leaves, jumps, successors, gotos-lead, flow-graph, steps, predecessors}
+use Rattle.definitions.specs.FlowGraph.{falls, past-end, loops-back, cases, leaves, leads, jumps, successors, gotos-lead, flow-graph, steps, predecessors}
 use Rattle.definitions.specs.Answers.{webs-refusal}
+use Rattle.text.proofs.Loops.{all-found, all-next, all-end}
+use Rattle.model.proofs.Decode.{length-listing}
 use Rattle.theory.proofs.Bools.{or-left, or-right}
-use Rattle.theory.proofs.ListLaws.{member-filter, member-range, getD-map-up-to}
+use Rattle.theory.proofs.ListLaws.{member-filter, member-range, getD-range, length-range, getD-map-up-to}
 use Rattle.theory.proofs.Graph.{flow-length, predecessor-lists}
 use Rattle.bits.specs.Edges.{edges, preds-of, NoEdges}
 use Rattle.blocks.specs.Structure.{blocks-of}
@@ -84,6 +89,34 @@ module _ (L : List Line) (b : Blocks) where
       move true c j v l = refl
       move false c j v true = or-true ((c || j) || v)
       move false c j v false = or-false ((c || j) || v)
+
+-- Question 9 of the lines from i on
+
+unfoldable pub lines-from : List Line → ℕ → ℕ → Bool
+lines-from L n i = all (λ i. all is-some (leads L i)) (drop i (up-to n))
+
+pub lines-start : (l t x : List ℕ) → gotos-lead (listing l t x) ≡ lines-from (listing l t x) (length l) 0
+unfolding lines-from gotos-lead
+lines-start l t x = rw (length-listing l t x)
+
+module _ (L : List Line) (n i : ℕ) (r : Bool) (inv : r ≡ lines-from L n i) where
+  module _ (b : Bool) (q : b ≡ all is-some (leads L i)) (h : i < n) where
+    here : b ≡ all is-some (leads L (getD (up-to n) i 0))
+    here = q ∙ ap (λ (k : ℕ). all is-some (leads L k)) (sym (getD-range 0 n i 0 h ∙ zero-add i))
+
+    pub lines-next : b ≡ true → r ≡ lines-from L n (i + 1)
+    unfolding lines-from
+    lines-next z = all-next (λ i. all is-some (leads L i)) (up-to n) i n (sym (length-range 0 n)) r inv 0 b h here z
+
+    pub lines-fail : b ≡ false → false ≡ r
+    unfolding lines-from
+    lines-fail z = all-found (λ i. all is-some (leads L i)) (up-to n) i n (sym (length-range 0 n)) r inv 0 b h here z
+
+  pub lines-end : n ≤ i → true ≡ r
+  unfolding lines-from
+  lines-end h = all-end (λ i. all is-some (leads L i)) (up-to n) i n (sym (length-range 0 n)) r inv h
+
+pub ruleset lines-leading = (lines-start, lines-next, lines-fail, lines-end)
 
 -- The graph
 

@@ -1,7 +1,8 @@
 // The flow graph of a listing, drawn into the two matrices of Rattle.bits, with questions 8 and 9.
 //
-// Masks, blocks and labels stand in local arrays, of 64 entries for at most 64 lines, else of 1,024. Beside the steps, which are drawn line by
-// line, the time is linear in the tokens and bytes. Contracts cite `flow-graph` of Rattle.definitions.specs.FlowGraph.
+// Masks, blocks and labels stand in local arrays, of 64 entries for at most 64 lines, else of 1,024. Drawing answers question 9: the label of a
+// goto is looked up once, for its step. Beside the steps, which are drawn line by line, the time is linear in the tokens and bytes. Contracts
+// cite `flow-graph` and `gotos-lead` of Rattle.definitions.specs.FlowGraph.
 ghost use mathlib.Core.Path.{_≡_};
 ghost use mathlib.Core.Bool.{true};
 ghost use mathlib.Core.Option.{none};
@@ -9,7 +10,7 @@ ghost use Prim.Native.Nat.{ℕ, _≤_, _<_};
 ghost use lib.ListN.{length, getD};
 ghost use Rattle.definitions.specs.Lists.{member};
 ghost use Rattle.definitions.specs.Columns.{listing};
-ghost use Rattle.definitions.specs.FlowGraph.{successors};
+ghost use Rattle.definitions.specs.FlowGraph.{successors, gotos-lead};
 ghost use Rattle.bits.specs.Edges.{Matrices};
 ghost use Rattle.line_keywords.specs.Masks.{Masks};
 ghost use Rattle.blocks.specs.Structure.{blocks-of, Matched};
@@ -17,7 +18,6 @@ ghost use Rattle.line_steps.specs.Drawing.{Drawn};
 ghost use Rattle.line_steps.specs.Read.{Read};
 ghost use Rattle.flow.specs.Graph.{Graph, flow-refusal, refused};
 use blocks::blocks;
-use labels::gotos::gotos_lead;
 use labels::index;
 use line_steps::steps::line_steps;
 
@@ -28,7 +28,7 @@ pub enum Flow {
     UnknownLabel,
 }
 
-// The edges of every line.
+// The edges of every line, with question 9: has every goto keyword a symbol after it, the first of which names a label?
 fn draw(
     lines: &[u32],
     tokens: &[u32],
@@ -40,18 +40,19 @@ fn draw(
     nexts: &[u16],
     space: &mut [u64],
     r: usize,
-)
+) -> bool
     requires { ⌜ Matrices (length (now lines)) r (now space) ⌝ }
     requires { ⌜ Read (now lines) (now tokens) (now text) (now masks) (now ends) (now parents) (now heads) (now nexts) ⌝ }
-    ensures { λ z.
+    ensures { λ y. ⌜ y ≡ gotos-lead (listing (now (lines .entry)) (now (tokens .entry)) (now (text .entry))) ⌝ }
+    ensures { λ y.
         ⌜ (let L = listing (now (lines .entry)) (now (tokens .entry)) (now (text .entry)) in
         let n = length (now (lines .entry)) in
-        Drawn n r (now (space .entry)) (now (space .exit)) (λ i j. member j (successors L (blocks-of L) i))) ⌝ }
+        (y ≡ true → Drawn n r (now (space .entry)) (now (space .exit)) (λ i j. member j (successors L (blocks-of L) i)))) ⌝ }
 {
     let n = lines.len();
     let mut i = 0;
     while i < n {
-        line_steps(
+        if line_steps(
             lines,
             tokens,
             text,
@@ -63,9 +64,13 @@ fn draw(
             space,
             r,
             i,
-        );
-        i += 1;
+        ) {
+            i += 1;
+        } else {
+            return false;
+        }
     }
+    true
 }
 
 // The same as `flow_graph_in`, once every brace is known to match.
@@ -92,20 +97,19 @@ fn label_graph(
         (refused f ≡ none → Graph L (length (now (lines .entry))) r (now (space .entry)) (now (space .exit)))) ⌝ }
 {
     index(lines, tokens, text, heads, nexts);
-    if gotos_lead(lines, tokens, text, masks, heads, nexts) {
-        bits::no_edges(space, lines.len(), r);
-        draw(
-            lines,
-            tokens,
-            text,
-            masks,
-            ends,
-            parents,
-            heads,
-            nexts,
-            space,
-            r,
-        );
+    bits::no_edges(space, lines.len(), r);
+    if draw(
+        lines,
+        tokens,
+        text,
+        masks,
+        ends,
+        parents,
+        heads,
+        nexts,
+        space,
+        r,
+    ) {
         Flow::Drawn
     } else {
         Flow::UnknownLabel

@@ -3,38 +3,27 @@
 --   goto-found, goto-next, goto-end     the loop of `next_goto`
 --   symbol-found, symbol-next, symbol-end    the loop of `next_symbol`
 --   line-some, line-none                the label that the symbol behind a goto names
---   leads-yes, leads-no                 whether there is one
---   leads-at                            where the gotos from place k on lead, at a goto
---   lead-start, lead-next, lead-fail, lead-end        the loop of `tokens_lead`
---   leads-none                          a line without a goto
---   lines-start, lines-next, lines-fail, lines-end    the loop of `gotos_lead`
+--   leads-at                            where the gotos from the one at place k on lead
 -- Assumes nothing.
 use Prim.Native.Nat.{ℕ, _+_, _/_, _<_, _≤_}
 use mathlib.Core.Path.{_≡_, refl, sym, ap, _∙_}
-use mathlib.Core.Bool.{Bool, true, false, cond, _&&_}
-use mathlib.Core.List.{List, [], _∷_, map}
+use mathlib.Core.Bool.{Bool, true, false, cond}
+use mathlib.Core.List.{List, _∷_, map}
 use mathlib.Core.Option.{Option, none, some}
-use native.Mathlib.Nat.{zero-add}
 use native.Mathlib.Decide.{decLe}
 use native.Mathlib.Omega.{arith}
 use borrow.Author.Tests.{lt-ltb, le-ltb}
 use lib.Dec.{eqb}
-use lib.ListN.{length, getD, drop}
-use Rattle.definitions.specs.Lists.{_>>=_, is-some, all, find, part, up-to, ascii}
+use lib.ListN.{length, getD}
+use Rattle.definitions.specs.Lists.{_>>=_, find, part, ascii}
 use Rattle.definitions.specs.Model.{Token, Line, line, no-token, Symbol}
 use Rattle.definitions.specs.Columns.{token-list, listing}
-use Rattle.definitions.specs.Statements.{is-kw, has-kw, first-symbol, targets}
-use Rattle.definitions.specs.FlowGraph.{label-line, leads, gotos-lead}
+use Rattle.definitions.specs.Statements.{is-kw, first-symbol, targets}
+use Rattle.definitions.specs.FlowGraph.{label-line}
 use Rattle.text.proofs.Parts.{part-step, part-none, part-clamp}
-use Rattle.text.proofs.Loops.{all-found, all-next, all-end}
 use Rattle.model.specs.Places.{line-start, line-end}
-use Rattle.model.proofs.Decode.{line-at, length-listing, length-tokens}
-use Rattle.line_keywords.proofs.NoGotos.{no-leads}
-use Rattle.theory.proofs.ListLaws.{getD-range, length-range}
-use Rattle.labels.specs.Buckets.{line-of}
-use Rattle.labels.specs.Gotos.{symbol-at, targets-at, goto-line}
-use Rattle.labels.specs.declared.Label.{Label}
-use Rattle.labels.specs.declared.Label.the-variants as label
+use Rattle.model.proofs.Decode.{line-at, length-tokens}
+use Rattle.labels.specs.Gotos.{symbol-at, targets-at}
 
 pub line-tokens : (l t x : List ℕ) (i : ℕ) → line (listing l t x) i .tokens ≡ part (line-start l i) (line-end l t i) (token-list t x)
 line-tokens l t x i = ap (λ m. m .tokens) (line-at l t x i) ∙ go (decLe (getD l i 0 / 512) (length t))
@@ -102,72 +91,9 @@ module _ (us : List Token) (k e : ℕ) (o : Option (List ℕ)) (g : List ℕ →
   unfolding symbol-at
   line-some s r h z y = rw (← q, lt-ltb k e h) (y ∙ ap g z)
 
-module _ (f : Label) (o : Option ℕ) (h : line-of f ≡ o) where
-  pub leads-yes : (k : ℕ) → f ≡ label.At k → true ≡ is-some o
-  leads-yes k z = rw (← h, z)
+pub ruleset jumping = (line-none, line-some)
 
-  pub leads-no : f ≡ label.Missing → false ≡ is-some o
-  leads-no z = rw (← h, z)
-
-pub ruleset jumping = (line-none, line-some, leads-yes, leads-no)
-
--- The gotos of a line, from the one at place k on
+-- The gotos from the one at place k on
 
 unfoldable pub leads-at : List Line → List Token → ℕ → ℕ → List (Option ℕ)
 leads-at L us k e = map (λ t. t >>= label-line L) (targets-at us k e)
-
-pub lead-start : (l t x : List ℕ) (i s e k : ℕ) → s ≡ line-start l i → e ≡ line-end l t i → targets-at (token-list t x) k e ≡ targets (part s e (token-list t x))
-    → all is-some (leads (listing l t x) i) ≡ all is-some (leads-at (listing l t x) (token-list t x) k e)
-unfolding leads-at
-lead-start l t x i s e k p q z = rw (line-tokens l t x i, ← p, ← q, z)
-
-module _ (L : List Line) (us : List Token) (k e : ℕ) (r : Bool) (inv : r ≡ all is-some (leads-at L us k e)) where
-  module _ (b : Bool) (q : b ≡ is-some (goto-line L us (k + 1) e)) (h : k < e) where
-    lead-step : r ≡ (b && all is-some (map (λ t. t >>= label-line L) (targets (part (k + 1) e us))))
-    unfolding leads-at targets-at all
-    lead-step = inv ∙ rw (lt-ltb k e h, q)
-
-    pub lead-next : (n : ℕ) → b ≡ true → targets-at us n e ≡ targets (part (k + 1) e us) → r ≡ all is-some (leads-at L us n e)
-    unfolding leads-at
-    lead-next n z y = lead-step ∙ rw (z, y)
-
-    pub lead-fail : b ≡ false → false ≡ r
-    lead-fail z = sym (lead-step ∙ rw z)
-
-  pub lead-end : e ≤ k → true ≡ r
-  unfolding leads-at targets-at all
-  lead-end h = sym (inv ∙ rw (le-ltb k e h))
-
-pub ruleset leading = (lead-start, lead-next, lead-fail, lead-end)
-
-pub leads-none : (L : List Line) (i : ℕ) (b : Bool) → b ≡ has-kw (line L i) (ascii "goto") → b ≡ false → true ≡ all is-some (leads L i)
-unfolding all
-leads-none L i b e f = rw (no-leads L i (sym e ∙ f))
-
--- The lines from i on
-
-unfoldable pub lines-from : List Line → ℕ → ℕ → Bool
-lines-from L n i = all (λ i. all is-some (leads L i)) (drop i (up-to n))
-
-pub lines-start : (l t x : List ℕ) → gotos-lead (listing l t x) ≡ lines-from (listing l t x) (length l) 0
-unfolding lines-from gotos-lead
-lines-start l t x = rw (length-listing l t x)
-
-module _ (L : List Line) (n i : ℕ) (r : Bool) (inv : r ≡ lines-from L n i) where
-  module _ (b : Bool) (q : b ≡ all is-some (leads L i)) (h : i < n) where
-    here : b ≡ all is-some (leads L (getD (up-to n) i 0))
-    here = q ∙ ap (λ (k : ℕ). all is-some (leads L k)) (sym (getD-range 0 n i 0 h ∙ zero-add i))
-
-    pub lines-next : b ≡ true → r ≡ lines-from L n (i + 1)
-    unfolding lines-from
-    lines-next z = all-next (λ i. all is-some (leads L i)) (up-to n) i n (sym (length-range 0 n)) r inv 0 b h here z
-
-    pub lines-fail : b ≡ false → false ≡ r
-    unfolding lines-from
-    lines-fail z = all-found (λ i. all is-some (leads L i)) (up-to n) i n (sym (length-range 0 n)) r inv 0 b h here z
-
-  pub lines-end : n ≤ i → true ≡ r
-  unfolding lines-from
-  lines-end h = all-end (λ i. all is-some (leads L i)) (up-to n) i n (sym (length-range 0 n)) r inv h
-
-pub ruleset lines-leading = (lines-start, lines-next, lines-fail, lines-end)

@@ -8,6 +8,8 @@
 --   left-yes, left-no, left-start, left-next, left-end          out of one block, out of those around a line
 --   leaves-yes, leaves-no                            the same as the definition has it
 --   jump-some, jump-none, jumps-at, jumps-start, jumps-next, jumps-end, jumps-none    to labels
+--   leads-yes, leads-no, leads-start, leads-next, leads-fail, leads-end, leads-none   whether there is one for every goto
+--   line-drawn                                       all kinds
 -- Assumes nothing.
 use Prim.Native.Nat.{ℕ, zero, suc, _+_, _-_, _<_, _≤_}
 use mathlib.Core.Path.{_≡_, refl, sym, ap, _∙_, fun-ext}
@@ -20,15 +22,15 @@ use native.Mathlib.Decide.{ℕ-discrete}
 use native.Mathlib.Omega.{arith}
 use borrow.Author.Tests.{eq-eqb, ne-eqb, lt-ltb, le-ltb, eqb-true}
 use lib.Dec.{eqb}
-use lib.ListN.{length, getD, drop}
-use Rattle.definitions.specs.Lists.{if_then_else_, _>>=_, to-list, any, filter, concat, part, range, up-to, member, ascii}
+use lib.ListN.{length, getD}
+use Rattle.definitions.specs.Lists.{if_then_else_, _>>=_, is-some, to-list, any, all, filter, concat, part, range, up-to, member, ascii}
 use Rattle.definitions.specs.Columns.{token-list, listing}
-use Rattle.definitions.specs.Model.{Token, Line, line, token, no-token}
+use Rattle.definitions.specs.Model.{Token, Line, line}
 use Rattle.definitions.specs.Statements.{targets, has-kw}
 use Rattle.definitions.specs.Blocks.{Blocks}
-use Rattle.definitions.specs.FlowGraph.{end-of, past-end, is-loop, is-switch, is-case, closes, loops-back, cases, leaves, label-line, jumps}
+use Rattle.definitions.specs.FlowGraph.{end-of, falls, past-end, is-loop, is-switch, is-case, closes, loops-back, cases, leaves, label-line, leads, jumps}
 use Rattle.model.specs.Places.{line-start, line-end}
-use Rattle.line_keywords.proofs.NoGotos.{no-jumps}
+use Rattle.line_keywords.proofs.NoGotos.{no-leads, no-jumps}
 use Rattle.theory.proofs.Bools.{same-test}
 use Rattle.theory.proofs.ListLaws.{any-found, any-here, member-filter, range-member}
 use Rattle.bits.specs.Edges.{Added}
@@ -38,7 +40,7 @@ use Rattle.labels.specs.Buckets.{line-of}
 use Rattle.labels.specs.Gotos.{targets-at, goto-line}
 use Rattle.labels.specs.declared.Label.{Label}
 use Rattle.labels.specs.declared.Label.the-variants.{At, Missing}
-use Rattle.line_steps.specs.Drawing.{Drawing, Drawn, from, after, left, lefts, back}
+use Rattle.line_steps.specs.Drawing.{Drawing, Drawn, from, after, left, lefts, back, own, line-edges}
 use Rattle.blocks.proofs.Links.{place-some, linked-fuel, linked-below}
 use Rattle.line_steps.proofs.Drawings.{drawn-none, drawn-as, drawn-both, drawn-step, drawing-start, drawing-next, drawing-end, member-append}
 use Rattle.labels.proofs.Leads.{line-tokens, leads-at}
@@ -310,18 +312,47 @@ module _ (n r i : ℕ) (f : Label) (o : Option ℕ) (e : line-of f ≡ o) where
   pub jump-none : (l : List ℕ) → f ≡ Missing → Drawn n r l l (from i (to-list o))
   jump-none l z = from-nil n r i (to-list o) l (rw (← e, z))
 
+module _ (f : Label) (o : Option ℕ) (e : line-of f ≡ o) where
+  pub leads-yes : (q : ℕ) → f ≡ At q → true ≡ is-some o
+  leads-yes q z = rw (← e, z)
+
+  pub leads-no : f ≡ Missing → false ≡ is-some o
+  leads-no z = rw (← e, z)
+
 -- where the gotos from the one at place k on lead
 unfoldable pub jumps-at : List Line → List Token → ℕ → ℕ → List ℕ
 jumps-at L us k e = concat (map to-list (leads-at L us k e))
 
-module _ (n r : ℕ) where
-  pub jumps-start : (l t x : List ℕ) (i s e k : ℕ) (d : List ℕ) → s ≡ line-start l i → e ≡ line-end l t i → targets-at (token-list t x) k e ≡ targets (part s e (token-list t x))
-      → Drawing n r d d (from i (jumps (listing l t x) i)) (from i (jumps-at (listing l t x) (token-list t x) k e))
-  unfolding jumps jumps-at leads-at
-  jumps-start l t x i s e k d p q z =
-      let w : jumps (listing l t x) i ≡ jumps-at (listing l t x) (token-list t x) k e = rw (line-tokens l t x i, ← p, ← q, z) in
-      rw (← w) (drawing-start n r d (from i (jumps (listing l t x) i)))
+module _ (l t x : List ℕ) (i s e k : ℕ) (p : s ≡ line-start l i) (q : e ≡ line-end l t i) (z : targets-at (token-list t x) k e ≡ targets (part s e (token-list t x))) where
+  all-at : leads (listing l t x) i ≡ leads-at (listing l t x) (token-list t x) k e
+  unfolding leads-at
+  all-at = rw (line-tokens l t x i, ← p, ← q, z)
 
+  pub leads-start : all is-some (leads (listing l t x) i) ≡ all is-some (leads-at (listing l t x) (token-list t x) k e)
+  leads-start = ap (all is-some) all-at
+
+  pub jumps-start : (n r : ℕ) (d : List ℕ) → Drawing n r d d (from i (jumps (listing l t x) i)) (from i (jumps-at (listing l t x) (token-list t x) k e))
+  unfolding jumps jumps-at
+  jumps-start n r d = rw (← all-at) (drawing-start n r d (from i (jumps (listing l t x) i)))
+
+module _ (L : List Line) (us : List Token) (k e : ℕ) (r : Bool) (inv : r ≡ all is-some (leads-at L us k e)) where
+  module _ (b : Bool) (q : b ≡ is-some (goto-line L us (k + 1) e)) (h : k < e) where
+    leads-step : r ≡ (b && all is-some (map (λ t. t >>= label-line L) (targets (part (k + 1) e us))))
+    unfolding leads-at targets-at all
+    leads-step = inv ∙ rw (lt-ltb k e h, q)
+
+    pub leads-next : (n : ℕ) → b ≡ true → targets-at us n e ≡ targets (part (k + 1) e us) → r ≡ all is-some (leads-at L us n e)
+    unfolding leads-at
+    leads-next n z y = leads-step ∙ rw (z, y)
+
+    pub leads-fail : b ≡ false → false ≡ r
+    leads-fail z = sym (leads-step ∙ rw z)
+
+  pub leads-end : e ≤ k → true ≡ r
+  unfolding leads-at targets-at all
+  leads-end h = sym (inv ∙ rw (le-ltb k e h))
+
+module _ (n r : ℕ) where
   module _ (L : List Line) (us : List Token) (i k e : ℕ) (f : ℕ → ℕ → Bool) (l₀ l : List ℕ) (D : Drawing n r l₀ l f (from i (jumps-at L us k e))) where
     pub jumps-next : (m : List ℕ) (j : ℕ) → k < e → Drawn n r l m (from i (to-list (goto-line L us (k + 1) e))) → targets-at us j e ≡ targets (part (k + 1) e us)
         → Drawing n r l₀ m f (from i (jumps-at L us j e))
@@ -335,7 +366,20 @@ module _ (n r : ℕ) where
     unfolding jumps-at leads-at targets-at concat
     jumps-end h = steps-end n r i f l₀ l (jumps-at L us k e) D (rw (le-ltb k e h))
 
-pub ruleset jumping = (jumps-start, jumps-next, jumps-end)
+pub ruleset jumping = (leads-start, leads-next, leads-fail, leads-end, jumps-start, jumps-next, jumps-end)
+
+pub leads-none : (L : List Line) (i : ℕ) (b : Bool) → b ≡ has-kw (line L i) (ascii "goto") → b ≡ false → true ≡ all is-some (leads L i)
+unfolding all
+leads-none L i b e f = rw (no-leads L i (sym e ∙ f))
 
 pub jumps-none : (n r : ℕ) (L : List Line) (i : ℕ) (b : Bool) (l : List ℕ) → b ≡ has-kw (line L i) (ascii "goto") → b ≡ false → Drawn n r l l (from i (jumps L i))
 jumps-none n r L i b l e f = from-nil n r i (jumps L i) l (no-jumps L i (sym e ∙ f))
+
+-- All kinds
+
+pub line-drawn : (n r i : ℕ) (L : List Line) (b : Blocks) (l₀ l₁ l₂ l₃ l₄ : List ℕ) → Drawn n r l₀ l₁ (from i (falls L b i ++ past-end b i ++ cases L b i)) → Drawn n r l₁ l₂ (from i (jumps L i))
+    → Drawn n r l₂ l₃ (from i (leaves L b i)) → Drawn n r l₃ l₄ (back L b i) → Drawn n r l₀ l₄ (line-edges L b i)
+unfolding own
+line-drawn n r i L b l₀ l₁ l₂ l₃ l₄ D J W B =
+    drawn-both n r l₀ l₃ l₄ (from i (own L b i)) (back L b i)
+    (steps-append n r i (falls L b i ++ past-end b i ++ cases L b i ++ jumps L i) (leaves L b i) l₀ l₂ l₃ (steps-append n r i (falls L b i ++ past-end b i ++ cases L b i) (jumps L i) l₀ l₁ l₂ D J) W) B

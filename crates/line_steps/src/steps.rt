@@ -3,15 +3,17 @@
 // What a line is says its mask of keywords; only at an `else`, a case and a goto its tokens are looked at. `falls_to` looks at the lines of an
 // else chain, `cases` at the lines between a switch and its close, `leaves` at the openers around a break or continue. No step leads past the
 // last line.
+//
+// A goto that leads to no label answers question 9 with no: `line_steps` answers false, and what the matrices then hold is left open.
 ghost use mathlib.Core.Path.{_≡_};
-ghost use mathlib.Core.Bool.{cond};
+ghost use mathlib.Core.Bool.{true, cond};
 ghost use mathlib.Core.List.{[], _∷_, _++_};
 ghost use Prim.Native.Nat.{_+_, _-_, _≤_, _<_};
 ghost use lib.ListN.{length, getD};
-ghost use Rattle.definitions.specs.Lists.{if_then_else_, filter, range, to-list};
+ghost use Rattle.definitions.specs.Lists.{if_then_else_, is-some, all, filter, range, to-list};
 ghost use Rattle.definitions.specs.Model.{line};
 ghost use Rattle.definitions.specs.Columns.{token-list, listing};
-ghost use Rattle.definitions.specs.FlowGraph.{is-else-close, is-case, chain-end, falls, past-end, cases, jumps, leaves};
+ghost use Rattle.definitions.specs.FlowGraph.{is-else-close, is-case, chain-end, falls, past-end, cases, leads, jumps, leaves};
 ghost use Rattle.bits.specs.Edges.{Matrices};
 ghost use Rattle.line_keywords.specs.Masks.{Masks};
 ghost use Rattle.blocks.specs.Entries.{linked};
@@ -309,7 +311,7 @@ fn leaves(
 
 // Gotos
 
-// The step of a goto of line i, behind which the line's tokens stand from place b up to place e.
+// The step of a goto of line i, behind which the line's tokens stand from place b up to place e. False where it leads to no label.
 fn jump_step(
     lines: &[u32],
     tokens: &[u32],
@@ -321,22 +323,28 @@ fn jump_step(
     i: usize,
     b: usize,
     e: usize,
-)
+) -> bool
     requires { ⌜ (let n = length (now lines) in
         Matrices n r (now space) × (i < n) × (256 ≤ length (now heads)) × (n ≤ length (now nexts)) × (e ≤ length (now tokens))) ⌝ }
     requires { ⌜ Indexed (listing (now lines) (now tokens) (now text)) (now heads) (now nexts) (length (now lines)) ⌝ }
-    ensures { λ z.
+    ensures { λ y.
+        ⌜ (let L = listing (now (lines .entry)) (now (tokens .entry)) (now (text .entry)) in
+        y ≡ is-some (goto-line L (token-list (now (tokens .entry)) (now (text .entry))) b e)) ⌝ }
+    ensures { λ y.
         ⌜ (let L = listing (now (lines .entry)) (now (tokens .entry)) (now (text .entry)) in
         let n = length (now (lines .entry)) in
         Drawn n r (now (space .entry)) (now (space .exit)) (from i (to-list (goto-line L (token-list (now (tokens .entry)) (now (text .entry))) b e)))) ⌝ }
 {
-    let Label::At(q) = goto_line(lines, tokens, text, heads, nexts, b, e) else {
-        return;
-    };
-    step(space, lines.len(), r, i, q);
+    match goto_line(lines, tokens, text, heads, nexts, b, e) {
+        Label::At(q) => {
+            step(space, lines.len(), r, i, q);
+            true
+        }
+        Label::Missing => false,
+    }
 }
 
-// The steps of line i to the labels of its gotos, goto by goto.
+// The steps of line i to the labels of its gotos, goto by goto. False where a goto leads to no label.
 fn token_jumps(
     lines: &[u32],
     tokens: &[u32],
@@ -346,21 +354,26 @@ fn token_jumps(
     space: &mut [u64],
     r: usize,
     i: usize,
-)
+) -> bool
     requires { ⌜ (let n = length (now lines) in
         Matrices n r (now space) × (i < n) × (256 ≤ length (now heads)) × (n ≤ length (now nexts))) ⌝ }
     requires { ⌜ Indexed (listing (now lines) (now tokens) (now text)) (now heads) (now nexts) (length (now lines)) ⌝ }
-    ensures { λ z.
+    ensures { λ y. ⌜ y ≡ all is-some (leads (listing (now (lines .entry)) (now (tokens .entry)) (now (text .entry))) i) ⌝ }
+    ensures { λ y.
         ⌜ (let L = listing (now (lines .entry)) (now (tokens .entry)) (now (text .entry)) in
-        Drawn (length (now (lines .entry))) r (now (space .entry)) (now (space .exit)) (from i (jumps L i))) ⌝ }
+        (y ≡ true → Drawn (length (now (lines .entry))) r (now (space .entry)) (now (space .exit)) (from i (jumps L i)))) ⌝ }
 {
     let e = line_end(lines, tokens, i);
     let mut k = next_goto(tokens, text, line_start(lines, i), e);
     while k < e {
         let b = k + 1;
-        jump_step(lines, tokens, text, heads, nexts, space, r, i, b, e);
-        k = next_goto(tokens, text, b, e);
+        if jump_step(lines, tokens, text, heads, nexts, space, r, i, b, e) {
+            k = next_goto(tokens, text, b, e);
+        } else {
+            return false;
+        }
     }
+    true
 }
 
 // The same, asked only of a line that has a goto.
@@ -374,17 +387,19 @@ fn jumps(
     space: &mut [u64],
     r: usize,
     i: usize,
-)
+) -> bool
     requires { ⌜ (let n = length (now lines) in
         Matrices n r (now space) × (i < n) × (256 ≤ length (now heads)) × (n ≤ length (now nexts)) × Masks (listing (now lines) (now tokens) (now text)) (now masks)) ⌝ }
     requires { ⌜ Indexed (listing (now lines) (now tokens) (now text)) (now heads) (now nexts) (length (now lines)) ⌝ }
-    ensures { λ z.
+    ensures { λ y. ⌜ y ≡ all is-some (leads (listing (now (lines .entry)) (now (tokens .entry)) (now (text .entry))) i) ⌝ }
+    ensures { λ y.
         ⌜ (let L = listing (now (lines .entry)) (now (tokens .entry)) (now (text .entry)) in
-        Drawn (length (now (lines .entry))) r (now (space .entry)) (now (space .exit)) (from i (jumps L i))) ⌝ }
+        (y ≡ true → Drawn (length (now (lines .entry))) r (now (space .entry)) (now (space .exit)) (from i (jumps L i)))) ⌝ }
 {
     if has_goto(lines, tokens, text, masks, i) {
-        token_jumps(lines, tokens, text, heads, nexts, space, r, i);
-        return;
+        token_jumps(lines, tokens, text, heads, nexts, space, r, i)
+    } else {
+        true
     }
 }
 
@@ -415,7 +430,7 @@ fn block_steps(
     cases(lines, tokens, text, masks, ends, space, r, i);
 }
 
-// All edges that line i draws.
+// All edges that line i draws. False where a goto of it leads to no label.
 pub fn line_steps(
     lines: &[u32],
     tokens: &[u32],
@@ -428,15 +443,20 @@ pub fn line_steps(
     space: &mut [u64],
     r: usize,
     i: usize,
-)
+) -> bool
     requires { ⌜ Matrices (length (now lines)) r (now space) × (i < length (now lines)) ⌝ }
     requires { ⌜ Read (now lines) (now tokens) (now text) (now masks) (now ends) (now parents) (now heads) (now nexts) ⌝ }
-    ensures { λ z.
+    ensures { λ y. ⌜ y ≡ all is-some (leads (listing (now (lines .entry)) (now (tokens .entry)) (now (text .entry))) i) ⌝ }
+    ensures { λ y.
         ⌜ (let L = listing (now (lines .entry)) (now (tokens .entry)) (now (text .entry)) in
-        Drawn (length (now (lines .entry))) r (now (space .entry)) (now (space .exit)) (line-edges L (blocks-of L) i)) ⌝ }
+        (y ≡ true → Drawn (length (now (lines .entry))) r (now (space .entry)) (now (space .exit)) (line-edges L (blocks-of L) i))) ⌝ }
 {
     block_steps(lines, tokens, text, masks, ends, space, r, i);
-    jumps(lines, tokens, text, masks, heads, nexts, space, r, i);
-    leaves(lines, tokens, text, masks, ends, parents, space, r, i);
-    loops_back(lines, tokens, text, masks, ends, space, r, i);
+    if jumps(lines, tokens, text, masks, heads, nexts, space, r, i) {
+        leaves(lines, tokens, text, masks, ends, parents, space, r, i);
+        loops_back(lines, tokens, text, masks, ends, space, r, i);
+        true
+    } else {
+        false
+    }
 }

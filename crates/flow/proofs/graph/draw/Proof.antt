@@ -1,23 +1,24 @@
--- `flow::graph::draw` meets its contract. The edges of the lines from i on are left to draw. Assumes nothing.
+-- `flow::graph::draw` meets its contract. The edges of the lines from i on are left to draw, and the answer is theirs. Assumes nothing.
 use Prim.Native.Nat.{_+_, _-_, _≤_}
 use mathlib.Core.Path.{_≡_, refl, _∙_}
+use mathlib.Core.Bool.{false≢true}
 use native.Mathlib.Omega.{arith}
 use borrow.Author.Needs.{needs}
 use denote.Ref.{now}
 use lib.ListN.{length}
-use Rattle.definitions.specs.FlowGraph.{successors}
+use Rattle.definitions.specs.FlowGraph.{successors, gotos-lead}
 use Rattle.definitions.specs.Lists.{member}
 use Rattle.definitions.specs.Columns.{listing}
 use Rattle.model.proofs.Decode.{length-listing}
 use Rattle.line_steps.specs.Drawing.{Drawing, rest, line-edges}
 use Rattle.blocks.specs.Structure.{blocks-of}
-use Rattle.flow.proofs.Graphs.{rest-next, rest-end, rest-all}
+use Rattle.flow.proofs.Graphs.{rest-next, rest-end, rest-all, lines-from, lines-leading}
 use Rattle.line_steps.proofs.Drawings.{matrices-kept, drawn-as, drawing-start, drawing-next, drawing-end}
 use Rattle.flow.proofs.graph.draw.Statement.{statement}
 use Rattle.flow.proofs.graph.draw.Tie as tie
 
 abbrev Inv-loop : tie.InvT-loop
-Inv-loop lines tokens text masks ends parents heads nexts space₀ r n i₀ space i = (i ≤ n) × (length space ≡ length space₀) × Drawing (length lines) r space₀ space (rest (listing lines tokens text) (blocks-of (listing lines tokens text)) 0) (rest (listing lines tokens text) (blocks-of (listing lines tokens text)) i)
+Inv-loop lines tokens text masks ends parents heads nexts space₀ r n i₀ space i = (i ≤ n) × (length space ≡ length space₀) × (gotos-lead (listing lines tokens text) ≡ lines-from (listing lines tokens text) n i) × Drawing (length lines) r space₀ space (rest (listing lines tokens text) (blocks-of (listing lines tokens text)) 0) (rest (listing lines tokens text) (blocks-of (listing lines tokens text)) i)
 
 abbrev μ-loop : tie.MeasureT-loop
 μ-loop lines tokens text masks ends parents heads nexts space₀ r n i₀ space i = n - i
@@ -25,7 +26,8 @@ abbrev μ-loop : tie.MeasureT-loop
 loop-holds : tie.Need-loop-holds Inv-loop μ-loop
 loop-holds c =
     let a = c .before .before .before .before .before .before .before .before .before .args in
-    (search needs, refl, drawing-start (length (now (a .lines))) (a .r) (now (a .space)) (rest (listing (now (a .lines)) (now (a .tokens)) (now (a .text))) (blocks-of (listing (now (a .lines)) (now (a .tokens)) (now (a .text)))) 0))
+    let L = listing (now (a .lines)) (now (a .tokens)) (now (a .text)) in
+    (search needs, refl, search (lines-leading, needs), drawing-start (length (now (a .lines))) (a .r) (now (a .space)) (rest L (blocks-of L) 0))
 
 line-steps-requires : tie.Need-line-steps-requires Inv-loop μ-loop
 line-steps-requires c κs =
@@ -40,25 +42,37 @@ loop-less c = search needs
 
 loop-again : tie.Need-loop-again Inv-loop μ-loop
 loop-again c =
-    let a = c .before .before .before .before .before .before .before .before .before .before .before .before .before .before .before .args in
-    let l = c .before .before .before .before .before .loop in (
+    let a = c .before .before .before .before .before .before .before .before .before .before .before .before .before .before .before .before .args in
+    let l = c .before .before .before .before .before .before .loop in
+    let L = listing (now (a .lines)) (now (a .tokens)) (now (a .text)) in
+    let E = c .before .before .before .line-steps .ensures .1 (c .if1 .taken) in (
       search needs,
-      c .before .before .line-steps .kept .1 .1 .1 .1 .1 .1 .1 .1 .0 ∙ l .inv .1,
-      drawing-next (length (now (a .lines))) (a .r) (now (a .space)) (rest (listing (now (a .lines)) (now (a .tokens)) (now (a .text))) (blocks-of (listing (now (a .lines)) (now (a .tokens)) (now (a .text)))) 0) (l .space) (rest (listing (now (a .lines)) (now (a .tokens)) (now (a .text))) (blocks-of (listing (now (a .lines)) (now (a .tokens)) (now (a .text)))) (l .i)) (l .inv .2) _ (line-edges (listing (now (a .lines)) (now (a .tokens)) (now (a .text))) (blocks-of (listing (now (a .lines)) (now (a .tokens)) (now (a .text)))) (l .i)) (rest (listing (now (a .lines)) (now (a .tokens)) (now (a .text))) (blocks-of (listing (now (a .lines)) (now (a .tokens)) (now (a .text)))) (l .i + 1)) (c .before .before .line-steps .ensures)
-          (λ p q hp hq. rest-next (listing (now (a .lines)) (now (a .tokens)) (now (a .text))) (blocks-of (listing (now (a .lines)) (now (a .tokens)) (now (a .text)))) (l .i) p q),
+      c .before .before .before .line-steps .kept .1 .1 .1 .1 .1 .1 .1 .1 .0 ∙ l .inv .1,
+      search (lines-leading, needs),
+      drawing-next (length (now (a .lines))) (a .r) (now (a .space)) (rest L (blocks-of L) 0) (l .space) (rest L (blocks-of L) (l .i)) (l .inv .3) _ (line-edges L (blocks-of L) (l .i)) (rest L (blocks-of L) (l .i + 1)) E
+          (λ p q hp hq. rest-next L (blocks-of L) (l .i) p q),
     )
 
 same-length : tie.Need-same-length Inv-loop μ-loop
 same-length c = search needs
 
 returns : tie.Need-returns Inv-loop μ-loop
-returns c =
+returns c = (search (lines-leading, needs), λ z. absurd (false≢true z))
+
+same-length-2 : tie.Need-same-length-2 Inv-loop μ-loop
+same-length-2 c = search needs
+
+returns-2 : tie.Need-returns-2 Inv-loop μ-loop
+returns-2 c =
     let a = c .before .before .before .before .before .before .before .before .before .before .before .args in
     let l = c .before .loop in
-    let n = length-listing (now (a .lines)) (now (a .tokens)) (now (a .text)) in
-    drawn-as (length (now (a .lines))) (a .r) (now (a .space)) (l .space) (rest (listing (now (a .lines)) (now (a .tokens)) (now (a .text))) (blocks-of (listing (now (a .lines)) (now (a .tokens)) (now (a .text)))) 0) (λ i j. member j (successors (listing (now (a .lines)) (now (a .tokens)) (now (a .text))) (blocks-of (listing (now (a .lines)) (now (a .tokens)) (now (a .text)))) i))
-    (drawing-end (length (now (a .lines))) (a .r) (now (a .space)) (rest (listing (now (a .lines)) (now (a .tokens)) (now (a .text))) (blocks-of (listing (now (a .lines)) (now (a .tokens)) (now (a .text)))) 0) (l .space) (rest (listing (now (a .lines)) (now (a .tokens)) (now (a .text))) (blocks-of (listing (now (a .lines)) (now (a .tokens)) (now (a .text)))) (l .i)) (l .inv .2) (λ p q hp hq. rest-end (listing (now (a .lines)) (now (a .tokens)) (now (a .text))) (blocks-of (listing (now (a .lines)) (now (a .tokens)) (now (a .text)))) (length (now (a .lines))) (l .i) p q (omega (arith, c .loop-test .left)) hp hq))
-    (λ p q hp hq. rest-all (listing (now (a .lines)) (now (a .tokens)) (now (a .text))) (blocks-of (listing (now (a .lines)) (now (a .tokens)) (now (a .text)))) p q (omega arith))
+    let L = listing (now (a .lines)) (now (a .tokens)) (now (a .text)) in
+    let n = length-listing (now (a .lines)) (now (a .tokens)) (now (a .text)) in (
+      search (lines-leading, needs),
+      λ z. drawn-as (length (now (a .lines))) (a .r) (now (a .space)) (l .space) (rest L (blocks-of L) 0) (λ i j. member j (successors L (blocks-of L) i))
+          (drawing-end (length (now (a .lines))) (a .r) (now (a .space)) (rest L (blocks-of L) 0) (l .space) (rest L (blocks-of L) (l .i)) (l .inv .3) (λ p q hp hq. rest-end L (blocks-of L) (length (now (a .lines))) (l .i) p q (omega (arith, c .loop-test .left)) hp hq))
+          (λ p q hp hq. rest-all L (blocks-of L) p q (omega arith)),
+    )
 
 pub draw-spec : {M : Type 1} → statement M
 draw-spec =
@@ -72,4 +86,6 @@ draw-spec =
     loop-less
     loop-again
     same-length
-    returns)
+    returns
+    same-length-2
+    returns-2)

@@ -16,20 +16,14 @@ use Rattle.flow.proofs.graph.label_graph.Tie as tie
 index-requires : tie.Need-index-requires
 index-requires c κs = search needs
 
-gotos-lead-requires : tie.Need-gotos-lead-requires
-gotos-lead-requires c κs =
-    let p = c .before .before .before .before .before .before .before .before .before .before .before .before .before .before .before .before .before .before .pre in
-    let I = c .before .before .before .before .before .before .index in
-    ((omega (arith, I .kept .1 .1 .1 .0, p .0 .2), omega (arith, I .kept .1 .1 .1 .1 .0, p .0 .3), p .1 .0 .0), I .ensures)
-
 no-edges-requires : tie.Need-no-edges-requires
 no-edges-requires c κs = search needs
 
 draw-requires : tie.Need-draw-requires
 draw-requires c κs =
-    let a = c .before .before .before .before .before .before .before .before .before .before .before .before .before .before .before .before .before .before .before .before .before .before .before .before .before .before .before .args in
-    let p = c .before .before .before .before .before .before .before .before .before .before .before .before .before .before .before .before .before .before .before .before .before .before .before .before .before .before .before .pre in
-    let I = c .before .before .before .before .before .before .before .before .before .before .before .before .before .before .before .index in (
+    let a = c .before .before .before .before .before .before .before .before .before .before .before .before .before .before .before .before .before .before .before .before .before .before .before .args in
+    let p = c .before .before .before .before .before .before .before .before .before .before .before .before .before .before .before .before .before .before .before .before .before .before .before .pre in
+    let I = c .before .before .before .before .before .before .before .before .before .before .before .index in (
       matrices-kept (length (now (a .lines))) (a .r) (now (a .space)) _ (p .1 .1 .1) (c .before .before .before .before .before .no-edges .kept .0),
       record {
         masks = p .1 .0 .0;
@@ -54,12 +48,13 @@ same-length-3 c = search needs
 
 returns : tie.Need-returns
 returns c =
-    let a = c .before .before .before .before .before .before .before .before .before .before .before .before .before .before .before .before .before .before .before .before .before .before .before .before .before .before .before .before .before .before .args in
-    let M = c .before .before .before .before .before .before .before .before .before .before .before .before .before .before .before .before .before .before .before .before .before .before .before .before .before .before .before .before .before .before .pre .1 .0 .1 in
-    let g = c .before .before .before .before .before .before .before .before .before .before .before .gotos-lead in
-    let y = c .before .before .before .before .before .before .before .before .before .before .if1 .taken in (
-      not-refused (listing (now (a .lines)) (now (a .tokens)) (now (a .text))) true (M .answer) refl (g .result) (g .ensures) y,
-      λ z. graph-drawn (listing (now (a .lines)) (now (a .tokens)) (now (a .text))) (length (now (a .lines))) (a .r) _ _ _ (length-listing (now (a .lines)) (now (a .tokens)) (now (a .text))) true (M .answer) refl (g .result) (g .ensures) y (c .before .before .before .before .before .before .before .before .no-edges .ensures) (c .before .before .draw .ensures),
+    let a = c .before .before .before .before .before .before .before .before .before .before .before .before .before .before .before .before .before .before .before .before .before .before .before .before .before .before .before .args in
+    let L = listing (now (a .lines)) (now (a .tokens)) (now (a .text)) in
+    let M = c .before .before .before .before .before .before .before .before .before .before .before .before .before .before .before .before .before .before .before .before .before .before .before .before .before .before .before .pre .1 .0 .1 in
+    let d = c .before .before .before .draw in
+    let y = c .if1 .taken in (
+      not-refused L true (M .answer) refl (d .result) (d .ensures .0) y,
+      λ z. graph-drawn L (length (now (a .lines))) (a .r) _ _ _ (length-listing (now (a .lines)) (now (a .tokens)) (now (a .text))) true (M .answer) refl (d .result) (d .ensures .0) y (c .before .before .before .before .before .before .before .before .before .no-edges .ensures) (d .ensures .1 y),
     )
 
 same-length-4 : tie.Need-same-length-4
@@ -68,19 +63,21 @@ same-length-4 c = search needs
 same-length-5 : tie.Need-same-length-5
 same-length-5 c = search needs
 
+same-length-6 : tie.Need-same-length-6
+same-length-6 c = search needs
+
 returns-2 : tie.Need-returns-2
 returns-2 c =
-    let a = c .before .before .before .before .before .before .before .before .before .before .before .before .before .before .before .before .before .before .before .before .args in
-    let M = c .before .before .before .before .before .before .before .before .before .before .before .before .before .before .before .before .before .before .before .before .pre .1 .0 .1 in
-    let g = c .before .gotos-lead in
-    (refused-label (listing (now (a .lines)) (now (a .tokens)) (now (a .text))) true (M .answer) refl (g .result) (g .ensures) (c .if1 .left), some-none 9)
+    let a = c .before .before .before .before .before .before .before .before .before .before .before .before .before .before .before .before .before .before .before .before .before .before .before .before .before .before .before .args in
+    let M = c .before .before .before .before .before .before .before .before .before .before .before .before .before .before .before .before .before .before .before .before .before .before .before .before .before .before .before .pre .1 .0 .1 in
+    let d = c .before .before .before .draw in
+    (refused-label (listing (now (a .lines)) (now (a .tokens)) (now (a .text))) true (M .answer) refl (d .result) (d .ensures .0) (c .if1 .left), some-none 9)
 
 pub label-graph-spec : {M : Type 1} → statement M
 label-graph-spec =
     tie.close
     (tie.spec
     index-requires
-    gotos-lead-requires
     no-edges-requires
     draw-requires
     same-length
@@ -89,4 +86,5 @@ label-graph-spec =
     returns
     same-length-4
     same-length-5
+    same-length-6
     returns-2)

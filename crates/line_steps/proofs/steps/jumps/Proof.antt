@@ -1,6 +1,6 @@
 -- `line_steps::steps::jumps` meets its contract.
 -- Assumes nothing.
-use Rattle.line_steps.proofs.Edges.{jumps-none}
+use Rattle.line_steps.proofs.Edges.{leads-none, jumps-none}
 use borrow.Author.Needs.{needs}
 use Rattle.line_steps.proofs.steps.jumps.Statement.{statement}
 use Rattle.line_steps.proofs.steps.jumps.Tie as tie
@@ -18,7 +18,7 @@ returns : tie.Need-returns
 returns c = search needs
 
 returns-2 : tie.Need-returns-2
-returns-2 c = search (jumps-none, needs)
+returns-2 c = (search (leads-none, needs), λ z. search (jumps-none, needs))
 
 pub jumps-spec : {M : Type 1} → statement M
 jumps-spec =
