@@ -1,10 +1,10 @@
-// The labels of a listing, and where its gotos lead: question 9.
+// The labels of a listing, and where its gotos lead.
 //
 // Labels stand in 255 buckets by their names, each put in front in line order, so that of equal ones the last is met first. `heads` has the
 // buckets and, at place 255, the multiplier of the hash. In a bucket that holds 16 labels a label takes the place of one of its name in
 // front; for any other label, all are put into their buckets anew, by the next of 8 multipliers. So few labels share a bucket, but where
 // names are chosen against all 8. `index` takes time linear in the tokens and in the bytes of the labels, at most 8 times; `label_line` in
-// the name and in the labels of its bucket. Contracts cite `label-line`, `leads` and `gotos-lead` of Rattle.definitions.specs.FlowGraph.
+// the name and in the labels of its bucket. Contracts cite `label-line` of Rattle.definitions.specs.FlowGraph.
 ghost use mathlib.Core.Path.{_≡_};
 ghost use mathlib.Core.Bool.{true};
 ghost use Prim.Native.Nat.{ℕ, _+_, _≤_, _<_};
