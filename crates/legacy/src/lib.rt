@@ -23,10 +23,6 @@ const NAMES: [[[u8; 3]; 4]; 9] = [
     [*b"ah\0", *b"bh\0", *b"ch\0", *b"dh\0"],
 ];
 
-// The place of a name in the table, row by row, at the name's hash, counted from the byte `0` on; no two names have one hash. Where no name
-// has the hash stands any place, but not that of a neighbour: the compiler then copies the bytes in four moves.
-const PLACES: [u8; 64] = *b"0:0N01>O02105498=<ML0101010P0101Q03EDR0701SF;0JG0?K0IHB201C06A@0";
-
 // The text is these two bytes.
 fn is_two(s: &[u8], a: u8, b: u8) -> bool
     ensures { λ r. ⌜ r ≡ (now (s .entry) == a ∷ b ∷ []) ⌝ }
@@ -107,12 +103,18 @@ fn hash(s: &[u8]) -> usize
     (20 * byte(s, 0) + 7 * byte(s, 1) + 12 * byte(s, 2)) / 4 % 64
 }
 
-// The place of the only name that may have the hash h.
+// The place of the only name that may have the hash h. The bytes have the place of a name in the table, row by row, at the name's hash,
+// counted from `0` on; no two names have one hash, and where none has it stands any place. They are read where they stand: a constant array
+// would be copied at each call.
 fn place_of(h: usize) -> usize
     requires { ⌜ h < 64 ⌝ }
     ensures { λ p. ⌜ (p < 36) × ((q : ℕ) → q < 36 → hash (name-at q) ≡ h → p ≡ q) ⌝ }
 {
-    wide(PLACES[h]) - 48
+    byte(
+        b"0:0N01>O02105498=<ML0101010P0101Q03EDR0701SF;0JG0?K0IHB201C06A@0",
+        h,
+    )
+        - 48
 }
 
 // The place of a name in the table, 36 where it is not there.
