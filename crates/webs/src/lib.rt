@@ -229,9 +229,9 @@ pub fn recover(
     ensures { λ a. ⌜ (let L = listing (now (lines .entry)) (now (tokens .entry)) (now (text .entry)) in AllDone budget (numbered-webs L (or-else (recover L) [])) (now (numbers .exit)) (now (marks .exit)) a) ⌝ }
 {
     let mut table = [0u16; 2304];
-    if lines.len() <= 64 {
-        let mut defs = [0u16; 64];
-        let mut first = [0u16; 64];
+    if 64 < lines.len() {
+        let mut defs = [0u16; 1024];
+        let mut first = [0u16; 1024];
         return recover_in(
             lines,
             tokens,
@@ -246,8 +246,8 @@ pub fn recover(
             &mut first,
         );
     }
-    let mut defs = [0u16; 1024];
-    let mut first = [0u16; 1024];
+    let mut defs = [0u16; 64];
+    let mut first = [0u16; 64];
     recover_in(
         lines,
         tokens,
