@@ -4,7 +4,6 @@
 --   punct-yes, punct-no, punct-other, within-of, grown-of what a token adds, by its kind
 --   rest, braces-start, braces-next, braces-end           the loop of `line_braces`, by the places of the tokens among all
 --   place-short                                           how many tokens and bytes there can be
---   braces-within                                         with question 2's answer, the counts are no larger than the text is long
 -- Assumes nothing.
 use mathlib.Core.Path.{_≡_, refl, sym, _∙_}
 use mathlib.Core.Bool.{Bool, true, false, cond, not}
@@ -12,17 +11,15 @@ use mathlib.Core.List.{List, [], _∷_, _++_}
 use Prim.Native.Nat.{ℕ, _+_, _-_, _/_, _≤_, _<_}
 use native.Mathlib.Omega.{arith}
 use borrow.Author.Tests.{eq-eqb, ne-eqb, lt-ltb, le-ltb}
-use lib.Dec.{T, eqb, ltb}
-use lib.ListN.{length, getD, drop, length-append}
+use lib.Dec.{T, eqb}
+use lib.ListN.{length, getD, drop}
 use Rattle.definitions.specs.Lists.{if_then_else_, filter, fold}
 use Rattle.definitions.specs.Model.{Token, Line, no-token, text, line, Punct}
 use Rattle.definitions.specs.Columns.{token-list, listing}
-use Rattle.definitions.specs.Questions.{question-2}
 use Rattle.definitions.specs.Blocks.{Braces, brace, braces}
 use Rattle.text.proofs.Parts.{drop-step, drop-end, length-part}
 use Rattle.model.specs.Places.{token-start, line-start, line-end}
 use Rattle.model.proofs.Decode.{token-at, line-length, line-token, line-short}
-use Rattle.model.proofs.Formed.{formed-tokens, line-text}
 
 -- One byte
 
@@ -130,48 +127,6 @@ module _ (l t x : List ℕ) (i s e : ℕ) (es : s ≡ line-start l i) (ee : e �
     omega (arith, line-short l t x i p, line-length l t x i),
     rw (token-at t x k) (omega (arith, q k, length-part x (token-start t k) (getD t k 0 / 256))),
   )
-
--- How large the counts get
-
-brace-grows : (b : Braces) (c : ℕ) → brace b c .opens + brace b c .closes ≤ b .opens + b .closes + 1
-unfolding brace
-brace-grows b c = go (eqb c 123) (eqb c 125) (ltb 0 (b .opens))
-  where
-    go : (p q r : Bool)
-        → (let d = cond p (record { opens = b .opens + 1; closes = b .closes })
-        (cond q (cond r (record { opens = b .opens - 1; closes = b .closes }) (record { opens = b .opens; closes = b .closes + 1 })) b) in
-        d .opens + d .closes ≤ b .opens + b .closes + 1)
-    go true q r = omega arith
-    go false true true = omega arith
-    go false true false = omega arith
-    go false false r = omega arith
-
-fold-grows : (b : Braces) (s : List ℕ) → fold brace b s .opens + fold brace b s .closes ≤ b .opens + b .closes + length s
-unfolding fold
-fold-grows b [] = omega arith
-fold-grows b (c ∷ s) = omega (arith, fold-grows (brace b c) s, brace-grows b c)
-
-text-filter : (p : Token → Bool) (ts : List Token) → length (text (filter p ts)) ≤ length (text ts)
-unfolding text filter
-text-filter p [] = omega arith
-text-filter p (t ∷ ts) = go (text-filter p ts) (p t)
-  where
-    go : length (text (filter p ts)) ≤ length (text ts) → (b : Bool)
-        → length (text (cond b (t ∷ filter p ts) (filter p ts))) ≤ length (t .text ++ text ts)
-    go h true = omega (arith, length-append (t .text) (text (filter p ts)), length-append (t .text) (text ts))
-    go h false = omega (arith, length-append (t .text) (text ts))
-
-pub braces-within : (l t x : List ℕ) (i : ℕ) → question-2 l t x ≡ true
-    → braces (line (listing l t x) i) .opens + braces (line (listing l t x) i) .closes ≤ length x
-unfolding braces
-braces-within l t x i ok =
-    let ts = line (listing l t x) i .tokens in
-    omega (
-      arith,
-      fold-grows (record { opens = 0; closes = 0 }) (text (filter (λ k. eqb (k .kind) Punct) ts)),
-      text-filter (λ k. eqb (k .kind) Punct) ts,
-      line-text t x (formed-tokens l t x ok) l i,
-    )
 
 pub ruleset bytes = (brace-open, brace-cancel, brace-close, brace-other, bytes-next, bytes-end)
 

@@ -1,7 +1,6 @@
 -- The loop passes go by steps, never answer with more lines than they were given, and have turns enough.
 --   recover-loops-steps, recover-goto-loops-steps    the listing that a pass answers is reached by steps
 --   recover-loops-lines, recover-goto-loops-lines    it has at most as many lines
---   loop-turn-lines, goto-turn-lines                 so has that of each turn, which goes on at the next line
 --   recover-loops-turns, recover-goto-loops-turns    with more turns than lines the answer is the same
 --   enough-turns, no-turn                            so it is at any line, with as many turns as lines are left; with none left it is the listing
 -- Assumes nothing.
@@ -85,12 +84,6 @@ module _ (gap : ℕ) (turn : List Line → ℕ → Turn) (turned : (L : List Lin
       after true beyond overflows r = refl
 
 -- The passes
-
-pub loop-turn-lines : (L : List Line) (i j : ℕ) (M : List Line) → loop-turn L i ≡ go j M → (j ≡ i + 1) × (length M ≤ length L)
-loop-turn-lines L i = turned-lines (loop-turn L i) (loop-turned L i)
-
-pub goto-turn-lines : (L : List Line) (h j : ℕ) (M : List Line) → goto-turn L h ≡ go j M → (j ≡ h + 1) × (length M ≤ length L)
-goto-turn-lines L h = turned-lines (goto-turn L h) (goto-turned L h)
 
 module _ (L : List Line) where
   pub recover-loops-steps : (M : List Line) → recover-loops L ≡ lines M → Steps L M

@@ -2,7 +2,6 @@
 --   formed-lines, formed-tokens, formed-kinds    the three parts of the answer
 --   line-order, line-within                      a line starts no later than it ends, and ends within the tokens
 --   token-order, token-within                    a token likewise within the text
---   kind-most                                    every kind is at most 7
 --   tokens-before, all-tokens-listing            the tokens of the first lines, and of all, are the first tokens, and all
 --   run-text                                     the texts of a run of tokens, one after the other, are one part of the text
 --   line-text                                    the texts of a line's tokens together are no longer than the text
@@ -19,13 +18,13 @@ use lib.Dec.{leb}
 use lib.ListN.{length, getD, take, drop, length-drop}
 use lib.Seq.{take-all}
 use Rattle.definitions.specs.Lists.{part, all, concat}
-use Rattle.definitions.specs.Model.{Token, text, line, no-token}
+use Rattle.definitions.specs.Model.{Token, text, line}
 use Rattle.definitions.specs.Columns.{pieces, token-of, line-of, token-list, listing, all-tokens}
 use Rattle.definitions.specs.Questions.{covers, question-2}
 use Rattle.text.proofs.Parts.{part-join, part-none, part-clamp, length-part}
 use Rattle.model.proofs.Ands.{both}
 use Rattle.model.specs.Places.{start-from, token-start, line-start}
-use Rattle.model.proofs.Decode.{start-next, start-zero, token-at, line-at, length-listing, length-tokens}
+use Rattle.model.proofs.Decode.{start-next, start-zero, line-at, length-listing, length-tokens}
 
 -- Ends that never fall
 
@@ -62,12 +61,6 @@ covers-start by s n (w ∷ ws) e (suc k) h =
 covers-last : (by s n : ℕ) (ws : List ℕ) → covers by s ws n ≡ true → start-from by s ws (length ws) ≡ n
 covers-last by s n [] e = rw start-zero (unfold covers in eqb-true s n e)
 covers-last by s n (w ∷ ws) e = rw (← start-next by s w ws (length ws)) (covers-last by (w / by) n ws (covers-both by s n w ws e .1))
-
-kinds-at : (t : List ℕ) → all (λ w. leb (w % 256) 7) t ≡ true → (k : ℕ) → getD t k 0 % 256 ≤ 7
-unfolding all
-kinds-at [] e k = omega arith
-kinds-at (w ∷ ws) e zero = leb-true (w % 256) 7 (both (leb (w % 256) 7) (all (λ w. leb (w % 256) 7) ws) e .0)
-kinds-at (w ∷ ws) e (suc k) = kinds-at ws (both (leb (w % 256) 7) (all (λ w. leb (w % 256) 7) ws) e .1) k
 
 -- Pieces one after the other
 
@@ -178,6 +171,3 @@ module _ (t x : List ℕ) (ok : covers 256 0 t (length x) ≡ true) where
           let g : length (token-list t x) ≤ getD l i 0 / 512 = omega (arith, length-tokens t x) in
           rw (← part-clamp (token-list t x) (line-start l i) (getD l i 0 / 512) g)
           (run-length (line-start l i) (length (token-list t x)) (omega (arith, length-tokens t x)))
-
-pub kind-most : (t x : List ℕ) → all (λ w. leb (w % 256) 7) t ≡ true → (k : ℕ) → getD (token-list t x) k no-token .kind ≤ 7
-kind-most t x ok k = rw (token-at t x k) (kinds-at t ok k)

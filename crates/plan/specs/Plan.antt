@@ -9,7 +9,6 @@
 --   plan-of w                 the plan that a word says
 --   render S ws               the lines that the words of a plan stand for: the vector that the Rust has at hand
 --   word i h p t a z          the word with indent i, header h, piece p, test t, initialiser a and step z
---   piece-word f s            the piece of form f of line s
 -- Assumes nothing.
 use Prim.Native.Nat.{ℕ, zero, suc, _+_, _*_, _/_, _%_}
 use mathlib.Core.List.{List, [], _∷_, map}
@@ -136,9 +135,6 @@ line-of S w = planned S (plan-of w)
 
 abbrev pub render : List Line → List ℕ → List Line
 render S ws = map (line-of S) ws
-
-abbrev pub piece-word : ℕ → ℕ → ℕ
-piece-word f s = f + 4 * s
 
 abbrev pub word : ℕ → ℕ → ℕ → ℕ → ℕ → ℕ → ℕ
 word i h p t a z = i + 256 * (h + 8 * (p + 4096 * (t + 4096 * (a + 4096 * z))))

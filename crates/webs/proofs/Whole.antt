@@ -4,35 +4,32 @@
 --   fresh-part, fresh-short    a part of a fresh array
 --   drawn-webs              the webs over the drawn graph are those of `recover`
 --   whole-by                `recover`
---   drawn-by                a graph that is drawn edge by edge
 -- Assumes nothing.
-use Prim.Native.Nat.{ℕ, _+_, _-_, _<_, _≤_}
-use mathlib.Core.Path.{_≡_, refl, sym, ap, ap₂, _∙_}
+use Prim.Native.Nat.{ℕ, _+_, _-_, _≤_}
+use mathlib.Core.Path.{_≡_, refl, sym, ap, _∙_}
 use mathlib.Core.Bool.{true}
-use mathlib.Core.List.{List, [], _∷_, map}
+use mathlib.Core.List.{List, [], map}
 use mathlib.Core.Option.{Option, none, some}
 use native.Mathlib.Omega.{arith}
 use borrow.Author.Tests.{le-leb}
 use lib.ListN.{length, take, replicate, length-take, length-replicate}
-use Rattle.definitions.specs.Lists.{filter, or-else, up-to, member}
+use Rattle.definitions.specs.Lists.{or-else, up-to}
 use Rattle.definitions.specs.Model.{Token, Line, token, line}
 use Rattle.definitions.specs.Family.{Family, fam-of}
 use Rattle.definitions.specs.Columns.{token-list, listing}
 use Rattle.definitions.specs.Questions.{covers}
-use Rattle.definitions.specs.FlowGraph.{flow-graph, steps, predecessors}
-use Rattle.definitions.specs.Recover.{Webs, recover, defined-families}
+use Rattle.definitions.specs.FlowGraph.{predecessors}
+use Rattle.definitions.specs.Recover.{recover, defined-families}
 use Rattle.definitions.specs.Answers.{numbered-webs, no-family, per-token}
 use Rattle.text.specs.Zeroed.{zeroed}
-use Rattle.theory.proofs.ListLaws.{replicate-default, member-head, member-tail, member-range}
-use Rattle.theory.proofs.Graph.{flow-length}
+use Rattle.theory.proofs.ListLaws.{replicate-default}
 use Rattle.model.specs.Places.{line-start}
 use Rattle.model.proofs.Decode.{length-listing}
-use Rattle.bits.specs.Edges.{row-words, edges, Agree, preds-of}
+use Rattle.bits.specs.Edges.{row-words, preds-of}
 use Rattle.sweep.specs.declared.Sweeps.{Sweeps}
 use Rattle.families.specs.Families.{families-before, Numbered}
 use Rattle.families.specs.Tokens.{Finds}
 use Rattle.chains.specs.Chains.{waiting, token-word, Bounds, Chained}
-use Rattle.families.proofs.Lists.{filter-same}
 use Rattle.families.proofs.Numbered.{families-all}
 use Rattle.webs.specs.Progress.{webs-over, waiting-at, Drawn}
 use Rattle.webs.specs.Steps.{Known, State, AllDone}
@@ -120,22 +117,3 @@ pub whole-by : (l t x : List ℕ) (r budget : ℕ) (space ns ms : List ℕ) (a :
     → AllDone budget (numbered-webs (listing l t x) (webs-over (listing l t x) (preds-of (length l) r space))) ns ms a
     → AllDone budget (numbered-webs (listing l t x) (or-else (recover (listing l t x)) [])) ns ms a
 whole-by l t x r budget space ns ms a two D A = rw (drawn-webs l t x r space two D) at A
-
--- A graph that is drawn edge by edge
-
-map-same : (f g : ℕ → List ℕ) (xs : List ℕ) → ((x : ℕ) → member x xs ≡ true → f x ≡ g x) → map f xs ≡ map g xs
-map-same f g [] h = refl
-map-same f g (x ∷ xs) h = ap₂ (λ (y : List ℕ) (ys : List (List ℕ)). y ∷ ys) (h x (member-head x xs)) (map-same f g xs (λ y m. h y (member-tail y x xs m)))
-
-pub drawn-by : (L : List Line) (n r : ℕ) (l : List ℕ) (graph : List (List ℕ)) → n ≡ length L → flow-graph L ≡ some graph
-    → ((i j : ℕ) → i < n → j < n → edges n r l i j ≡ steps graph i j) → Agree n r l → Drawn L n r l
-unfolding preds-of predecessors
-drawn-by L n r l graph size flow edge agree = record {
-  graph = graph;
-  flow = flow;
-  preds = map-same _ _ (up-to n) (λ j m.
-      let b = member-range j 0 n m in
-      filter-same _ _ (up-to n) (λ i q. let c = member-range i 0 n q in edge i j (omega arith) (omega arith))
-      ∙ ap (λ (k : ℕ). filter (λ i. steps graph i j) (up-to k)) (size ∙ sym (flow-length L graph flow)));
-  agree = agree;
-}

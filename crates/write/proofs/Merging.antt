@@ -1,6 +1,5 @@
 -- Laws of `merge` when a token is added behind.
 --   merge-snoc          merging with one token more is `merge-last` of what is merged
---   add-merged-merge    where the open line's tokens are merged, they are after `add-merged`
 --   end-view            a list that is not empty has a last element
 --   last-snoc           it is `last`
 --   merge-last-snoc     `merge-last` behind it is `glue`
@@ -21,7 +20,7 @@ use lib.ListN.{length}
 use Rattle.definitions.specs.Lists.{last}
 use Rattle.definitions.specs.Model.{Token, tok, text, Punct, Text}
 use Rattle.definitions.specs.Statements.{joins, glue, merge}
-use Rattle.write.specs.State.{State, merge-last, add-merged, kinds-join}
+use Rattle.write.specs.State.{merge-last, kinds-join}
 
 -- The last of a list
 
@@ -126,9 +125,5 @@ pub merge-snoc : (ts : List Token) (u : Token) → merge (ts ++ (u ∷ [])) ≡ 
 unfolding merge
 merge-snoc [] u = unfold glue merge-last in refl
 merge-snoc (t ∷ ts) u = rw (merge-snoc ts u) (glue-last t (merge ts) u)
-
-pub add-merged-merge : (ts : List Token) (b : List ℕ) (k : ℕ) (s : State) → s .tokens ≡ merge ts → s .bytes ≡ []
-    → add-merged b k s .tokens ≡ merge (ts ++ (tok b k ∷ []))
-add-merged-merge ts b k s e f = rw (e, f, merge-snoc ts (tok b k))
 
 pub ruleset joining = (joins-same, joins-never, joins-other)
