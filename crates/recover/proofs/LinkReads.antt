@@ -1,7 +1,7 @@
 -- Rules for `link_line`, `link_reads`, `web_of` and `read_web`.
 --   reach-bits                    the bits of a line's row are the numbers of the definitions that reach it
 --   swept-still                   making a row leaves the sweeps' result as it is
---   line-room, line-within, links-one       `link_line`
+--   line-room, links-one                    `link_line`
 --   web-by, read-room, read-by    `web_of` and `read_web`
 --   alone-slices, family-by                            `family_reps`
 --   links-start, links-next, links-end, slices-next    the loop of `link_reads`

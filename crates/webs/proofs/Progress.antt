@@ -1,6 +1,6 @@
 -- One family after the other: the number and the mark of a token before and after its family is done.
 --   webs-for-over           the webs of a family among all
---   key-taken, key-of       the number of a token of a family whose address is taken, and of any other
+--   key-of                  the number of a token of a family
 --   number-start, -next, -end             numbers, when no family is done, one more, all
 --   mark-start, -next, -new, -end         marks
 -- Assumes nothing.

@@ -1,7 +1,6 @@
 // The webs of every family: web numbers, definition marks and the total of sweeps. This is `recover` of pseudo_ssa.rs, over the drawn graph.
 //
-//   lines    the numbers of one family's definitions and reads, line by line
-//   steps    one family after the other
+// The families are numbered and their tokens chained; module `steps` then takes one family after the other.
 // Contracts cite `recover` of Rattle.definitions.specs.Recover and `numbered-webs` of Rattle.definitions.specs.Answers.
 ghost use mathlib.Core.Path.{_≡_};
 ghost use mathlib.Core.Bool.{true};
