@@ -27,7 +27,7 @@ pub fn get_bit(s: &[u64], a: usize) -> bool
     (s[a / 64] >> (a % 64)) % 2 == 1
 }
 
-pub fn set_bit(s: &mut [u64], a: usize)
+fn set_bit(s: &mut [u64], a: usize)
     requires { ⌜ a / 64 < length (now s) ⌝ }
     ensures { λ z. ⌜ WithBit (now (s .entry)) (now (s .exit)) a ⌝ }
 {

@@ -1,4 +1,5 @@
 -- One set of definitions linked: each representative of one of them becomes the least.
+--   map-own            a map that leaves each element as it is
 --   link-merged        `link rep ds` takes each representative that ds touch to their least
 --   link-length        it is as long as rep
 --   link-within        its representatives are among those of rep
@@ -155,7 +156,7 @@ module _ (rep : List ℕ) (d e : ℕ) (ds : List ℕ) (j : Joined rep d e) where
         go true t = refl
         go false t = swap-other (j .lo) (j .hi) r (λ q. clash hi-touched (rw q at t))
 
-map-own : (f : ℕ → ℕ) (xs : List ℕ) → ((x : ℕ) → f x ≡ x) → map f xs ≡ xs
+pub map-own : (f : ℕ → ℕ) (xs : List ℕ) → ((x : ℕ) → f x ≡ x) → map f xs ≡ xs
 map-own f [] h = refl
 map-own f (x ∷ xs) h = rw (h x, map-own f xs h)
 

@@ -31,17 +31,13 @@ use Rattle.text.proofs.Fills.{filled, fill-next, fill-end}
 use Rattle.recover.specs.Numbers.{touched, Least, Within, alike, marked, merged, earlier}
 use Rattle.families.proofs.Lists.{any-snoc, member-snoc, map-within, fill-start, fill-rest}
 use Rattle.visit.proofs.ListFacts.{getD-member}
-use Rattle.recover.proofs.Linking.{link-merged}
+use Rattle.recover.proofs.Linking.{map-own, link-merged}
 use Rattle.recover.proofs.Ranks.{earlier-zero, earlier-next}
 
 -- `alone`
 
 abbrev own : ℕ → ℕ
 own x = x
-
-map-own : (xs : List ℕ) → map own xs ≡ xs
-map-own [] = refl
-map-own (x ∷ xs) = ap (x ∷_) (map-own xs)
 
 unfoldable pub counting : List ℕ → ℕ → List ℕ
 counting d i = filled own (up-to (length d)) d i
@@ -59,7 +55,7 @@ module _ (d o : List ℕ) (i : ℕ) (inv : o ≡ counting d i) where
 
   pub alone-end : length o ≤ i → length o ≡ length d → o ≡ up-to (length d)
   unfolding counting
-  alone-end h s = fill-end own (up-to (length d)) d o i (length d) (sym (length-range 0 (length d))) inv refl (omega arith) ∙ map-own (up-to (length d))
+  alone-end h s = fill-end own (up-to (length d)) d o i (length d) (sym (length-range 0 (length d))) inv refl (omega arith) ∙ map-own own (up-to (length d)) (λ x. refl)
 
 -- `least`
 
@@ -173,18 +169,10 @@ all-at f (y ∷ xs) x e h = elim (member-cases x y xs h) [
   | inr q ↦ all-at f xs x (and-split (f y) (all f xs) e .1) q
 ]
 
-same-kept : (rep : List ℕ) (m : ℕ) (f : ℕ → Bool) → ((r : ℕ) → f r ≡ true → r ≡ m) → map (λ r. cond (f r) m r) rep ≡ rep
-same-kept [] m f h = refl
-same-kept (r ∷ rep) m f h = ap₂ _∷_ (go (f r) refl) (same-kept rep m f h)
-  where
-    go : (b : Bool) → f r ≡ b → cond b m r ≡ r
-    go true e = sym (h r e)
-    go false e = refl
-
 -- definitions of one representative are linked already
 pub link-same : (rep ds : List ℕ) (b : Bool) → 2 ≤ length ds → b ≡ all (alike rep ds) ds → b ≡ true → rep ≡ link rep ds
 unfolding touched
-link-same rep ds b z e t = sym (link-merged ds rep m least ∙ same-kept rep m (touched rep ds) only)
+link-same rep ds b z e t = sym (link-merged ds rep m least ∙ map-own (λ r. cond (touched rep ds r) m r) rep (λ r. kept r (touched rep ds r) refl))
   where
     m : ℕ
     m = getD rep (getD ds 0 0) 0
@@ -200,6 +188,10 @@ link-same rep ds b z e t = sym (link-merged ds rep m least ∙ same-kept rep m (
 
     only : (r : ℕ) → touched rep ds r ≡ true → r ≡ m
     only r h = let s = any-found (λ d. eqb r (getD rep d 0)) ds h in eqb-true r (getD rep (s .0) 0) (s .2) ∙ same (s .0) (s .1)
+
+    kept : (r : ℕ) (b : Bool) → touched rep ds r ≡ b → cond b m r ≡ r
+    kept r true h = sym (only r h)
+    kept r false h = refl
 
 module _ (rep ds marks : List ℕ) (w : Within (length marks) rep) where
   pub link-some : (zeros now last : List ℕ) (m : ℕ) → zeros ≡ zeroed 0 marks → now ≡ marked rep zeros ds → Least rep ds m → last ≡ map (merged m now) rep → last ≡ link rep ds

@@ -44,7 +44,7 @@ fn members(space: &[u64], a: usize, n: usize, set: &mut [u16]) -> usize
 }
 
 // After the sweeps: the definitions that reach line i, nd there being in all. Answers how many there are.
-pub fn reaching(
+fn reaching(
     space: &mut [u64],
     n: usize,
     r: usize,
