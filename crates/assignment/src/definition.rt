@@ -23,7 +23,7 @@ pub enum Defined {
 }
 
 // Token k of the right side of line i names the family that the answer r of the text s is.
-pub fn expr_names(
+fn expr_names(
     lines: &[u32],
     tokens: &[u32],
     text: &[u8],

@@ -137,9 +137,12 @@ module _ (l : List ℕ) (w r : ℕ) (one : r ≡ 1) (h : w + r ≤ length l) whe
     outside = λ u q. getD-set-other l w u v 0 (λ z. q (omega arith) (omega arith));
   }
 
-  pub or-one : (u : ℕ) → Filled l (set l w (bitOr (getD l w 0) (getD l u 0))) w r (joined l w u)
+  or-one : (u : ℕ) → Filled l (set l w (bitOr (getD l w 0) (getD l u 0))) w r (joined l w u)
   or-one u = fill-one (bitOr (getD l w 0) (getD l u 0)) (joined l w u)
       (λ k q. or-bit (getD l w 0) (getD l u 0) k ∙ ap₂ _||_ (sym (bit-in-word l w k q)) (sym (bit-in-word l u k q)))
+
+  pub or-put : (u x : ℕ) (l′ : List ℕ) (t : Bool) → x ≡ bitOr (getD l w 0) (getD l u 0) → Put l l′ w x t → Filled l l′ w r (joined l w u)
+  or-put u x l′ t e P = rw (P .word, e) (or-one u)
 
 pub low-last : (l₀ l : List ℕ) (w u k : ℕ) → Filled l₀ l w (k / 64) (joined l₀ w u) → u + (k / 64 + 1) ≤ w → w + (k / 64 + 1) ≤ length l
     → Filled l₀ (set l (w + k / 64) (bitOr (getD l (w + k / 64) 0) (getD l (u + k / 64) 0 * 2 ^ (63 - k % 64) % 18446744073709551616 / 2 ^ (63 - k % 64)))) w (k / 64 + 1) (joined-low l₀ w u k)

@@ -65,7 +65,8 @@ pub fn or_row(s: &mut [u64], w: usize, u: usize, r: usize)
     ensures { λ z. ⌜ Filled (now (s .entry)) (now (s .exit)) w r (joined (now (s .entry)) w u) ⌝ }
 {
     if r == 1 {
-        s[w] = s[w] | s[u];
+        let x = s[w] | s[u];
+        put(s, w, x);
         return;
     }
     let mut k = 0;

@@ -9,10 +9,10 @@ ghost use Rattle.enters.specs.Inside.{names, goes-inside};
 ghost use Rattle.enters.specs.Marks.{Marked};
 use crate::marks::next_loud;
 use crate::marks::own_mark;
-use crate::marks::wide;
 use goto_targets::headers::word_target;
 use goto_targets::seeking::State;
 use model::columns::text_at;
+use words::wide;
 
 // s is the first token of line i.
 fn names(lines: &[u32], tokens: &[u32], text: &[u8], i: u16, s: &[u8]) -> bool

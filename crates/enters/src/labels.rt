@@ -7,13 +7,7 @@ ghost use Rattle.definitions.specs.Columns.{listing};
 ghost use Rattle.enters.specs.Inside.{labels};
 use gotos::words::label_word;
 use plan::source;
-
-fn narrow(i: usize) -> u16
-    requires { ⌜ i < 65536 ⌝ }
-    ensures { λ r. ⌜ r ≡ i ⌝ }
-{
-    i as u16
-}
+use words::narrow;
 
 // The source line of the word w at place m of the list, where its line is a label; answers the place behind.
 fn keep(lines: &[u32], tokens: &[u32], text: &[u8], list: &mut [u16], m: usize, w: usize) -> usize

@@ -21,6 +21,7 @@ use plan::step;
 use plan::test;
 use pseudo_opt::Found;
 use pseudo_opt::labels::first_symbol;
+use words::wide;
 
 // Token k of all is a keyword with the letter g.
 fn has_g(tokens: &[u32], text: &[u8], k: usize) -> bool
@@ -101,13 +102,6 @@ fn quiet(marks: &[u16], p: usize) -> bool
         return false;
     }
     m != 2
-}
-
-// A mark, or a line of the list of labels, as a number.
-pub fn wide(m: u16) -> usize
-    ensures { λ r. ⌜ r ≡ m ⌝ }
-{
-    m as usize
 }
 
 // The mark of the line that w keeps as it is, else 0.

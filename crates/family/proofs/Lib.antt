@@ -1,3 +1,4 @@
 pub mod Places
 pub mod Digits
 pub mod FamilyNames
+pub mod Rsp

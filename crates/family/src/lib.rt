@@ -13,6 +13,7 @@ ghost use Rattle.definitions.specs.Lists.{_==_, position};
 ghost use Rattle.definitions.specs.Model.{tok};
 ghost use Rattle.definitions.specs.Family.{suffix-width, is-numbered, numbered-family, family, fam-of};
 ghost use Rattle.family.specs.Register.{digit-count, number-end, above-zero, family-of, rest-family, row, own-name, same-name, names-family, is-rsp, is-var-family, is-wide};
+use legacy::byte;
 use legacy::is_row;
 use legacy::place;
 use legacy::wide;
@@ -201,6 +202,17 @@ pub fn names(kind: usize, s: &[u8], a: &[u8], r: Register) -> bool
     ensures { λ y. ⌜ y ≡ names-family (family-of (now (a .entry)) r) (tok (now (s .entry)) kind) ⌝ }
 {
     same_family(s, fam_of(kind, s), a, r)
+}
+
+// Whether the text may be a name of rsp, by its second byte: where the answer is no, it is none.
+pub fn may_be_rsp(s: &[u8]) -> bool
+    ensures { λ y. ⌜ (y ≡ false → is-rsp (family (now (s .entry))) ≡ false) ⌝ }
+{
+    let b = byte(s, 1);
+    if b == 115 {
+        return true;
+    }
+    b == 112
 }
 
 // The family is rsp.

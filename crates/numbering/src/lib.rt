@@ -59,7 +59,7 @@ fn number_reads(
 }
 
 // The numbers of the family's definitions and reads. `rep` and `rank` have a word for each definition, `own` and `read` one for each line.
-pub fn line_numbers(
+fn line_numbers(
     space: &mut [u64],
     nums: &[u16],
     n: usize,

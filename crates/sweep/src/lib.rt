@@ -15,6 +15,7 @@ ghost use Rattle.visit.specs.Steps.{Listed, Sweep, Started, Turned};
 ghost use Rattle.sweep.specs.Solved.{Solved, Incoming};
 use visit::coming_row;
 use visit::step_line;
+use words::narrow;
 
 pub enum Sweeps {
     // How many sweeps there were, the last of which changed nothing.
@@ -71,7 +72,14 @@ fn turn(space: &mut [u64], n: usize, r: usize, w: usize)
 }
 
 // Sweeps until one changes nothing, or the budget is used up.
-pub fn solve(space: &mut [u64], defs: &[u16], n: usize, r: usize, w: usize, budget: usize) -> Sweeps
+fn solve_rows(
+    space: &mut [u64],
+    defs: &[u16],
+    n: usize,
+    r: usize,
+    w: usize,
+    budget: usize,
+) -> Sweeps
     requires { ⌜ Room n r w (now space) × Numbered n w (now defs) × Agree n r (now space) ⌝ }
     ensures { λ a. ⌜ Solved n r w (now (defs .entry)) budget (now (space .entry)) (now (space .exit)) a ⌝ }
 {
@@ -88,11 +96,15 @@ pub fn solve(space: &mut [u64], defs: &[u16], n: usize, r: usize, w: usize, budg
     Sweeps::OverBudget
 }
 
-fn narrow(x: usize) -> u16
-    requires { ⌜ x < 65536 ⌝ }
-    ensures { λ r. ⌜ r ≡ x ⌝ }
+// The same. Most families have fewer than 64 definitions: a row of one word has a call of its own, so that the compiler knows how long it is.
+pub fn solve(space: &mut [u64], defs: &[u16], n: usize, r: usize, w: usize, budget: usize) -> Sweeps
+    requires { ⌜ Room n r w (now space) × Numbered n w (now defs) × Agree n r (now space) ⌝ }
+    ensures { λ a. ⌜ Solved n r w (now (defs .entry)) budget (now (space .entry)) (now (space .exit)) a ⌝ }
 {
-    x as u16
+    if w == 1 {
+        return solve_rows(space, defs, n, r, 1, budget);
+    }
+    solve_rows(space, defs, n, r, w, budget)
 }
 
 // The number of line i, where its family is f; c are given so far. Answers how many are given.

@@ -26,6 +26,7 @@ ghost use Rattle.bits.specs.Edges.{Agree, preds-of};
 ghost use Rattle.visit.specs.Layout.{making, Room, outs};
 ghost use Rattle.visit.specs.Numbers.{Numbered};
 ghost use Rattle.visit.specs.Steps.{Word, coming, given, Visit, Ahead, Back, Marked, Step};
+use words::wide;
 
 // Word k of a row in which bit d alone is set.
 fn bit_word(k: usize, d: usize) -> u64
@@ -77,12 +78,6 @@ pub fn coming_row(space: &mut [u64], n: usize, r: usize, w: usize, i: usize)
         space[t + k] = y;
         k += 1;
     }
-}
-
-fn wide(x: u16) -> usize
-    ensures { λ r. ⌜ r ≡ x ⌝ }
-{
-    x as usize
 }
 
 // Word k of what line i is given.

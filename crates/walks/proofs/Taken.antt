@@ -1,8 +1,8 @@
 -- Rules for `is_rsp` and for whether an address is taken.
 --   defines-plain               a family that a line defines is no `var_`
---   rsp-by                      `is_rsp`
+--   rsp-by, rsp-not             `is_rsp`
 --   family-read                 a family that has a definition is read, but rsp
---   taken-rsp, taken-lines      `address_taken`
+--   taken-some, taken-none      `address_taken`
 --   takes-line, takes-first, takes-text      `takes_at`
 --   taken-here, taken-found     a token that takes the address, and a line that does
 --   untaken-start, untaken-next, untaken-found, untaken-end     the loop of `lines_take`
@@ -10,16 +10,16 @@
 use Prim.Native.Nat.{ℕ, zero, suc, _+_, _-_, _/_, _%_, _<_, _≤_}
 use mathlib.Core.Path.{_≡_, refl, sym, ap, _∙_}
 use mathlib.Core.Logic.{inl, inr}
-use mathlib.Core.Bool.{Bool, true, false, cond, _&&_, not}
+use mathlib.Core.Bool.{Bool, true, false, cond, _&&_, not, and-true, and-false}
 use mathlib.Core.List.{List, [], _∷_}
 use mathlib.Core.Option.{Option, none, some, Option·none-ne-some, Option·some-injective}
 use native.Mathlib.Omega.{arith}
-use lib.Dec.{leb}
+use lib.Dec.{eqb, leb}
 use borrow.Author.Tests.{lt-ltb, le-ltb, ltb-true}
 use lib.ListN.{length, getD}
 use Rattle.definitions.specs.Lists.{_>>=_, require, any, range, _==_, ends-with, ascii}
 use Rattle.definitions.specs.Model.{Token, Line, no-token, token, line}
-use Rattle.definitions.specs.Family.{Family, fam-of, names}
+use Rattle.definitions.specs.Family.{Family, family, fam-of, names}
 use Rattle.definitions.specs.Columns.{token-list, listing}
 use Rattle.definitions.specs.Statements.{Assignment, assignment, defines, is-var}
 use Rattle.definitions.specs.Recover.{takes-address, address-taken, is-read-family}
@@ -63,6 +63,20 @@ pub rsp-by : (L : List Line) (t : List ℕ) (k i : ℕ) (r : Register) (s : List
     → family-of (token (line L i) 0 .text) r ≡ fam-of (token (line L i) 0) → y ≡ is-rsp (family-of s r) → y ≡ is-rsp (fam-of (token (line L (getD t (1280 + k) 0)) 0))
 rsp-by L t k i r s y e p q z = z ∙ ap (λ (s : List ℕ). is-rsp (family-of s r)) p ∙ ap is-rsp q ∙ ap (λ (i : ℕ). is-rsp (fam-of (token (line L i) 0))) e
 
+-- a register token of which the text is no name of rsp
+no-rsp : (u : Token) → is-rsp (family (u .text)) ≡ false → is-rsp (fam-of u) ≡ false
+unfolding fam-of
+no-rsp u e = go (eqb (u .kind) 1)
+  where
+    go : (b : Bool) → is-rsp (cond b (family (u .text)) none) ≡ false
+    go true = e
+    go false = refl
+
+pub rsp-not : (L : List Line) (t : List ℕ) (k i : ℕ) (s : List ℕ) (b : Bool) → i ≡ getD t (1280 + k) 0 → s ≡ token (line L i) 0 .text
+    → (b ≡ false → is-rsp (family s) ≡ false) → b ≡ false → false ≡ is-rsp (fam-of (token (line L (getD t (1280 + k) 0)) 0))
+rsp-not L t k i s b e p f q =
+    sym (ap (λ (i : ℕ). is-rsp (fam-of (token (line L i) 0))) (sym e) ∙ no-rsp (token (line L i) 0) (ap (λ (s : List ℕ). is-rsp (family s)) (sym p) ∙ f q))
+
 module _ (L : List Line) (count k : ℕ) (t : List ℕ) (T : Table L count t) (h : k < count) (y : Bool) (e : y ≡ is-rsp (fam-of (token (line L (getD t (1280 + k) 0)) 0))) where
   rsp-is : y ≡ (family-name L k == ascii "rsp")
   rsp-is = let w = defines-first (line L (getD t (1280 + k) 0)) (family-name L k) (T .first k h) in e ∙ ap is-rsp (w .1) ∙ ap (_== ascii "rsp") (w .2)
@@ -71,11 +85,17 @@ module _ (L : List Line) (count k : ℕ) (t : List ℕ) (T : Table L count t) (h
   pub family-read : is-read-family (family-name L k) ≡ not y
   family-read = rw (sym rsp-is, defines-plain (line L (getD t (1280 + k) 0)) (family-name L k) (T .first k h))
 
-  pub taken-rsp : y ≡ true → false ≡ address-taken L (family-name L k)
-  taken-rsp q = rw (sym rsp-is ∙ q, defines-plain (line L (getD t (1280 + k) 0)) (family-name L k) (T .first k h))
+  taken-by : address-taken L (family-name L k) ≡ (not y && any (λ i. takes-address (family-name L k) (line L i .tokens)) (range 1 (length L - 1)))
+  taken-by = rw (sym rsp-is, defines-plain (line L (getD t (1280 + k) 0)) (family-name L k) (T .first k h))
 
-  pub taken-lines : y ≡ false → (z : Bool) → z ≡ any (λ i. takes-address (family-name L k) (line L i .tokens)) (range 1 (length L - 1)) → z ≡ address-taken L (family-name L k)
-  taken-lines q z s = rw (sym rsp-is ∙ q, defines-plain (line L (getD t (1280 + k) 0)) (family-name L k) (T .first k h)) s
+  pub taken-some : (z : Bool) → z ≡ any (λ i. takes-address (family-name L k) (line L i .tokens)) (range 1 (length L - 1)) → z ≡ true → not y ≡ address-taken L (family-name L k)
+  taken-some z s q = sym (taken-by ∙ rw (sym s, q) (and-true (not y)))
+
+pub taken-none : (L : List Line) (count k : ℕ) (t : List ℕ) → Table L count t → k < count → (z : Bool)
+    → z ≡ any (λ i. takes-address (family-name L k) (line L i .tokens)) (range 1 (length L - 1)) → z ≡ false → false ≡ address-taken L (family-name L k)
+taken-none L count k t T h z s q =
+    let y = is-rsp (fam-of (token (line L (getD t (1280 + k) 0)) 0)) in
+    sym (taken-by L count k t T h y refl ∙ rw (sym s, q) (and-false (not y)))
 
 -- `takes_at`
 
@@ -203,4 +223,4 @@ module _ (l t x : List ℕ) (k : ℕ) (ns first : List ℕ) (C : Chain l t x k n
   pub untaken-end : (p : ℕ) → Untaken l t x k p → length t ≤ p → false ≡ any (λ i. takes-address (family-name (listing l t x) k) (line (listing l t x) i .tokens)) (range 1 (length (listing l t x) - 1))
   untaken-end p U h = sym (not-so _ (λ e. let w = taken-found l t x k (C .bounds) e in clash (w .3) (U .none (w .0) (omega (arith, w .1)) (w .1) (w .2))))
 
-pub ruleset taken-rules = (rsp-by, taken-rsp, taken-lines, takes-line, takes-first, takes-text, untaken-start, untaken-next, untaken-found, untaken-end, walk-shorter)
+pub ruleset taken-rules = (rsp-by, rsp-not, taken-some, taken-none, takes-line, takes-first, takes-text, untaken-start, untaken-next, untaken-found, untaken-end, walk-shorter)

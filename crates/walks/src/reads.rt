@@ -59,14 +59,18 @@ fn lines_take(
     false
 }
 
-// Family k is rsp.
+// Family k is rsp. Of most families only the second byte is read.
 pub fn is_rsp(lines: &[u32], tokens: &[u32], text: &[u8], table: &[u16], k: usize) -> bool
     requires { ⌜ k < 1024 ⌝ }
     ensures { λ y. ⌜ (let l = line (listing (now (lines .entry)) (now (tokens .entry)) (now (text .entry))) (getD (now (table .entry)) (1280 + k) 0) in y ≡ is-rsp (fam-of (token l 0))) ⌝ }
 {
     let i = number(table, 1280 + k);
-    let r = pseudo_opt::registers::register_at(lines, tokens, text, i, 0);
-    family::is_rsp(model::columns::text_at(lines, tokens, text, i, 0), r)
+    let s = model::columns::text_at(lines, tokens, text, i, 0);
+    if family::may_be_rsp(s) {
+        let r = pseudo_opt::registers::register_at(lines, tokens, text, i, 0);
+        return family::is_rsp(s, r);
+    }
+    false
 }
 
 // The address of family k is taken: never that of rsp.
@@ -83,10 +87,10 @@ pub fn address_taken(
     requires { ⌜ Table (listing (now lines) (now tokens) (now text)) count (now table) × (k < count) × (k < 1024) × Chain (now lines) (now tokens) (now text) k (now numbers) (now first) ⌝ }
     ensures { λ y. ⌜ (let L = listing (now (lines .entry)) (now (tokens .entry)) (now (text .entry)) in y ≡ address-taken L (family-name L k)) ⌝ }
 {
-    if is_rsp(lines, tokens, text, table, k) {
-        return false;
+    if lines_take(lines, tokens, text, numbers, first, k) {
+        return !is_rsp(lines, tokens, text, table, k);
     }
-    lines_take(lines, tokens, text, numbers, first, k)
+    false
 }
 
 // The token at place p of line i is not the register that the line defines.

@@ -80,7 +80,7 @@ pub fn add_bytes(text: &mut [u8], c: Cursor, bytes: &[u8]) -> Cursor
 }
 
 // Ends the open token.
-pub fn end_token(tokens: &mut [u32], c: Cursor, kind: usize) -> Cursor
+fn end_token(tokens: &mut [u32], c: Cursor, kind: usize) -> Cursor
     requires { ⌜ kind < 256 ⌝ }
     ensures { λ r. ⌜ ((l a x : List ℕ) → Writes (end-token kind) (columns l a (now (tokens .entry)) x) c (columns l a (now (tokens .exit)) x) r) ⌝ }
 {

@@ -11,11 +11,14 @@ add-number c = search (taken-rules, needs)
 number-requires : tie.Need-number-requires
 number-requires c κs = search (taken-rules, needs)
 
-register-at-requires : tie.Need-register-at-requires
-register-at-requires c κs = search (taken-rules, needs)
-
 text-at-requires : tie.Need-text-at-requires
 text-at-requires c κs = search (taken-rules, needs)
+
+may-be-rsp-requires : tie.Need-may-be-rsp-requires
+may-be-rsp-requires c κs = search (taken-rules, needs)
+
+register-at-requires : tie.Need-register-at-requires
+register-at-requires c κs = search (taken-rules, needs)
 
 is-rsp-requires : tie.Need-is-rsp-requires
 is-rsp-requires c κs = search (taken-rules, needs)
@@ -23,13 +26,18 @@ is-rsp-requires c κs = search (taken-rules, needs)
 returns : tie.Need-returns
 returns c = search (taken-rules, needs)
 
+returns-2 : tie.Need-returns-2
+returns-2 c = search (taken-rules, needs)
+
 pub is-rsp-spec : {M : Type 1} → statement M
 is-rsp-spec =
     tie.close
     (tie.spec
     add-number
     number-requires
-    register-at-requires
     text-at-requires
+    may-be-rsp-requires
+    register-at-requires
     is-rsp-requires
-    returns)
+    returns
+    returns-2)
