@@ -72,14 +72,7 @@ fn turn(space: &mut [u64], n: usize, r: usize, w: usize)
 }
 
 // Sweeps until one changes nothing, or the budget is used up.
-fn solve_rows(
-    space: &mut [u64],
-    defs: &[u16],
-    n: usize,
-    r: usize,
-    w: usize,
-    budget: usize,
-) -> Sweeps
+pub fn solve(space: &mut [u64], defs: &[u16], n: usize, r: usize, w: usize, budget: usize) -> Sweeps
     requires { ⌜ Room n r w (now space) × Numbered n w (now defs) × Agree n r (now space) ⌝ }
     ensures { λ a. ⌜ Solved n r w (now (defs .entry)) budget (now (space .entry)) (now (space .exit)) a ⌝ }
 {
@@ -94,17 +87,6 @@ fn solve_rows(
         }
     }
     Sweeps::OverBudget
-}
-
-// The same. Most families have fewer than 64 definitions: a row of one word has a call of its own, so that the compiler knows how long it is.
-pub fn solve(space: &mut [u64], defs: &[u16], n: usize, r: usize, w: usize, budget: usize) -> Sweeps
-    requires { ⌜ Room n r w (now space) × Numbered n w (now defs) × Agree n r (now space) ⌝ }
-    ensures { λ a. ⌜ Solved n r w (now (defs .entry)) budget (now (space .entry)) (now (space .exit)) a ⌝ }
-{
-    if w == 1 {
-        return solve_rows(space, defs, n, r, 1, budget);
-    }
-    solve_rows(space, defs, n, r, w, budget)
 }
 
 // The number of line i, where its family is f; c are given so far. Answers how many are given.

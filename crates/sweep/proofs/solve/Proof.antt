@@ -1,51 +1,66 @@
--- `sweep::solve` meets its contract. By its calls. Assumes nothing.
-use Prim.Native.Nat.{ℕ}
+-- `sweep::solve` meets its contract. The invariant: `count` sweeps are done, each of which changed something. Assumes nothing.
+use Prim.Native.Nat.{_-_, _≤_}
 use mathlib.Core.Path.{_≡_}
-use mathlib.Core.List.{List}
-use Rattle.visit.specs.Layout.{Room}
-use Rattle.visit.specs.Numbers.{Numbered}
-use Rattle.sweep.specs.declared.Sweeps.{Sweeps}
-use Rattle.sweep.specs.Solved.{Solved}
+use lib.ListN.{length}
+use Rattle.visit.proofs.LayoutLaws.{room-same}
+use Rattle.sweep.proofs.Counting.{Solving, solve-start, solve-next, solve-done, solve-over, agree-still}
 use borrow.Author.Needs.{needs}
 use Rattle.sweep.proofs.solve.Statement.{statement}
 use Rattle.sweep.proofs.solve.Tie as tie
 
-module _ (n w : ℕ) (e : w ≡ 1) where
-  numbered-one : (d : List ℕ) → Numbered n w d → Numbered n 1 d
-  numbered-one d p = rw e at p
+abbrev Inv-loop : tie.InvT-loop
+Inv-loop space₀ defs n r w budget count₀ space count = (length space ≡ length space₀) × (count ≤ budget) × Solving n r w defs space₀ space count
 
-  module _ (r : ℕ) (l : List ℕ) where
-    room-one : Room n r w l → Room n r 1 l
-    room-one p = rw e at p
+abbrev μ-loop : tie.MeasureT-loop
+μ-loop space₀ defs n r w budget count₀ space count = budget - count
 
-    solved-one : (d : List ℕ) (b : ℕ) (l′ : List ℕ) (a : Sweeps) → Solved n r 1 d b l l′ a → Solved n r w d b l l′ a
-    solved-one d b l′ a s = rw e s
+start-requires : tie.Need-start-requires Inv-loop μ-loop
+start-requires c κs = search needs
 
-solve-rows-requires : tie.Need-solve-rows-requires
-solve-rows-requires c κs = search (room-one, numbered-one, needs)
+loop-holds : tie.Need-loop-holds Inv-loop μ-loop
+loop-holds c = search (solve-start, needs)
 
-same-length : tie.Need-same-length
+add-count : tie.Need-add-count Inv-loop μ-loop
+add-count c = search needs
+
+sweep-requires : tie.Need-sweep-requires Inv-loop μ-loop
+sweep-requires c κs = search (room-same, agree-still, needs)
+
+turn-requires : tie.Need-turn-requires Inv-loop μ-loop
+turn-requires c κs = search (room-same, needs)
+
+loop-less : tie.Need-loop-less Inv-loop μ-loop
+loop-less c = search needs
+
+loop-again : tie.Need-loop-again Inv-loop μ-loop
+loop-again c = search (solve-next, needs)
+
+same-length : tie.Need-same-length Inv-loop μ-loop
 same-length c = search needs
 
-returns : tie.Need-returns
-returns c = search (solved-one, needs)
+returns : tie.Need-returns Inv-loop μ-loop
+returns c = search (solve-done, needs)
 
-solve-rows-requires-2 : tie.Need-solve-rows-requires-2
-solve-rows-requires-2 c κs = search needs
-
-same-length-2 : tie.Need-same-length-2
+same-length-2 : tie.Need-same-length-2 Inv-loop μ-loop
 same-length-2 c = search needs
 
-returns-2 : tie.Need-returns-2
-returns-2 c = search needs
+returns-2 : tie.Need-returns-2 Inv-loop μ-loop
+returns-2 c = search (solve-over, needs)
 
 pub solve-spec : {M : Type 1} → statement M
 solve-spec =
     tie.close
     (tie.spec
-    solve-rows-requires
+    Inv-loop
+    μ-loop
+    start-requires
+    loop-holds
+    add-count
+    sweep-requires
+    turn-requires
+    loop-less
+    loop-again
     same-length
     returns
-    solve-rows-requires-2
     same-length-2
     returns-2)
