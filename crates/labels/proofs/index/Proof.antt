@@ -7,13 +7,13 @@ use Rattle.labels.proofs.index.Statement.{statement}
 use Rattle.labels.proofs.index.Tie as tie
 
 abbrev Inv-loop : tie.InvT-loop
-Inv-loop lines tokens text heads₀ nexts₀ m₀ left₀ heads nexts m left = (m < 65536) × (length heads ≡ length heads₀) × (length nexts ≡ length nexts₀) × ((b : ℕ) → b < 255 → getD heads b 0 ≡ 0)
+Inv-loop lines tokens text heads₀ nexts₀ m₀ left₀ heads nexts m left = (length heads ≡ length heads₀) × (length nexts ≡ length nexts₀) × ((b : ℕ) → b < 255 → getD heads b 0 ≡ 0)
 
 abbrev μ-loop : tie.MeasureT-loop
 μ-loop lines tokens text heads₀ nexts₀ m₀ left₀ heads nexts m left = left
 
 loop-holds : tie.Need-loop-holds Inv-loop μ-loop
-loop-holds c = (search needs, refl, refl, λ b h. c .before .before .before .before .before .pre .1 b)
+loop-holds c = (refl, refl, λ b h. c .before .before .before .before .before .pre .1 b)
 
 index-all-requires : tie.Need-index-all-requires Inv-loop μ-loop
 index-all-requires c κs = search needs
@@ -30,11 +30,8 @@ returns c = c .before .before .before .before .before .before .index-all .ensure
 empty-requires : tie.Need-empty-requires Inv-loop μ-loop
 empty-requires c κs = search needs
 
-mul-m : tie.Need-mul-m Inv-loop μ-loop
-mul-m c = search needs
-
-add-m : tie.Need-add-m Inv-loop μ-loop
-add-m c = search needs
+next-requires : tie.Need-next-requires Inv-loop μ-loop
+next-requires c κs = search needs
 
 sub-left : tie.Need-sub-left Inv-loop μ-loop
 sub-left c = search needs
@@ -44,8 +41,9 @@ loop-less c = search needs
 
 loop-again : tie.Need-loop-again Inv-loop μ-loop
 loop-again c =
-    let l = c .before .before .before .before .before .before .before .before .before .before .before .before .before .loop in
-    (search needs, c .before .before .empty .kept .0 ∙ c .before .before .before .before .before .before .before .before .before .before .index-all .kept .1 .1 .1 .0 ∙ l .inv .1, c .before .before .before .before .before .before .before .before .before .before .index-all .kept .1 .1 .1 .1 .0 ∙ l .inv .2, c .before .before .empty .ensures)
+    let l = c .before .before .before .before .before .before .before .before .before .before .before .before .before .before .loop in
+    let a = c .before .before .before .before .before .before .before .before .before .before .before .index-all in
+    (c .before .before .before .empty .kept .0 ∙ a .kept .1 .1 .1 .0 ∙ l .inv .0, a .kept .1 .1 .1 .1 .0 ∙ l .inv .1, c .before .before .before .empty .ensures)
 
 same-length-3 : tie.Need-same-length-3 Inv-loop μ-loop
 same-length-3 c = search needs
@@ -68,8 +66,7 @@ index-spec =
     same-length-2
     returns
     empty-requires
-    mul-m
-    add-m
+    next-requires
     sub-left
     loop-less
     loop-again

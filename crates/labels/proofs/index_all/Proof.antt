@@ -17,9 +17,6 @@ Inv-loop lines tokens text heads₀ nexts₀ m long₀ i₀ heads nexts long i =
 abbrev μ-loop : tie.MeasureT-loop
 μ-loop lines tokens text heads₀ nexts₀ m long₀ i₀ heads nexts long i = length lines - i
 
-cast-heads : tie.Need-cast-heads Inv-loop μ-loop
-cast-heads c = search needs
-
 slice-write-heads : tie.Need-slice-write-heads Inv-loop μ-loop
 slice-write-heads c = search needs
 
@@ -61,7 +58,6 @@ index-all-spec =
     (tie.spec
     Inv-loop
     μ-loop
-    cast-heads
     slice-write-heads
     loop-holds
     index-line-requires
