@@ -1,5 +1,4 @@
 -- The families that have a definition, numbered in the order of their first definition, and the table by which one is found.
---   mixed m h b         h * m + b modulo 2^31 - 1, not reduced in full: the bits from 31 on are added to those below
 --   hash m s            a number below 247, by the multiplier m and the bytes of a name
 --   hash-of m o         the same of a family
 --   latest m fs h k     1 + the last place below k of a family whose hash is h, 0 where there is none
@@ -27,26 +26,24 @@
 --   Ready L i count t   line i is next, `count` families being in the table t
 --   Placed L i count c t    line i is done: c is the place of the family that it defines
 -- Assumes nothing.
-use Prim.Native.Nat.{ℕ, zero, suc, _+_, _*_, _-_, _/_, _%_, _<_, _≤_, max}
+use Prim.Native.Nat.{ℕ, zero, suc, _+_, _-_, _%_, _<_, _≤_, max}
 use mathlib.Core.Path.{_≡_}
 use mathlib.Core.List.{List, [], _++_, map}
 use mathlib.Core.Option.{Option, none, some, Option·map}
 use lib.Dec.{eqb, ltb}
 use lib.ListN.{length, getD, set, drop, replicate}
-use Rattle.definitions.specs.Lists.{if_then_else_, fold, position, concat, range, to-list, _==_}
+use Rattle.definitions.specs.Lists.{if_then_else_, position, concat, range, to-list, _==_}
 use Rattle.definitions.specs.Model.{Line, token, line}
 use Rattle.definitions.specs.Family.{Family}
 use Rattle.definitions.specs.Statements.{defines}
 use Rattle.family.specs.declared.Register.{Register}
 use Rattle.legacy.specs.Table.{row-name}
+use Rattle.names.specs.Hash as names
 use Rattle.family.specs.Register.{family-of, row}
 use Rattle.definitions.specs.Recover.{distinct, defined-families}
 
-unfoldable pub mixed : ℕ → ℕ → ℕ → ℕ
-mixed m h b = (h * m + b) % 2147483648 + (h * m + b) / 2147483648
-
 unfoldable pub hash : ℕ → List ℕ → ℕ
-hash m s = fold (mixed m) 0 s % 247
+hash m s = names.hash m s % 247
 
 abbrev pub hash-of : ℕ → Option Family → ℕ
 hash-of m none = 0
