@@ -7,7 +7,7 @@
 // name and in the labels of its bucket. That few labels share a bucket is measured, not proved. Contracts cite `label-line` of
 // Rattle.definitions.specs.FlowGraph.
 ghost use mathlib.Core.Path.{_≡_};
-ghost use mathlib.Core.Bool.{true};
+ghost use mathlib.Core.Bool.{true, false};
 ghost use Prim.Native.Nat.{ℕ, _+_, _≤_, _<_};
 ghost use lib.ListN.{length, getD};
 ghost use Rattle.definitions.specs.Model.{line};
@@ -140,7 +140,8 @@ fn index_line(
     }
 }
 
-// Puts every label into its bucket for the multiplier m; answers whether a bucket holds more than 16.
+// Puts the labels into their buckets for the multiplier m; answers whether all are there. Where there are more multipliers, it stops at a bucket
+// that holds more than 16.
 fn index_all(
     lines: &[u32],
     tokens: &[u32],
@@ -148,21 +149,26 @@ fn index_all(
     heads: &mut [u16],
     nexts: &mut [u16],
     m: u16,
+    more: bool,
 ) -> bool
     requires { ⌜ (256 ≤ length (now heads)) × (length (now lines) ≤ length (now nexts)) × (length (now lines) ≤ 1024) ⌝ }
     requires { ⌜ ((b : ℕ) → b < 255 → getD (now heads) b 0 ≡ 0) ⌝ }
-    ensures { λ _.
+    ensures { λ r.
         ⌜ (let L = listing (now (lines .entry)) (now (tokens .entry)) (now (text .entry)) in
-        Indexed L (now (heads .exit)) (now (nexts .exit)) (length (now (lines .entry)))) ⌝ }
+        r ≡ true → Indexed L (now (heads .exit)) (now (nexts .exit)) (length (now (lines .entry)))) ⌝ }
+    ensures { λ r. ⌜ (more ≡ false → r ≡ true) ⌝ }
 {
     heads[255] = m;
-    let mut long = false;
     let mut i = 0;
     while i < lines.len() {
-        long = long | index_line(lines, tokens, text, heads, nexts, i);
+        if index_line(lines, tokens, text, heads, nexts, i) {
+            if more {
+                return false;
+            }
+        }
         i += 1;
     }
-    long
+    true
 }
 
 // Empties the first n words.
@@ -188,14 +194,15 @@ pub fn index(lines: &[u32], tokens: &[u32], text: &[u8], heads: &mut [u16], next
 {
     let mut m = FIRST;
     let mut left: usize = 7;
-    while index_all(lines, tokens, text, heads, nexts, m) {
-        if left == 0 {
+    while 0 < left {
+        if index_all(lines, tokens, text, heads, nexts, m, true) {
             return;
         }
         empty(heads, 255);
         m = names::next(m, text);
         left -= 1;
     }
+    index_all(lines, tokens, text, heads, nexts, m, false);
 }
 
 // The line of the label s, of equal ones the last.

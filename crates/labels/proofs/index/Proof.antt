@@ -1,8 +1,8 @@
 -- `labels::index` meets its contract. Before each time the buckets are empty. Assumes nothing.
 use Prim.Native.Nat.{ℕ, _<_}
 use mathlib.Core.Path.{_≡_, refl, _∙_}
-use borrow.Author.Needs.{needs}
 use lib.ListN.{length, getD}
+use borrow.Author.Needs.{needs}
 use Rattle.labels.proofs.index.Statement.{statement}
 use Rattle.labels.proofs.index.Tie as tie
 
@@ -25,7 +25,7 @@ same-length-2 : tie.Need-same-length-2 Inv-loop μ-loop
 same-length-2 c = search needs
 
 returns : tie.Need-returns Inv-loop μ-loop
-returns c = c .before .before .before .before .before .before .index-all .ensures
+returns c = c .before .before .before .before .before .index-all .ensures .0 (c .if1 .taken)
 
 empty-requires : tie.Need-empty-requires Inv-loop μ-loop
 empty-requires c κs = search needs
@@ -42,8 +42,11 @@ loop-less c = search needs
 loop-again : tie.Need-loop-again Inv-loop μ-loop
 loop-again c =
     let l = c .before .before .before .before .before .before .before .before .before .before .before .before .before .before .loop in
-    let a = c .before .before .before .before .before .before .before .before .before .before .before .index-all in
+    let a = c .before .before .before .before .before .before .before .before .before .before .index-all in
     (c .before .before .before .empty .kept .0 ∙ a .kept .1 .1 .1 .0 ∙ l .inv .0, a .kept .1 .1 .1 .1 .0 ∙ l .inv .1, c .before .before .before .empty .ensures)
+
+index-all-requires-2 : tie.Need-index-all-requires-2 Inv-loop μ-loop
+index-all-requires-2 c κs = search needs
 
 same-length-3 : tie.Need-same-length-3 Inv-loop μ-loop
 same-length-3 c = search needs
@@ -52,7 +55,7 @@ same-length-4 : tie.Need-same-length-4 Inv-loop μ-loop
 same-length-4 c = search needs
 
 returns-2 : tie.Need-returns-2 Inv-loop μ-loop
-returns-2 c = c .before .before .before .before .before .index-all .ensures
+returns-2 c = c .before .before .before .before .index-all2 .ensures .0 (c .before .before .before .before .index-all2 .ensures .1 refl)
 
 pub index-spec : {M : Type 1} → statement M
 index-spec =
@@ -70,6 +73,7 @@ index-spec =
     sub-left
     loop-less
     loop-again
+    index-all-requires-2
     same-length-3
     same-length-4
     returns-2)
