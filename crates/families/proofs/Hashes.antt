@@ -6,7 +6,7 @@
 --   text-same                           `has_text`
 --   family-hash                         `family_hash`
 -- Assumes nothing.
-use Prim.Native.Nat.{ℕ, zero, suc, _+_, _%_, _<_, _≤_}
+use Prim.Native.Nat.{ℕ, zero, suc, _+_, _*_, _%_, _<_, _≤_}
 use mathlib.Core.Path.{_≡_, refl, ap, _∙_}
 use mathlib.Core.Bool.{Bool, true, false, cond}
 use mathlib.Core.List.{List, [], _∷_}
@@ -80,16 +80,16 @@ module _ (s : List ℕ) (r : Register) where
   pub some-nothing : r ≡ Nothing → false ≡ is-some (family-of s r)
   some-nothing e = rw e
 
-pub first-token : (L : List Line) (o : Option Family) (y : Bool) (t : List ℕ) (k i : ℕ) → i ≡ getD t (1280 + k) 0 → y ≡ names-family o (token (line L i) 0)
-    → y ≡ names-family o (token (line L (getD t (1280 + k) 0)) 0)
+pub first-token : (L : List Line) (o : Option Family) (y : Bool) (t : List ℕ) (k i : ℕ) → i ≡ getD t (257 + 2 * k) 0 → y ≡ names-family o (token (line L i) 0)
+    → y ≡ names-family o (token (line L (getD t (257 + 2 * k) 0)) 0)
 first-token L o y t k i e q = rw (← e) q
 
-pub text-same : (L : List Line) (t s x : List ℕ) (k i : ℕ) (y : Bool) → i ≡ getD t (1280 + k) 0 → x ≡ token (line L i) 0 .text → y ≡ (x == s)
-    → y ≡ (token (line L (getD t (1280 + k) 0)) 0 .text == s)
+pub text-same : (L : List Line) (t s x : List ℕ) (k i : ℕ) (y : Bool) → i ≡ getD t (257 + 2 * k) 0 → x ≡ token (line L i) 0 .text → y ≡ (x == s)
+    → y ≡ (token (line L (getD t (257 + 2 * k) 0)) 0 .text == s)
 text-same L t s x k i y e q f = rw (← e, ← q) f
 
-pub family-hash : (L : List Line) (t s : List ℕ) (r : Register) (k i m h : ℕ) → i ≡ getD t (1280 + k) 0 → s ≡ token (line L i) 0 .text → family-of s r ≡ family s
-    → h ≡ hash-of m (family-of s r) → h ≡ hash-of m (family (token (line L (getD t (1280 + k) 0)) 0 .text))
+pub family-hash : (L : List Line) (t s : List ℕ) (r : Register) (k i m h : ℕ) → i ≡ getD t (257 + 2 * k) 0 → s ≡ token (line L i) 0 .text → family-of s r ≡ family s
+    → h ≡ hash-of m (family-of s r) → h ≡ hash-of m (family (token (line L (getD t (257 + 2 * k) 0)) 0 .text))
 family-hash L t s r k i m h e q f g = rw (← e, ← q) (g ∙ ap (hash-of m) f)
 
 pub ruleset hash-rules = (row-hash, hash-row, hash-behind, hash-part, hash-whole, some-row, some-numbered, some-var, some-nothing, first-token, family-hash)

@@ -10,12 +10,12 @@
 //   words [0, 247)         1 + the last family of each hash, 0 for none
 //   word 247               the multiplier
 //   words [248, 256)       for each row of the legacy names 1 + its family, 0 for none
-//   words [256, 1280)      for each family 1 + the one before it of the same hash, 0 for none
-//   words [1280, 2304)     for each family the line of its first definition
+//   word 256 + 2 k         for family k 1 + the one before it of the same hash, 0 for none
+//   word 257 + 2 k         the line of its first definition
 // Contracts cite `defined-families` of Rattle.definitions.specs.Recover and `defines` of Rattle.definitions.specs.Statements.
 ghost use mathlib.Core.Path.{_≡_};
 ghost use mathlib.Core.List.{List};
-ghost use Prim.Native.Nat.{ℕ, _+_, _<_, _≤_};
+ghost use Prim.Native.Nat.{ℕ, _+_, _*_, _<_, _≤_};
 ghost use lib.ListN.{length, take, getD};
 ghost use Rattle.definitions.specs.Lists.{is-some, _==_};
 ghost use Rattle.definitions.specs.Family.{family};
@@ -89,9 +89,9 @@ fn is_family(
     r: Register,
 ) -> bool
     requires { ⌜ k < 1024 ⌝ }
-    ensures { λ y. ⌜ y ≡ names-family (family-of (now (s .entry)) r) (token (line (listing (now (lines .entry)) (now (tokens .entry)) (now (text .entry))) (getD (now (table .entry)) (1280 + k) 0)) 0) ⌝ }
+    ensures { λ y. ⌜ y ≡ names-family (family-of (now (s .entry)) r) (token (line (listing (now (lines .entry)) (now (tokens .entry)) (now (text .entry))) (getD (now (table .entry)) (257 + 2 * k) 0)) 0) ⌝ }
 {
-    pseudo_opt::registers::token_names(lines, tokens, text, number(table, 1280 + k), 0, s, r)
+    pseudo_opt::registers::token_names(lines, tokens, text, number(table, 257 + 2 * k), 0, s, r)
 }
 
 // What the table has for the row of the answer r, 0 where that is no row.
@@ -126,7 +126,7 @@ fn search_chain(
         if is_family(lines, tokens, text, table, c - 1, s, r) {
             return c;
         }
-        c = number(table, 256 + (c - 1));
+        c = number(table, 256 + 2 * (c - 1));
     }
     0
 }
@@ -134,9 +134,9 @@ fn search_chain(
 // The first definition of family k writes its register as s.
 fn has_text(lines: &[u32], tokens: &[u32], text: &[u8], table: &[u16], k: usize, s: &[u8]) -> bool
     requires { ⌜ k < 1024 ⌝ }
-    ensures { λ y. ⌜ y ≡ (token (line (listing (now (lines .entry)) (now (tokens .entry)) (now (text .entry))) (getD (now (table .entry)) (1280 + k) 0)) 0 .text == now (s .entry)) ⌝ }
+    ensures { λ y. ⌜ y ≡ (token (line (listing (now (lines .entry)) (now (tokens .entry)) (now (text .entry))) (getD (now (table .entry)) (257 + 2 * k) 0)) 0 .text == now (s .entry)) ⌝ }
 {
-    let i = number(table, 1280 + k);
+    let i = number(table, 257 + 2 * k);
     text::equal(text_at(lines, tokens, text, i, 0), s)
 }
 
@@ -170,28 +170,28 @@ pub fn search(
 
 // One family more in the chains: its number is `count`, its hash h.
 fn link(table: &mut [u16], count: usize, h: usize)
-    requires { ⌜ (count < 1024) × (h < 247) × (2304 ≤ length (now table)) ⌝ }
+    requires { ⌜ (count < 1024) × (h < 247) × (257 + 2 * count < length (now table)) ⌝ }
     ensures { λ _. ⌜ now (table .exit) ≡ linked (now (table .entry)) count h ⌝ }
 {
     let head = table[h];
-    table[256 + count] = head;
+    table[256 + 2 * count] = head;
     let last = narrow(count + 1);
     table[h] = last;
 }
 
 // One family more in the table: its first definition is on line i.
 fn add(table: &mut [u16], count: usize, i: usize, h: usize)
-    requires { ⌜ (count < 1024) × (i < 1024) × (h < 247) × (2304 ≤ length (now table)) ⌝ }
+    requires { ⌜ (count < 1024) × (i < 1024) × (h < 247) × (257 + 2 * count < length (now table)) ⌝ }
     ensures { λ _. ⌜ now (table .exit) ≡ added (now (table .entry)) count i h ⌝ }
 {
     let first = narrow(i);
-    table[1280 + count] = first;
+    table[257 + 2 * count] = first;
     link(table, count, h);
 }
 
 // The table gets c for the row of the answer r, if that is a row.
 fn keep_row(table: &mut [u16], r: Register, c: usize)
-    requires { ⌜ (c < 65536) × (2304 ≤ length (now table)) ⌝ }
+    requires { ⌜ (c < 65536) × (256 ≤ length (now table)) ⌝ }
     ensures { λ _. ⌜ now (table .exit) ≡ kept (now (table .entry)) r c ⌝ }
 {
     match r {
@@ -255,7 +255,7 @@ fn is_long(table: &[u16], c: u16) -> bool {
         if c == 0 {
             return false;
         }
-        c = word(table, 255 + wide(c));
+        c = word(table, 254 + 2 * wide(c));
         n += 1;
     }
     c != 0
@@ -263,7 +263,7 @@ fn is_long(table: &[u16], c: u16) -> bool {
 
 // Empties the chains; m is the multiplier from now on.
 fn empty(table: &mut [u16], m: u16)
-    requires { ⌜ 2304 ≤ length (now table) ⌝ }
+    requires { ⌜ 248 ≤ length (now table) ⌝ }
     ensures { λ _. ⌜ now (table .exit) ≡ emptied (now (table .entry)) m ⌝ }
 {
     zero(&mut table[..247]);
@@ -273,16 +273,16 @@ fn empty(table: &mut [u16], m: u16)
 // The hash of family k, by its first definition.
 fn family_hash(lines: &[u32], tokens: &[u32], text: &[u8], table: &[u16], k: usize) -> usize
     requires { ⌜ k < 1024 ⌝ }
-    ensures { λ h. ⌜ (let L = listing (now (lines .entry)) (now (tokens .entry)) (now (text .entry)) in let t = now (table .entry) in (h ≡ hash-of (multiplier t) (family (token (line L (getD t (1280 + k) 0)) 0 .text))) × (h < 247)) ⌝ }
+    ensures { λ h. ⌜ (let L = listing (now (lines .entry)) (now (tokens .entry)) (now (text .entry)) in let t = now (table .entry) in (h ≡ hash-of (multiplier t) (family (token (line L (getD t (257 + 2 * k) 0)) 0 .text))) × (h < 247)) ⌝ }
 {
-    let s = text_at(lines, tokens, text, number(table, 1280 + k), 0);
+    let s = text_at(lines, tokens, text, number(table, 257 + 2 * k), 0);
     let r = family::family(s);
     hash_of(table, s, r)
 }
 
 // The chains by the multiplier m.
 fn rehash(lines: &[u32], tokens: &[u32], text: &[u8], table: &mut [u16], count: usize, m: u16)
-    requires { ⌜ Table (listing (now lines) (now tokens) (now text)) count (now table) × (count ≤ 1024) × (2304 ≤ length (now table)) ⌝ }
+    requires { ⌜ Table (listing (now lines) (now tokens) (now text)) count (now table) × (count ≤ 1024) × (256 + 2 * count ≤ length (now table)) ⌝ }
     ensures { λ _. ⌜ Table (listing (now (lines .entry)) (now (tokens .entry)) (now (text .entry))) count (now (table .exit)) ⌝ }
 {
     empty(table, m);
@@ -296,7 +296,7 @@ fn rehash(lines: &[u32], tokens: &[u32], text: &[u8], table: &mut [u16], count: 
 
 // Where the last family is in a long chain, the table goes on with another multiplier.
 fn shorten(lines: &[u32], tokens: &[u32], text: &[u8], table: &mut [u16], count: usize)
-    requires { ⌜ Table (listing (now lines) (now tokens) (now text)) count (now table) × (count ≤ 1024) × (2304 ≤ length (now table)) ⌝ }
+    requires { ⌜ Table (listing (now lines) (now tokens) (now text)) count (now table) × (count ≤ 1024) × (256 + 2 * count ≤ length (now table)) ⌝ }
     ensures { λ _. ⌜ Table (listing (now (lines .entry)) (now (tokens .entry)) (now (text .entry))) count (now (table .exit)) ⌝ }
 {
     if is_long(table, narrow(count)) {
@@ -380,7 +380,7 @@ pub fn families(
     table: &mut [u16],
     defs: &mut [u16],
 ) -> usize
-    requires { ⌜ (0 < length (now lines)) × (length (now lines) ≤ 1024) × (2304 ≤ length (now table)) × (length (now lines) ≤ length (now defs)) ⌝ }
+    requires { ⌜ (0 < length (now lines)) × (length (now lines) ≤ 1024) × (256 + 2 * length (now lines) ≤ length (now table)) × (length (now lines) ≤ length (now defs)) ⌝ }
     ensures { λ c. ⌜ Numbered (listing (now (lines .entry)) (now (tokens .entry)) (now (text .entry))) (length (now (lines .entry))) c (now (table .exit)) (now (defs .exit)) ⌝ }
 {
     zero(&mut table[..256]);

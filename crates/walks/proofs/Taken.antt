@@ -7,7 +7,7 @@
 --   taken-here, taken-found     a token that takes the address, and a line that does
 --   untaken-start, untaken-next, untaken-found, untaken-end     the loop of `lines_take`
 -- Assumes nothing.
-use Prim.Native.Nat.{ℕ, zero, suc, _+_, _-_, _/_, _%_, _<_, _≤_}
+use Prim.Native.Nat.{ℕ, zero, suc, _+_, _*_, _-_, _/_, _%_, _<_, _≤_}
 use mathlib.Core.Path.{_≡_, refl, sym, ap, _∙_}
 use mathlib.Core.Logic.{inl, inr}
 use mathlib.Core.Bool.{Bool, true, false, cond, _&&_, not}
@@ -59,23 +59,23 @@ defines-plain l f e = go (assignment l) e
     go none e = absurd (Option·none-ne-some _ e)
     go (some a) e = with-family a (fam-of (a .lhs)) e
 
-pub rsp-by : (L : List Line) (t : List ℕ) (k i : ℕ) (r : Register) (s : List ℕ) (y : Bool) → i ≡ getD t (1280 + k) 0 → s ≡ token (line L i) 0 .text
-    → family-of (token (line L i) 0 .text) r ≡ fam-of (token (line L i) 0) → y ≡ is-rsp (family-of s r) → y ≡ is-rsp (fam-of (token (line L (getD t (1280 + k) 0)) 0))
+pub rsp-by : (L : List Line) (t : List ℕ) (k i : ℕ) (r : Register) (s : List ℕ) (y : Bool) → i ≡ getD t (257 + 2 * k) 0 → s ≡ token (line L i) 0 .text
+    → family-of (token (line L i) 0 .text) r ≡ fam-of (token (line L i) 0) → y ≡ is-rsp (family-of s r) → y ≡ is-rsp (fam-of (token (line L (getD t (257 + 2 * k) 0)) 0))
 rsp-by L t k i r s y e p q z = z ∙ ap (λ (s : List ℕ). is-rsp (family-of s r)) p ∙ ap is-rsp q ∙ ap (λ (i : ℕ). is-rsp (fam-of (token (line L i) 0))) e
 
-module _ (L : List Line) (count k : ℕ) (t : List ℕ) (T : Table L count t) (h : k < count) (y : Bool) (e : y ≡ is-rsp (fam-of (token (line L (getD t (1280 + k) 0)) 0))) where
+module _ (L : List Line) (count k : ℕ) (t : List ℕ) (T : Table L count t) (h : k < count) (y : Bool) (e : y ≡ is-rsp (fam-of (token (line L (getD t (257 + 2 * k) 0)) 0))) where
   rsp-is : y ≡ (family-name L k == ascii "rsp")
-  rsp-is = let w = defines-first (line L (getD t (1280 + k) 0)) (family-name L k) (T .first k h) in e ∙ ap is-rsp (w .1) ∙ ap (_== ascii "rsp") (w .2)
+  rsp-is = let w = defines-first (line L (getD t (257 + 2 * k) 0)) (family-name L k) (T .first k h) in e ∙ ap is-rsp (w .1) ∙ ap (_== ascii "rsp") (w .2)
 
   -- a family that has a definition is read, but rsp
   pub family-read : is-read-family (family-name L k) ≡ not y
-  family-read = rw (sym rsp-is, defines-plain (line L (getD t (1280 + k) 0)) (family-name L k) (T .first k h))
+  family-read = rw (sym rsp-is, defines-plain (line L (getD t (257 + 2 * k) 0)) (family-name L k) (T .first k h))
 
   pub taken-rsp : y ≡ true → false ≡ address-taken L (family-name L k)
-  taken-rsp q = rw (sym rsp-is ∙ q, defines-plain (line L (getD t (1280 + k) 0)) (family-name L k) (T .first k h))
+  taken-rsp q = rw (sym rsp-is ∙ q, defines-plain (line L (getD t (257 + 2 * k) 0)) (family-name L k) (T .first k h))
 
   pub taken-lines : y ≡ false → (z : Bool) → z ≡ any (λ i. takes-address (family-name L k) (line L i .tokens)) (range 1 (length L - 1)) → z ≡ address-taken L (family-name L k)
-  taken-lines q z s = rw (sym rsp-is ∙ q, defines-plain (line L (getD t (1280 + k) 0)) (family-name L k) (T .first k h)) s
+  taken-lines q z s = rw (sym rsp-is ∙ q, defines-plain (line L (getD t (257 + 2 * k) 0)) (family-name L k) (T .first k h)) s
 
 -- `takes_at`
 
