@@ -8,7 +8,7 @@
 --   family-at                                                             the hash of a family by its first definition
 --   last-inside, found-text                                               a register written as the first definition of the last family of its hash
 -- Assumes nothing.
-use Prim.Native.Nat.{ℕ, zero, suc, _+_, _-_, _<_, _≤_}
+use Prim.Native.Nat.{ℕ, zero, suc, _+_, _*_, _-_, _<_, _≤_}
 use mathlib.Core.Path.{_≡_, refl, sym, ap, _∙_}
 use mathlib.Core.Logic.{inl, inr}
 use mathlib.Core.Bool.{Bool, true, false, cond, not, false≢true}
@@ -208,10 +208,10 @@ module _ (L : List Line) (count : ℕ) (t : List ℕ) (T : Table L count t) (o :
       rw (q, T .heads h l, e) (from-latest (multiplier t) (defined-families L) count count o (omega arith) (λ k g s. absurd (omega arith)))
 
   module _ (c : ℕ) (s : Searching (multiplier t) (defined-families L) count o c) (p : 0 < c) where
-    at : (y : Bool) → y ≡ names-family o (token (line L (getD t (1280 + (c - 1)) 0)) 0) → y ≡ matches o (getD (defined-families L) (c - 1) [])
+    at : (y : Bool) → y ≡ names-family o (token (line L (getD t (257 + 2 * (c - 1)) 0)) 0) → y ≡ matches o (getD (defined-families L) (c - 1) [])
     at y q = q ∙ names-matches o _ _ (T .first (c - 1) (omega (arith, s .bound)))
 
-    pub searching-found : (y : Bool) → y ≡ names-family o (token (line L (getD t (1280 + (c - 1)) 0)) 0) → y ≡ true
+    pub searching-found : (y : Bool) → y ≡ names-family o (token (line L (getD t (257 + 2 * (c - 1)) 0)) 0) → y ≡ true
         → c ≡ place-of (take count (defined-families L)) o
     searching-found y q f = go o (sym (at y q) ∙ f)
       where
@@ -219,8 +219,8 @@ module _ (L : List Line) (count : ℕ) (t : List ℕ) (T : Table L count t) (o :
         go none m = absurd (false≢true m)
         go (some x) m = omega (arith, place-taken L count t T (x .name) (c - 1) (omega (arith, s .bound)) (==-true _ (x .name) m))
 
-    pub searching-next : (y : Bool) (next : ℕ) → y ≡ names-family o (token (line L (getD t (1280 + (c - 1)) 0)) 0) → y ≡ false
-        → next ≡ getD t (256 + (c - 1)) 0 → Searching (multiplier t) (defined-families L) count o next
+    pub searching-next : (y : Bool) (next : ℕ) → y ≡ names-family o (token (line L (getD t (257 + 2 * (c - 1)) 0)) 0) → y ≡ false
+        → next ≡ getD t (256 + 2 * (c - 1)) 0 → Searching (multiplier t) (defined-families L) count o next
     searching-next y next q f r =
         rw (r, T .next (c - 1) (omega (arith, s .bound)), s .chain (c - 1) (omega arith))
         (from-latest (multiplier t) (defined-families L) count (c - 1) o (omega (arith, s .bound)) (λ k l h. elim (lt-or-ge k c) [
@@ -228,7 +228,7 @@ module _ (L : List Line) (count : ℕ) (t : List ℕ) (T : Table L count t) (o :
           | inr g ↦ s .above k g h
         ]))
 
-    pub searching-less : (next : ℕ) → next ≡ getD t (256 + (c - 1)) 0 → next < c
+    pub searching-less : (next : ℕ) → next ≡ getD t (256 + 2 * (c - 1)) 0 → next < c
     searching-less next r = omega (arith, r, T .next (c - 1) (omega (arith, s .bound)), latest-le (multiplier t) (defined-families L) (hash (multiplier t) (getD (defined-families L) (c - 1) [])) (c - 1))
 
   pub searching-end : (c : ℕ) → Searching (multiplier t) (defined-families L) count o c → c ≤ 0 → 0 ≡ place-of (take count (defined-families L)) o
@@ -292,9 +292,9 @@ family-some u x e = go (eqb (u .kind) 1) e
     go false q = cc
 
 pub family-at : (L : List Line) (count n : ℕ) (t : List ℕ) → Linked L count n t → (k m h : ℕ) → k < count
-    → h ≡ hash-of m (family (token (line L (getD t (1280 + k) 0)) 0 .text)) → h ≡ hash m (getD (defined-families L) k [])
+    → h ≡ hash-of m (family (token (line L (getD t (257 + 2 * k) 0)) 0 .text)) → h ≡ hash m (getD (defined-families L) k [])
 family-at L count n t T k m h b e =
-    let l = line L (getD t (1280 + k) 0) in
+    let l = line L (getD t (257 + 2 * k) 0) in
     let w = defines-first l (getD (defined-families L) k []) (T .first k b) in
     e ∙ ap (hash-of m) (family-some (token l 0) (w .0) (w .1)) ∙ ap (hash m) (w .2)
 
@@ -306,10 +306,10 @@ module _ (L : List Line) (count : ℕ) (t s : List ℕ) (r : Register) (T : Tabl
   pub last-inside : 0 < c → count ≤ 1024 → c - 1 < 1024
   last-inside p few = omega (arith, last-few)
 
-  pub found-text : 0 < c → (y : Bool) → y ≡ (token (line L (getD t (1280 + (c - 1)) 0)) 0 .text == s) → y ≡ true
+  pub found-text : 0 < c → (y : Bool) → y ≡ (token (line L (getD t (257 + 2 * (c - 1)) 0)) 0 .text == s) → y ≡ true
       → c ≡ place-of (take count (defined-families L)) (family-of s r)
   found-text p y e f =
-      let l = line L (getD t (1280 + (c - 1)) 0) in
+      let l = line L (getD t (257 + 2 * (c - 1)) 0) in
       let w = defines-first l (getD (defined-families L) (c - 1) []) (T .first (c - 1) (omega (arith, last-few))) in
       let same : token l 0 .text ≡ s = ==-true (token l 0 .text) s (sym e ∙ f) in
       let is : family-of s r ≡ some (w .0) = answer ∙ ap family (sym same) ∙ family-some (token l 0) (w .0) (w .1) in

@@ -1,58 +1,29 @@
 -- Rules for the needs of the functions over a family's hash.
---   product-small, mixed-is             `mixed`
---   hashed m h s                        the hash h, gone on with the bytes s
---   hash-start, hash-next, hash-end     the loop of `hash`
 --   row-hash                            the rows of the table of names, each computed
---   hash-row, hash-behind, hash-part    `hash_of`
+--   hash-row, hash-behind, hash-part, hash-whole    `hash_of`
 --   some-row, some-numbered, some-var, some-nothing    `is_some`
 --   first-token                         `is_family`
 --   text-same                           `has_text`
 --   family-hash                         `family_hash`
 -- Assumes nothing.
-use Prim.Native.Nat.{ℕ, zero, suc, _+_, _*_, _/_, _%_, _<_, _≤_}
+use Prim.Native.Nat.{ℕ, zero, suc, _+_, _*_, _%_, _<_, _≤_}
 use mathlib.Core.Path.{_≡_, refl, ap, _∙_}
 use mathlib.Core.Bool.{Bool, true, false, cond}
 use mathlib.Core.List.{List, [], _∷_}
 use mathlib.Core.Option.{Option, none, some}
 use native.Mathlib.Omega.{arith}
-use native.Mathlib.Nat.{mul-le-mul}
 use lib.Dec.{ltb}
 use borrow.Author.Tests.{lt-ltb, le-ltb}
-use lib.ListN.{length, getD, drop}
-use Rattle.definitions.specs.Lists.{fold, part, is-some, _==_}
+use lib.ListN.{getD}
+use Rattle.definitions.specs.Lists.{part, is-some, _==_}
 use Rattle.definitions.specs.Model.{Line, token, line}
 use Rattle.definitions.specs.Family.{Family, legacy, family}
-use Rattle.text.proofs.Parts.{drop-step, drop-end}
 use Rattle.family.specs.declared.Register.{Register}
 use Rattle.family.specs.declared.Register.the-variants.{Legacy, Numbered, Var, Nothing}
 use Rattle.legacy.specs.Table.{row-name}
+use Rattle.names.specs.Hash as names
 use Rattle.family.specs.Register.{family-of, names-family}
-use Rattle.families.specs.Families.{mixed, hash, hash-of, multiplier}
-
-pub product-small : (m h : ℕ) → m < 65536 → h < 4294967296 → h * m < 281474976710656
-product-small m h a b =
-    let q : h * m ≤ 4294967295 * 65535 = mul-le-mul {n₂ = 4294967295} {m₂ = 65535} (omega arith) (omega arith) in
-    omega arith
-
-pub mixed-is : (m h b u v : ℕ) → u ≡ m → v ≡ b → (h * u + v) % 2147483648 + (h * u + v) / 2147483648 ≡ mixed m h b
-unfolding mixed
-mixed-is m h b u v is-m is-b = rw (is-m, is-b)
-
-unfoldable pub hashed : ℕ → ℕ → List ℕ → ℕ
-hashed m h s = fold (mixed m) h s % 247
-
-pub hash-start : (m : ℕ) (s : List ℕ) → hashed m 0 (drop 0 s) ≡ hash m s
-unfolding hashed hash
-hash-start m s = refl
-
-module _ (m : ℕ) (s : List ℕ) (i h : ℕ) (inv : hashed m h (drop i s) ≡ hash m s) where
-  pub hash-next : (v : ℕ) → i < length s → v ≡ mixed m h (getD s i 0) → hashed m v (drop (i + 1) s) ≡ hash m s
-  unfolding hashed fold
-  hash-next v l e = rw e (rw (drop-step 0 s i l) at inv)
-
-  pub hash-end : length s ≤ i → h % 247 ≡ hash m s
-  unfolding hashed fold
-  hash-end l = rw (drop-end s i l) at inv
+use Rattle.families.specs.Families.{hash, hash-of, multiplier}
 
 -- the second and the third byte of the names of the rows
 abbrev seconds : List ℕ
@@ -73,19 +44,21 @@ row-bytes (suc (suc (suc (suc (suc (suc zero)))))) h = refl
 row-bytes (suc (suc (suc (suc (suc (suc (suc zero))))))) h = refl
 row-bytes (suc (suc (suc (suc (suc (suc (suc (suc i)))))))) h = absurd (omega arith)
 
-pub row-hash : (m i u v w : ℕ) → u ≡ mixed m 0 114 → v ≡ mixed m u (getD seconds i 0) → w ≡ mixed m v (getD thirds i 0) → i < 8 → w % 247 ≡ hash m (row-name i)
-unfolding hash fold
-row-hash m i u v w a b c h = rw (row-bytes i h, c, b, a)
+pub row-hash : (m i v : ℕ) → v ≡ names.hash m (114 ∷ getD seconds i 0 ∷ getD thirds i 0 ∷ []) → i < 8 → v % 247 ≡ hash m (row-name i)
+unfolding hash
+row-hash m i v e h = rw (row-bytes i h, e)
 
 module _ (m : ℕ) (t s : List ℕ) (r : Register) (is-m : m ≡ multiplier t) where
   pub hash-row : (i w v : ℕ) → r ≡ Legacy i w → i < 8 → v ≡ hash m (row-name i) → v ≡ hash-of (multiplier t) (family-of s r)
   hash-row i w v e h q = rw (← is-m, e, lt-ltb i 8 h) q
 
-  pub hash-part : (n w v : ℕ) (p : List ℕ) → r ≡ Numbered n w → p ≡ part 0 n s → v ≡ hash m p → v ≡ hash-of (multiplier t) (family-of s r)
-  hash-part n w v p e q f = rw (← is-m, e) (rw q at f)
+  pub hash-part : (n w v : ℕ) (p : List ℕ) → r ≡ Numbered n w → p ≡ part 0 n s → v ≡ names.hash m p → v % 247 ≡ hash-of (multiplier t) (family-of s r)
+  unfolding hash
+  hash-part n w v p e q f = rw (← is-m, e, f, q)
 
-  pub hash-whole : (v : ℕ) → r ≡ Var → v ≡ hash m s → v ≡ hash-of (multiplier t) (family-of s r)
-  hash-whole v e f = rw (← is-m, e) f
+  pub hash-whole : (v : ℕ) → r ≡ Var → v ≡ names.hash m s → v % 247 ≡ hash-of (multiplier t) (family-of s r)
+  unfolding hash
+  hash-whole v e f = rw (← is-m, e, f)
 
 module _ (s : List ℕ) (r : Register) where
   pub hash-behind : (m i w : ℕ) → r ≡ Legacy i w → 8 ≤ i → 0 ≡ hash-of m (family-of s r)
@@ -107,16 +80,16 @@ module _ (s : List ℕ) (r : Register) where
   pub some-nothing : r ≡ Nothing → false ≡ is-some (family-of s r)
   some-nothing e = rw e
 
-pub first-token : (L : List Line) (o : Option Family) (y : Bool) (t : List ℕ) (k i : ℕ) → i ≡ getD t (1280 + k) 0 → y ≡ names-family o (token (line L i) 0)
-    → y ≡ names-family o (token (line L (getD t (1280 + k) 0)) 0)
+pub first-token : (L : List Line) (o : Option Family) (y : Bool) (t : List ℕ) (k i : ℕ) → i ≡ getD t (257 + 2 * k) 0 → y ≡ names-family o (token (line L i) 0)
+    → y ≡ names-family o (token (line L (getD t (257 + 2 * k) 0)) 0)
 first-token L o y t k i e q = rw (← e) q
 
-pub text-same : (L : List Line) (t s x : List ℕ) (k i : ℕ) (y : Bool) → i ≡ getD t (1280 + k) 0 → x ≡ token (line L i) 0 .text → y ≡ (x == s)
-    → y ≡ (token (line L (getD t (1280 + k) 0)) 0 .text == s)
+pub text-same : (L : List Line) (t s x : List ℕ) (k i : ℕ) (y : Bool) → i ≡ getD t (257 + 2 * k) 0 → x ≡ token (line L i) 0 .text → y ≡ (x == s)
+    → y ≡ (token (line L (getD t (257 + 2 * k) 0)) 0 .text == s)
 text-same L t s x k i y e q f = rw (← e, ← q) f
 
-pub family-hash : (L : List Line) (t s : List ℕ) (r : Register) (k i m h : ℕ) → i ≡ getD t (1280 + k) 0 → s ≡ token (line L i) 0 .text → family-of s r ≡ family s
-    → h ≡ hash-of m (family-of s r) → h ≡ hash-of m (family (token (line L (getD t (1280 + k) 0)) 0 .text))
+pub family-hash : (L : List Line) (t s : List ℕ) (r : Register) (k i m h : ℕ) → i ≡ getD t (257 + 2 * k) 0 → s ≡ token (line L i) 0 .text → family-of s r ≡ family s
+    → h ≡ hash-of m (family-of s r) → h ≡ hash-of m (family (token (line L (getD t (257 + 2 * k) 0)) 0 .text))
 family-hash L t s r k i m h e q f g = rw (← e, ← q) (g ∙ ap (hash-of m) f)
 
-pub ruleset hash-rules = (row-hash, hash-start, hash-next, hash-end, hash-row, hash-behind, hash-part, hash-whole, some-row, some-numbered, some-var, some-nothing, first-token, family-hash)
+pub ruleset hash-rules = (row-hash, hash-row, hash-behind, hash-part, hash-whole, some-row, some-numbered, some-var, some-nothing, first-token, family-hash)

@@ -13,7 +13,7 @@
 --   placed-none, placed-by, placed-other, placed-known, placed-new, placed-table, placed-again    rules for `place_register` and `place_line`
 --   ready, defs-inside, place-fits, numbered-next, numbered-start, numbered-end     rules for `number_line` and `families`
 -- Assumes nothing.
-use Prim.Native.Nat.{ℕ, zero, suc, _+_, _-_, _<_, _≤_, max}
+use Prim.Native.Nat.{ℕ, zero, suc, _+_, _*_, _-_, _<_, _≤_, max}
 use mathlib.Core.Path.{_≡_, refl, sym, ap, _∙_}
 use mathlib.Core.Logic.{_⊎_, inl, inr}
 use mathlib.Core.Bool.{Bool, true, false, cond, _||_, not, and-true}
@@ -220,14 +220,14 @@ defined-known L i p h f e z =
 -- One family more
 
 -- one family more in its chain
-module _ (L : List Line) (count k : ℕ) (t : List ℕ) (T : Linked L count k t) (h : ℕ) (room : 2304 ≤ length t) (few : count ≤ 1024) (inside : k < count)
+module _ (L : List Line) (count k : ℕ) (t : List ℕ) (T : Linked L count k t) (h : ℕ) (room : 256 + 2 * count ≤ length t) (inside : k < count)
     (low : h < 247) (is-hash : h ≡ hash (multiplier t) (getD (defined-families L) k [])) where
   abbrev one : List ℕ
-  one = set t (256 + k) (getD t h 0)
+  one = set t (256 + 2 * k) (getD t h 0)
 
-  other : (j : ℕ) → (j ≡ 256 + k → ⊥) → (j ≡ h → ⊥) → getD (linked t k h) j 0 ≡ getD t j 0
+  other : (j : ℕ) → (j ≡ 256 + 2 * k → ⊥) → (j ≡ h → ⊥) → getD (linked t k h) j 0 ≡ getD t j 0
   unfolding linked
-  other j a b = getD-set-other one h j (k + 1) 0 b ∙ getD-set-other t (256 + k) j (getD t h 0) 0 a
+  other j a b = getD-set-other one h j (k + 1) 0 b ∙ getD-set-other t (256 + 2 * k) j (getD t h 0) 0 a
 
   same-multiplier : multiplier (linked t k h) ≡ multiplier t
   same-multiplier = other 247 (λ q. omega arith) (λ q. omega arith)
@@ -236,9 +236,9 @@ module _ (L : List Line) (count k : ℕ) (t : List ℕ) (T : Linked L count k t)
   unfolding linked
   head-at = getD-set-same one h (k + 1) 0 (rw length-set (omega arith)) ∙ add-one k
 
-  next-at : getD (linked t k h) (256 + k) 0 ≡ getD t h 0
+  next-at : getD (linked t k h) (256 + 2 * k) 0 ≡ getD t h 0
   unfolding linked
-  next-at = getD-set-other one h (256 + k) (k + 1) 0 (λ q. omega arith) ∙ getD-set-same t (256 + k) (getD t h 0) 0 (omega arith)
+  next-at = getD-set-other one h (256 + 2 * k) (k + 1) 0 (λ q. omega arith) ∙ getD-set-same t (256 + 2 * k) (getD t h 0) 0 (omega arith)
 
   latest-new : (g : ℕ) (b : Bool) → eqb h g ≡ b
       → latest (multiplier t) (defined-families L) g (suc k) ≡ cond b (suc k) (latest (multiplier t) (defined-families L) g k)
@@ -249,7 +249,7 @@ module _ (L : List Line) (count k : ℕ) (t : List ℕ) (T : Linked L count k t)
   head g l true e = ap (λ (j : ℕ). getD (linked t k h) j 0) (sym (eqb-true h g e)) ∙ head-at ∙ sym (latest-new g true e)
   head g l false e = other g (λ q. omega arith) (λ q. clash (eq-eqb h g (sym q)) e) ∙ T .heads g l ∙ sym (latest-new g false e)
 
-  own : (j : ℕ) → j ≡ k → getD (linked t k h) (256 + j) 0 ≡ latest (multiplier t) (defined-families L) (hash (multiplier t) (getD (defined-families L) j [])) j
+  own : (j : ℕ) → j ≡ k → getD (linked t k h) (256 + 2 * j) 0 ≡ latest (multiplier t) (defined-families L) (hash (multiplier t) (getD (defined-families L) j [])) j
   own j e = rw e (next-at ∙ T .heads h low ∙ ap (λ (g : ℕ). latest (multiplier t) (defined-families L) g k) is-hash)
 
   pub linked-more : Linked L count (suc k) (linked t k h)
@@ -257,31 +257,31 @@ module _ (L : List Line) (count k : ℕ) (t : List ℕ) (T : Linked L count k t)
     size = T .size;
     heads = λ g l. rw same-multiplier (head g l (eqb h g) refl);
     rows = λ i j l e. T .rows i j l (sym (other (248 + i) (λ q. omega arith) (λ q. omega arith)) ∙ e);
-    next = λ j l. rw same-multiplier (elim (eq-or-lt l) [ inl e ↦ own j e | inr m ↦ other (256 + j) (λ e. omega arith) (λ e. omega arith) ∙ T .next j m ]);
-    first = λ j l. rw (other (1280 + j) (λ e. omega arith) (λ e. omega arith)) (T .first j l);
+    next = λ j l. rw same-multiplier (elim (eq-or-lt l) [ inl e ↦ own j e | inr m ↦ other (256 + 2 * j) (λ e. omega arith) (λ e. omega arith) ∙ T .next j m ]);
+    first = λ j l. rw (other (257 + 2 * j) (λ e. omega arith) (λ e. omega arith)) (T .first j l);
   }
 
 -- the line of one family more is written
-module _ (L : List Line) (count : ℕ) (t : List ℕ) (T : Table L count t) (f : List ℕ) (i : ℕ) (room : 2304 ≤ length t) (small : count < 1024)
+module _ (L : List Line) (count : ℕ) (t : List ℕ) (T : Table L count t) (f : List ℕ) (i : ℕ) (room : 256 + 2 * suc count ≤ length t)
     (at-count : getD (defined-families L) count [] ≡ f) (inside : count < length (defined-families L)) (defines-f : defines (line L i) ≡ some f) where
-  beside : (j : ℕ) → (j ≡ 1280 + count → ⊥) → getD (set t (1280 + count) i) j 0 ≡ getD t j 0
-  beside j n = getD-set-other t (1280 + count) j i 0 n
+  beside : (j : ℕ) → (j ≡ 257 + 2 * count → ⊥) → getD (set t (257 + 2 * count) i) j 0 ≡ getD t j 0
+  beside j n = getD-set-other t (257 + 2 * count) j i 0 n
 
-  first-at : (j : ℕ) → j ≡ count → defines (line L (getD (set t (1280 + count) i) (1280 + j) 0)) ≡ some (getD (defined-families L) j [])
-  first-at j e = rw (e, getD-set-same t (1280 + count) i 0 (omega arith)) (defines-f ∙ ap some (sym at-count))
+  first-at : (j : ℕ) → j ≡ count → defines (line L (getD (set t (257 + 2 * count) i) (257 + 2 * j) 0)) ≡ some (getD (defined-families L) j [])
+  first-at j e = rw (e, getD-set-same t (257 + 2 * count) i 0 (omega arith)) (defines-f ∙ ap some (sym at-count))
 
-  line-set : Linked L (suc count) count (set t (1280 + count) i)
+  line-set : Linked L (suc count) count (set t (257 + 2 * count) i)
   line-set = record {
     size = inside;
     heads = λ g l. rw (beside 247 (λ q. omega arith), beside g (λ q. omega arith)) (T .heads g l);
     rows = λ j k l e. let u = T .rows j k l (sym (beside (248 + j) (λ q. omega arith)) ∙ e) in (omega (arith, u .0), u .1);
-    next = λ k l. rw (beside 247 (λ q. omega arith), beside (256 + k) (λ q. omega arith)) (T .next k l);
-    first = λ k l. elim (eq-or-lt l) [ inl e ↦ first-at k e | inr m ↦ rw (beside (1280 + k) (λ e. omega arith)) (T .first k m) ];
+    next = λ k l. rw (beside 247 (λ q. omega arith), beside (256 + 2 * k) (λ q. omega arith)) (T .next k l);
+    first = λ k l. elim (eq-or-lt l) [ inl e ↦ first-at k e | inr m ↦ rw (beside (257 + 2 * k) (λ e. omega arith)) (T .first k m) ];
   }
 
   pub table-added : (h : ℕ) → h < 247 → h ≡ hash (multiplier t) f → Table L (suc count) (added t count i h)
   unfolding added
-  table-added h low is-hash = linked-more L (suc count) count (set t (1280 + count) i) line-set h (rw length-set room) (omega arith) (omega arith) low
+  table-added h low is-hash = linked-more L (suc count) count (set t (257 + 2 * count) i) line-set h (rw length-set room) (omega arith) low
       (rw (beside 247 (λ q. omega arith), at-count) is-hash)
 
 length-added : (t : List ℕ) (count i h : ℕ) → length (added t count i h) ≡ length t
@@ -290,7 +290,7 @@ length-added t count i h = simp length-set
 
 -- The chains emptied
 
-module _ (L : List Line) (count k m : ℕ) (t : List ℕ) (T : Linked L count k t) (room : 2304 ≤ length t) where
+module _ (L : List Line) (count k m : ℕ) (t : List ℕ) (T : Linked L count k t) where
   behind : (j : ℕ) → 248 ≤ j → getD (emptied t m) j 0 ≡ getD t j 0
   unfolding emptied
   behind j b =
@@ -311,20 +311,20 @@ module _ (L : List Line) (count k m : ℕ) (t : List ℕ) (T : Linked L count k 
     heads = λ g l. front-empty g l;
     rows = λ i j l e. T .rows i j l (sym (behind (248 + i) (omega arith)) ∙ e);
     next = λ j l. absurd (omega arith);
-    first = λ j l. rw (behind (1280 + j) (omega arith)) (T .first j l);
+    first = λ j l. rw (behind (257 + 2 * j) (omega arith)) (T .first j l);
   }
 
 -- `rehash`
 
-module _ (L : List Line) (count : ℕ) (few : count ≤ 1024) where
-  pub rehash-start : (m : ℕ) (t₀ t : List ℕ) → Table L count t₀ → 2304 ≤ length t₀ → t ≡ emptied t₀ m → Linked L count 0 t
-  rehash-start m t₀ t T room e = rw e (linked-none L count count m t₀ T room)
+module _ (L : List Line) (count : ℕ) where
+  pub rehash-start : (m : ℕ) (t₀ t : List ℕ) → Table L count t₀ → t ≡ emptied t₀ m → Linked L count 0 t
+  rehash-start m t₀ t T e = rw e (linked-none L count count m t₀ T)
 
   module _ (k : ℕ) (t : List ℕ) (T : Linked L count k t) where
-    pub rehash-next : (h : ℕ) (t′ : List ℕ) → 2304 ≤ length t → k < count → h ≡ hash-of (multiplier t) (family (token (line L (getD t (1280 + k) 0)) 0 .text)) → h < 247
+    pub rehash-next : (h : ℕ) (t′ : List ℕ) → 256 + 2 * count ≤ length t → k < count → h ≡ hash-of (multiplier t) (family (token (line L (getD t (257 + 2 * k) 0)) 0 .text)) → h < 247
         → t′ ≡ linked t k h → Linked L count (k + 1) t′
     rehash-next h t′ room inside is-hash low e =
-        rw (add-one, e) (linked-more L count k t T h room few inside low (family-at L count k t T k (multiplier t) h inside is-hash))
+        rw (add-one, e) (linked-more L count k t T h room inside low (family-at L count k t T k (multiplier t) h inside is-hash))
 
     pub rehash-end : k ≤ count → count ≤ k → Table L count t
     rehash-end a b = let z : k ≡ count = omega arith in rw z at T
@@ -332,7 +332,7 @@ module _ (L : List Line) (count : ℕ) (few : count ≤ 1024) where
 -- The row of a legacy name
 
 -- the word of one row is written
-module _ (L : List Line) (count c : ℕ) (t : List ℕ) (T : Table L count t) (i : ℕ) (low : i < 8) (room : 2304 ≤ length t) (few : count ≤ 1024)
+module _ (L : List Line) (count c : ℕ) (t : List ℕ) (T : Table L count t) (i : ℕ) (low : i < 8) (room : 256 ≤ length t)
     (k : ℕ) (is-place : c ≡ suc k) (inside : k < count) (named : getD (defined-families L) k [] ≡ row-name i) where
   aside : (j : ℕ) → (j ≡ 248 + i → ⊥) → getD (set t (248 + i) c) j 0 ≡ getD t j 0
   aside j n = getD-set-other t (248 + i) j c 0 n
@@ -350,25 +350,25 @@ module _ (L : List Line) (count c : ℕ) (t : List ℕ) (T : Table L count t) (i
     size = T .size;
     heads = λ h l. rw (aside 247 (λ n. omega arith), aside h (λ n. omega arith)) (T .heads h l);
     rows = λ j m l q. rows-set j m l (eqb j i) refl q;
-    next = λ m l. rw (aside 247 (λ n. omega arith), aside (256 + m) (λ n. omega arith)) (T .next m l);
-    first = λ m l. rw (aside (1280 + m) (λ n. omega arith)) (T .first m l);
+    next = λ m l. rw (aside 247 (λ n. omega arith), aside (256 + 2 * m) (λ n. omega arith)) (T .next m l);
+    first = λ m l. rw (aside (257 + 2 * m) (λ n. omega arith)) (T .first m l);
   }
 
 -- of the family x of the answer r, which is the last
 table-kept : (L : List Line) (count : ℕ) (t s : List ℕ) (r : Register) (x : Family) → Table L (suc count) t → family-of s r ≡ some x
-    → getD (defined-families L) count [] ≡ x .name → 2304 ≤ length t → count < 1024 → Table L (suc count) (kept t r (count + 1))
+    → getD (defined-families L) count [] ≡ x .name → 256 ≤ length t → Table L (suc count) (kept t r (count + 1))
 unfolding kept
-table-kept L count t s (Legacy i w) x T e q room few = go (ltb i 8) refl e
+table-kept L count t s (Legacy i w) x T e q room = go (ltb i 8) refl e
   where
     go : (b : Bool) → ltb i 8 ≡ b → cond b (some (record { name = row-name i; width = w })) none ≡ some x
         → Table L (suc count) (cond (ltb (cond b i 9) 8) (set t (248 + cond b i 9) (count + 1)) t)
     go true f g =
         let n : row-name i ≡ x .name = cc in
-        rw f (row-set L (suc count) (count + 1) t T i (ltb-true i 8 f) room (omega arith) count (add-one count) (omega arith) (q ∙ sym n))
+        rw f (row-set L (suc count) (count + 1) t T i (ltb-true i 8 f) room count (add-one count) (omega arith) (q ∙ sym n))
     go false f g = T
-table-kept L count t s (Digits n w) x T e q room few = T
-table-kept L count t s Var x T e q room few = T
-table-kept L count t s Neither x T e q room few = T
+table-kept L count t s (Digits n w) x T e q room = T
+table-kept L count t s Var x T e q room = T
+table-kept L count t s Neither x T e q room = T
 
 -- `place_register` and `place_line`
 
@@ -447,8 +447,8 @@ module _ (L : List Line) (i count : ℕ) (t : List ℕ) (R : Ready L i count t) 
                   place = rw n (add-one count ∙ sym (place-here (defined-families L) (x .name) count (unique-families L) inside at-count));
                   families = v ∙ sym size;
                   table = rw (v, A .table) (table-kept L count (added t count i (A .hash)) (token (line L i) 0 .text) r x
-                      (table-added L count t (R .table) (x .name) i (R .room) (omega (arith, R .small, R .inside, R .few)) at-count inside n (A .hash) (A .hash-low) vh) k at-count
-                      (rw (length-added t count i (A .hash)) (R .room)) (omega (arith, R .small, R .inside, R .few)));
+                      (table-added L count t (R .table) (x .name) i (omega (arith, R .room, R .small, R .inside)) at-count inside n (A .hash) (A .hash-low) vh) k at-count
+                      (rw (length-added t count i (A .hash)) (omega (arith, R .room))));
                   small = omega (arith, R .small);
                 })
           ]
@@ -508,14 +508,14 @@ module _ (l t x : List ℕ) (i count : ℕ) (table ds : List ℕ) (N : Numbered 
   pub numbered-end : length l ≤ i → Numbered (listing l t x) (length l) count table ds
   numbered-end h = let z : i ≡ length l = omega (arith, N .upto, length-listing l t x) in rw z at N
 
-pub numbered-start : (l t x table₀ zs ds : List ℕ) (m : ℕ) → 0 < length l → length l ≤ 1024 → 2304 ≤ length table₀ → length l ≤ length ds → zs ≡ zeroed 0 (take 256 table₀)
+pub numbered-start : (l t x table₀ zs ds : List ℕ) (m : ℕ) → 0 < length l → length l ≤ 1024 → 256 + 2 * length l ≤ length table₀ → length l ≤ length ds → zs ≡ zeroed 0 (take 256 table₀)
     → Numbered (listing l t x) 1 0 (set (zs ++ drop 256 table₀) 247 m) (set ds 0 0)
 unfolding families-before range concat distinct latest defined-at
 numbered-start l t x table₀ zs ds m a b c d z = record {
   above = omega arith;
   upto = omega (arith, length-listing l t x);
   few = omega (arith, length-listing l t x);
-  room = rw (length-set, length-append zs (drop 256 table₀)) (omega (arith, zeros-length, length-drop 256 table₀));
+  room = rw (length-set, length-append zs (drop 256 table₀)) (omega (arith, zeros-length, length-drop 256 table₀, length-listing l t x));
   width = rw length-set (omega (arith, length-listing l t x));
   known = refl;
   small = omega arith;
@@ -537,7 +537,7 @@ numbered-start l t x table₀ zs ds m a b c d z = record {
 
 -- `empty`
 
-pub emptied-by : (t z : List ℕ) (m : ℕ) → z ≡ zeroed 0 (take 247 t) → 2304 ≤ length t → set (z ++ drop 247 t) 247 m ≡ emptied t m
+pub emptied-by : (t z : List ℕ) (m : ℕ) → z ≡ zeroed 0 (take 247 t) → 248 ≤ length t → set (z ++ drop 247 t) 247 m ≡ emptied t m
 unfolding emptied
 emptied-by t z m e room =
     let n : length (take 247 t) - 0 ≡ 247 = omega (arith, length-take-le 247 t (omega arith)) in
@@ -546,11 +546,11 @@ emptied-by t z m e room =
 -- `add` and `search_line`
 
 module _ (t : List ℕ) (count h : ℕ) where
-  pub linked-by : (a c : ℕ) → a ≡ getD t h 0 → c ≡ count + 1 → set (set t (256 + count) a) h c ≡ linked t count h
+  pub linked-by : (a c : ℕ) → a ≡ getD t h 0 → c ≡ count + 1 → set (set t (256 + 2 * count) a) h c ≡ linked t count h
   unfolding linked
   linked-by a c p r = rw (p, r)
 
-  pub added-by : (i b : ℕ) (t′ : List ℕ) → b ≡ i → t′ ≡ linked (set t (1280 + count) b) count h → t′ ≡ added t count i h
+  pub added-by : (i b : ℕ) (t′ : List ℕ) → b ≡ i → t′ ≡ linked (set t (257 + 2 * count) b) count h → t′ ≡ added t count i h
   unfolding added
   added-by i b t′ q e = rw q at e
 

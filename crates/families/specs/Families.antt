@@ -1,5 +1,4 @@
 -- The families that have a definition, numbered in the order of their first definition, and the table by which one is found.
---   mixed m h b         h * m + b modulo 2^31 - 1, not reduced in full: the bits from 31 on are added to those below
 --   hash m s            a number below 247, by the multiplier m and the bytes of a name
 --   hash-of m o         the same of a family
 --   latest m fs h k     1 + the last place below k of a family whose hash is h, 0 where there is none
@@ -9,8 +8,8 @@
 --   multiplier t        the multiplier of the table t: its word 247
 --   Linked L count k t  the table t has the first `count` families of the listing L, the first k of them in chains: its words 0 .. 246 have
 --                       `latest` for each hash; the words 248 .. 255, for each row of the legacy names, 0 or 1 + the
---                       place of its family; the words from 256 on, for each of the k, `latest` before it of its own hash; the words from 1280 on,
---                       for each family, the line of its first definition
+--                       place of its family; the words from 256 on, in pairs, for each of the k `latest` before it of its own hash, and for each family
+--                       the line of its first definition
 --   Table L count t     the same, all in chains: the table t finds the first `count` families of the listing L
 --   row-word t r        what the table t has for the row of the answer r, 0 where that is no row
 --   kept t r c          the table t with c for that row
@@ -27,26 +26,24 @@
 --   Ready L i count t   line i is next, `count` families being in the table t
 --   Placed L i count c t    line i is done: c is the place of the family that it defines
 -- Assumes nothing.
-use Prim.Native.Nat.{ℕ, zero, suc, _+_, _*_, _-_, _/_, _%_, _<_, _≤_, max}
+use Prim.Native.Nat.{ℕ, zero, suc, _+_, _*_, _-_, _%_, _<_, _≤_, max}
 use mathlib.Core.Path.{_≡_}
 use mathlib.Core.List.{List, [], _++_, map}
 use mathlib.Core.Option.{Option, none, some, Option·map}
 use lib.Dec.{eqb, ltb}
 use lib.ListN.{length, getD, set, drop, replicate}
-use Rattle.definitions.specs.Lists.{if_then_else_, fold, position, concat, range, to-list, _==_}
+use Rattle.definitions.specs.Lists.{if_then_else_, position, concat, range, to-list, _==_}
 use Rattle.definitions.specs.Model.{Line, token, line}
 use Rattle.definitions.specs.Family.{Family}
 use Rattle.definitions.specs.Statements.{defines}
 use Rattle.family.specs.declared.Register.{Register}
 use Rattle.legacy.specs.Table.{row-name}
+use Rattle.names.specs.Hash as names
 use Rattle.family.specs.Register.{family-of, row}
 use Rattle.definitions.specs.Recover.{distinct, defined-families}
 
-unfoldable pub mixed : ℕ → ℕ → ℕ → ℕ
-mixed m h b = (h * m + b) % 2147483648 + (h * m + b) / 2147483648
-
 unfoldable pub hash : ℕ → List ℕ → ℕ
-hash m s = fold (mixed m) 0 s % 247
+hash m s = names.hash m s % 247
 
 abbrev pub hash-of : ℕ → Option Family → ℕ
 hash-of m none = 0
@@ -70,8 +67,8 @@ pub record Linked (L : List Line) (count k : ℕ) (t : List ℕ) : Type 0 where
   pub size : count ≤ length (defined-families L)
   pub heads : (h : ℕ) → h < 247 → getD t h 0 ≡ latest (multiplier t) (defined-families L) h k
   pub rows : (i j : ℕ) → i < 8 → getD t (248 + i) 0 ≡ suc j → (j < count) × (getD (defined-families L) j [] ≡ row-name i)
-  pub next : (j : ℕ) → j < k → getD t (256 + j) 0 ≡ latest (multiplier t) (defined-families L) (hash (multiplier t) (getD (defined-families L) j [])) j
-  pub first : (j : ℕ) → j < count → defines (line L (getD t (1280 + j) 0)) ≡ some (getD (defined-families L) j [])
+  pub next : (j : ℕ) → j < k → getD t (256 + 2 * j) 0 ≡ latest (multiplier t) (defined-families L) (hash (multiplier t) (getD (defined-families L) j [])) j
+  pub first : (j : ℕ) → j < count → defines (line L (getD t (257 + 2 * j) 0)) ≡ some (getD (defined-families L) j [])
 
 abbrev pub Table : List Line → ℕ → List ℕ → Type 0
 Table L count t = Linked L count count t
@@ -95,11 +92,11 @@ kept t r c = if ltb (row r) 8 then set t (248 + row r) c else t
 
 -- the table t with family k, of hash h, in front of its chain
 unfoldable pub linked : List ℕ → ℕ → ℕ → List ℕ
-linked t k h = set (set t (256 + k) (getD t h 0)) h (k + 1)
+linked t k h = set (set t (256 + 2 * k) (getD t h 0)) h (k + 1)
 
 -- the table t with family `count`, first defined on line i, of hash h
 unfoldable pub added : List ℕ → ℕ → ℕ → ℕ → List ℕ
-added t count i h = linked (set t (1280 + count) i) count h
+added t count i h = linked (set t (257 + 2 * count) i) count h
 
 -- the table t with no chains, and the multiplier m
 unfoldable pub emptied : List ℕ → ℕ → List ℕ
@@ -121,7 +118,7 @@ pub record Ready (L : List Line) (i count : ℕ) (t : List ℕ) : Type 0 where
   pub above : 0 < i
   pub inside : i < length L
   pub few : length L ≤ 1024
-  pub room : 2304 ≤ length t
+  pub room : 256 + 2 * length L ≤ length t
   pub known : count ≡ length (families-before L i)
   pub small : count < i
   pub table : Table L count t
@@ -137,7 +134,7 @@ pub record Numbered (L : List Line) (i count : ℕ) (t ds : List ℕ) : Type 0 w
   pub above : 0 < i
   pub upto : i ≤ length L
   pub few : length L ≤ 1024
-  pub room : 2304 ≤ length t
+  pub room : 256 + 2 * length L ≤ length t
   pub width : length L ≤ length ds
   pub known : count ≡ length (families-before L i)
   pub small : count < i

@@ -2,22 +2,20 @@
 // once it is there; any other is found through the chain of those with its hash, 247 chains for all: one look-up compares the families of one
 // chain. All lines together take one look-up a line.
 //
-// The hash is a polynomial in a multiplier, modulo the prime 2^31 - 1 and then modulo 247, so names that share a hash by one multiplier hardly
-// share it by the next. Where a family joins a chain of 16 or more, all chains are made anew by the next of 256 multipliers, which hashes each
-// family once more; after the last the chains are left as they are. That the chains are short is measured, not proved: by the first multiplier
-// r0 to r99 and the legacy names have a chain each, and no chain of r0 to r1014 has more than 6; 1,023 names chosen to fill a chain of each
-// multiplier in turn come to the 109th, and in a simulation names that fill one of each two come to the 204th.
+// The hash is that of crate names, modulo 247. Where a family joins a chain of 16 or more, all chains are made anew by a multiplier drawn from
+// the text: that hashes each family once more and passes over the text once. That the chains are short is measured, not proved: by the first
+// multiplier r0 to r99 and the legacy names have a chain each, and no chain of r0 to r1014 has more than 7.
 //
 // The table, one lent slice:
 //   words [0, 247)         1 + the last family of each hash, 0 for none
 //   word 247               the multiplier
 //   words [248, 256)       for each row of the legacy names 1 + its family, 0 for none
-//   words [256, 1280)      for each family 1 + the one before it of the same hash, 0 for none
-//   words [1280, 2304)     for each family the line of its first definition
+//   word 256 + 2 k         for family k 1 + the one before it of the same hash, 0 for none
+//   word 257 + 2 k         the line of its first definition
 // Contracts cite `defined-families` of Rattle.definitions.specs.Recover and `defines` of Rattle.definitions.specs.Statements.
 ghost use mathlib.Core.Path.{_≡_};
 ghost use mathlib.Core.List.{List};
-ghost use Prim.Native.Nat.{ℕ, _+_, _<_, _≤_};
+ghost use Prim.Native.Nat.{ℕ, _+_, _*_, _<_, _≤_};
 ghost use lib.ListN.{length, take, getD};
 ghost use Rattle.definitions.specs.Lists.{is-some, _==_};
 ghost use Rattle.definitions.specs.Family.{family};
@@ -27,7 +25,7 @@ ghost use Rattle.definitions.specs.Columns.{listing};
 ghost use Rattle.definitions.specs.Recover.{defined-families};
 ghost use Rattle.legacy.specs.Table.{row-name};
 ghost use Rattle.family.specs.Register.{family-of, names-family};
-ghost use Rattle.families.specs.Families.{mixed, hash, hash-of, place-of, multiplier, row-word, kept, linked, added, emptied, of-register, Table, Ready, Added, Placed, Numbered};
+ghost use Rattle.families.specs.Families.{hash, hash-of, place-of, multiplier, row-word, kept, linked, added, emptied, of-register, Table, Ready, Added, Placed, Numbered};
 use assignment::definition::Defined;
 use family::Register;
 use model::columns::text_at;
@@ -39,10 +37,7 @@ use words::word;
 use words::zero;
 
 // The first multiplier.
-const FIRST: u16 = 18021;
-
-// The last multiplier, 255 times the next after the first.
-const LAST: u16 = 16032;
+const FIRST: u16 = 26211;
 
 // The second byte of the name of each row; the first is `r`.
 const SECONDS: [u8; 8] = *b"abcdsdbs";
@@ -50,45 +45,12 @@ const SECONDS: [u8; 8] = *b"abcdsdbs";
 // The third byte.
 const THIRDS: [u8; 8] = *b"xxxxiipp";
 
-// The multiplier after m.
-fn next(m: u16) -> u16 {
-    narrow(wide(m) * 12 % 65521)
-}
-
-fn widen(x: u8) -> usize
-    ensures { λ r. ⌜ (r ≡ x) × (r < 256) ⌝ }
-{
-    x as usize
-}
-
-// h * m + b, modulo 2^31 - 1: the bits from 31 on are added to those below.
-fn mixed(m: u16, h: usize, b: u8) -> usize
-    requires { ⌜ h < 4294967296 ⌝ }
-    ensures { λ r. ⌜ (r ≡ mixed m h b) × (r < 4294967296) ⌝ }
-{
-    let x = h * wide(m) + widen(b);
-    x % 2147483648 + x / 2147483648
-}
-
-fn hash(m: u16, s: &[u8]) -> usize
-    ensures { λ r. ⌜ (r ≡ hash m (now (s .entry))) × (r < 247) ⌝ }
-{
-    let mut h = 0;
-    let mut i = 0;
-    while i < s.len() {
-        h = mixed(m, h, s[i]);
-        i += 1;
-    }
-    h % 247
-}
-
 // The hash of the family in row i of the table of names.
 fn row_hash(m: u16, i: usize) -> usize
     requires { ⌜ i < 8 ⌝ }
     ensures { λ r. ⌜ (r ≡ hash m (row-name i)) × (r < 247) ⌝ }
 {
-    let h = mixed(m, mixed(m, 0, b'r'), SECONDS[i]);
-    mixed(m, h, THIRDS[i]) % 247
+    names::short_hash(m, b'r', SECONDS[i], THIRDS[i]) % 247
 }
 
 // The hash, by the table's multiplier, of the family that the answer r of the text s is.
@@ -98,8 +60,8 @@ fn hash_of(table: &[u16], s: &[u8], r: Register) -> usize
     let m = word(table, 247);
     match r {
         Register::Legacy(i, _) => if i < 8 { row_hash(m, i) } else { 0 },
-        Register::Numbered(n, _) => hash(m, text::part(s, 0, n)),
-        Register::Var => hash(m, s),
+        Register::Numbered(n, _) => names::hash(m, text::part(s, 0, n)) % 247,
+        Register::Var => names::hash(m, s) % 247,
         Register::Nothing => 0,
     }
 }
@@ -127,9 +89,9 @@ fn is_family(
     r: Register,
 ) -> bool
     requires { ⌜ k < 1024 ⌝ }
-    ensures { λ y. ⌜ y ≡ names-family (family-of (now (s .entry)) r) (token (line (listing (now (lines .entry)) (now (tokens .entry)) (now (text .entry))) (getD (now (table .entry)) (1280 + k) 0)) 0) ⌝ }
+    ensures { λ y. ⌜ y ≡ names-family (family-of (now (s .entry)) r) (token (line (listing (now (lines .entry)) (now (tokens .entry)) (now (text .entry))) (getD (now (table .entry)) (257 + 2 * k) 0)) 0) ⌝ }
 {
-    pseudo_opt::registers::token_names(lines, tokens, text, number(table, 1280 + k), 0, s, r)
+    pseudo_opt::registers::token_names(lines, tokens, text, number(table, 257 + 2 * k), 0, s, r)
 }
 
 // What the table has for the row of the answer r, 0 where that is no row.
@@ -164,7 +126,7 @@ fn search_chain(
         if is_family(lines, tokens, text, table, c - 1, s, r) {
             return c;
         }
-        c = number(table, 256 + (c - 1));
+        c = number(table, 256 + 2 * (c - 1));
     }
     0
 }
@@ -172,9 +134,9 @@ fn search_chain(
 // The first definition of family k writes its register as s.
 fn has_text(lines: &[u32], tokens: &[u32], text: &[u8], table: &[u16], k: usize, s: &[u8]) -> bool
     requires { ⌜ k < 1024 ⌝ }
-    ensures { λ y. ⌜ y ≡ (token (line (listing (now (lines .entry)) (now (tokens .entry)) (now (text .entry))) (getD (now (table .entry)) (1280 + k) 0)) 0 .text == now (s .entry)) ⌝ }
+    ensures { λ y. ⌜ y ≡ (token (line (listing (now (lines .entry)) (now (tokens .entry)) (now (text .entry))) (getD (now (table .entry)) (257 + 2 * k) 0)) 0 .text == now (s .entry)) ⌝ }
 {
-    let i = number(table, 1280 + k);
+    let i = number(table, 257 + 2 * k);
     text::equal(text_at(lines, tokens, text, i, 0), s)
 }
 
@@ -208,28 +170,28 @@ pub fn search(
 
 // One family more in the chains: its number is `count`, its hash h.
 fn link(table: &mut [u16], count: usize, h: usize)
-    requires { ⌜ (count < 1024) × (h < 247) × (2304 ≤ length (now table)) ⌝ }
+    requires { ⌜ (count < 1024) × (h < 247) × (257 + 2 * count < length (now table)) ⌝ }
     ensures { λ _. ⌜ now (table .exit) ≡ linked (now (table .entry)) count h ⌝ }
 {
     let head = table[h];
-    table[256 + count] = head;
+    table[256 + 2 * count] = head;
     let last = narrow(count + 1);
     table[h] = last;
 }
 
 // One family more in the table: its first definition is on line i.
 fn add(table: &mut [u16], count: usize, i: usize, h: usize)
-    requires { ⌜ (count < 1024) × (i < 1024) × (h < 247) × (2304 ≤ length (now table)) ⌝ }
+    requires { ⌜ (count < 1024) × (i < 1024) × (h < 247) × (257 + 2 * count < length (now table)) ⌝ }
     ensures { λ _. ⌜ now (table .exit) ≡ added (now (table .entry)) count i h ⌝ }
 {
     let first = narrow(i);
-    table[1280 + count] = first;
+    table[257 + 2 * count] = first;
     link(table, count, h);
 }
 
 // The table gets c for the row of the answer r, if that is a row.
 fn keep_row(table: &mut [u16], r: Register, c: usize)
-    requires { ⌜ (c < 65536) × (2304 ≤ length (now table)) ⌝ }
+    requires { ⌜ (c < 65536) × (256 ≤ length (now table)) ⌝ }
     ensures { λ _. ⌜ now (table .exit) ≡ kept (now (table .entry)) r c ⌝ }
 {
     match r {
@@ -293,7 +255,7 @@ fn is_long(table: &[u16], c: u16) -> bool {
         if c == 0 {
             return false;
         }
-        c = word(table, 255 + wide(c));
+        c = word(table, 254 + 2 * wide(c));
         n += 1;
     }
     c != 0
@@ -301,7 +263,7 @@ fn is_long(table: &[u16], c: u16) -> bool {
 
 // Empties the chains; m is the multiplier from now on.
 fn empty(table: &mut [u16], m: u16)
-    requires { ⌜ 2304 ≤ length (now table) ⌝ }
+    requires { ⌜ 248 ≤ length (now table) ⌝ }
     ensures { λ _. ⌜ now (table .exit) ≡ emptied (now (table .entry)) m ⌝ }
 {
     zero(&mut table[..247]);
@@ -311,16 +273,16 @@ fn empty(table: &mut [u16], m: u16)
 // The hash of family k, by its first definition.
 fn family_hash(lines: &[u32], tokens: &[u32], text: &[u8], table: &[u16], k: usize) -> usize
     requires { ⌜ k < 1024 ⌝ }
-    ensures { λ h. ⌜ (let L = listing (now (lines .entry)) (now (tokens .entry)) (now (text .entry)) in let t = now (table .entry) in (h ≡ hash-of (multiplier t) (family (token (line L (getD t (1280 + k) 0)) 0 .text))) × (h < 247)) ⌝ }
+    ensures { λ h. ⌜ (let L = listing (now (lines .entry)) (now (tokens .entry)) (now (text .entry)) in let t = now (table .entry) in (h ≡ hash-of (multiplier t) (family (token (line L (getD t (257 + 2 * k) 0)) 0 .text))) × (h < 247)) ⌝ }
 {
-    let s = text_at(lines, tokens, text, number(table, 1280 + k), 0);
+    let s = text_at(lines, tokens, text, number(table, 257 + 2 * k), 0);
     let r = family::family(s);
     hash_of(table, s, r)
 }
 
 // The chains by the multiplier m.
 fn rehash(lines: &[u32], tokens: &[u32], text: &[u8], table: &mut [u16], count: usize, m: u16)
-    requires { ⌜ Table (listing (now lines) (now tokens) (now text)) count (now table) × (count ≤ 1024) × (2304 ≤ length (now table)) ⌝ }
+    requires { ⌜ Table (listing (now lines) (now tokens) (now text)) count (now table) × (count ≤ 1024) × (256 + 2 * count ≤ length (now table)) ⌝ }
     ensures { λ _. ⌜ Table (listing (now (lines .entry)) (now (tokens .entry)) (now (text .entry))) count (now (table .exit)) ⌝ }
 {
     empty(table, m);
@@ -332,16 +294,14 @@ fn rehash(lines: &[u32], tokens: &[u32], text: &[u8], table: &mut [u16], count: 
     }
 }
 
-// Where the last family is in a long chain, the table goes on with the next multiplier, if there is one.
+// Where the last family is in a long chain, the table goes on with another multiplier.
 fn shorten(lines: &[u32], tokens: &[u32], text: &[u8], table: &mut [u16], count: usize)
-    requires { ⌜ Table (listing (now lines) (now tokens) (now text)) count (now table) × (count ≤ 1024) × (2304 ≤ length (now table)) ⌝ }
+    requires { ⌜ Table (listing (now lines) (now tokens) (now text)) count (now table) × (count ≤ 1024) × (256 + 2 * count ≤ length (now table)) ⌝ }
     ensures { λ _. ⌜ Table (listing (now (lines .entry)) (now (tokens .entry)) (now (text .entry))) count (now (table .exit)) ⌝ }
 {
-    let m = word(table, 247);
-    if m != LAST {
-        if is_long(table, narrow(count)) {
-            rehash(lines, tokens, text, table, count, next(m));
-        }
+    if is_long(table, narrow(count)) {
+        let m = names::next(word(table, 247), text);
+        rehash(lines, tokens, text, table, count, m);
     }
 }
 
@@ -420,7 +380,7 @@ pub fn families(
     table: &mut [u16],
     defs: &mut [u16],
 ) -> usize
-    requires { ⌜ (0 < length (now lines)) × (length (now lines) ≤ 1024) × (2304 ≤ length (now table)) × (length (now lines) ≤ length (now defs)) ⌝ }
+    requires { ⌜ (0 < length (now lines)) × (length (now lines) ≤ 1024) × (256 + 2 * length (now lines) ≤ length (now table)) × (length (now lines) ≤ length (now defs)) ⌝ }
     ensures { λ c. ⌜ Numbered (listing (now (lines .entry)) (now (tokens .entry)) (now (text .entry))) (length (now (lines .entry))) c (now (table .exit)) (now (defs .exit)) ⌝ }
 {
     zero(&mut table[..256]);

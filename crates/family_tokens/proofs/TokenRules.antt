@@ -2,7 +2,7 @@
 --   reads-rsp, reads-other                  `family_reads`
 --   zeros-by                                `write_zeros`
 -- Assumes nothing.
-use Prim.Native.Nat.{ℕ, _+_, _-_, _<_}
+use Prim.Native.Nat.{ℕ, _+_, _*_, _-_, _<_}
 use mathlib.Core.Path.{_≡_, refl, sym, _∙_}
 use mathlib.Core.Bool.{Bool, true, false}
 use mathlib.Core.List.{List, [], _∷_}
@@ -25,7 +25,7 @@ unfolding filter
 filter-none [] = refl
 filter-none (x ∷ xs) = filter-none xs
 
-module _ (L : List Line) (count k : ℕ) (t : List ℕ) (T : Table L count t) (h : k < count) (y : Bool) (e : y ≡ is-rsp (fam-of (token (line L (getD t (1280 + k) 0)) 0))) where
+module _ (L : List Line) (count k : ℕ) (t : List ℕ) (T : Table L count t) (h : k < count) (y : Bool) (e : y ≡ is-rsp (fam-of (token (line L (getD t (257 + 2 * k) 0)) 0))) where
   pub reads-rsp : y ≡ true → (s : List ℕ) → take 0 s ≡ read-lines L (family-name L k)
   reads-rsp q s = sym (rw (family-read L count k t T h y e, q) (filter-none (range 1 (length L - 1))))
 

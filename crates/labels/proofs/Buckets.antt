@@ -1,11 +1,11 @@
 -- Labels in buckets.
---   product-fits, sum-fits, bucket-start, bucket-next, bucket-end    the loop of `bucket`
+--   bucket-is                                              `bucket`
 --   behind-none, behind-equal, behind-other                what is put behind a label
 --   empty-next                                             the loop of `empty`
 --   indexed-start, indexed-label, indexed-other            the buckets before the first line, after a label, after another line
 --   lookup-start, lookup-found, lookup-next, lookup-end    the loop of `label_line`
 -- Assumes nothing.
-use Prim.Native.Nat.{ℕ, zero, suc, _+_, _-_, _*_, _%_, _<_, _≤_}
+use Prim.Native.Nat.{ℕ, zero, suc, _+_, _-_, _%_, _<_, _≤_}
 use mathlib.Core.Path.{_≡_, refl, sym, ap, _∙_}
 use mathlib.Core.Logic.{⊎-elim}
 use mathlib.Core.Bool.{Bool, true, false, cond, _&&_}
@@ -13,51 +13,29 @@ use mathlib.Core.List.{List}
 use mathlib.Core.Option.{Option, none, some}
 use native.Mathlib.Numerals.{add-one}
 use native.Mathlib.Decide.{ℕ-discrete}
-use native.Mathlib.Nat.{mul-le-mul}
 use native.Mathlib.Omega.{arith}
-use mir.Syntax.{w16, w64}
-use mir.Val.{Fits}
-use lib.ListN.{length, getD, set, take, drop}
+use lib.ListN.{length, getD, set, take}
 use lib.Seq.{getD-set-same, getD-set-other, take-all}
-use Rattle.definitions.specs.Lists.{find, fold, last-position, _==_}
+use Rattle.definitions.specs.Lists.{find, last-position, _==_}
 use Rattle.definitions.specs.Model.{Line, line, no-line, token}
 use Rattle.definitions.specs.Statements.{is-label, label}
 use Rattle.definitions.specs.FlowGraph.{label-line}
-use Rattle.text.proofs.Parts.{drop-step, drop-end}
 use Rattle.text.proofs.Texts.{==-eq, ne-==}
 use Rattle.text.proofs.Loops.{last-found, last-next}
-use Rattle.labels.specs.Buckets.{mix, bucket, lookup, behind, Follows, Indexed}
+use Rattle.names.specs.Hash.{hash}
+use Rattle.labels.specs.Buckets.{bucket, lookup, behind, Follows, Indexed}
 use Rattle.blocks.specs.Entries.{linked}
 use Rattle.blocks.proofs.Links.{get-set, linked-set, linked-fuel}
 
 -- The bucket of a name
 
-module _ (hs : List ℕ) (k h : ℕ) (low : h < 65536) (g : (j : ℕ) → Fits w16 (getD hs j 0)) where
-  product : h * getD hs k 0 ≤ 65535 * 65535
-  product = mul-le-mul {n₂ = 65535} {m₂ = 65535} (omega arith) (omega (arith, g k))
-
-  pub product-fits : Fits w64 (h * getD hs k 0)
-  product-fits = record { fits = omega (arith, product) }
-
-  pub sum-fits : (c : ℕ) → c < 256 → Fits w64 (h * getD hs k 0 + c)
-  sum-fits c e = record { fits = omega (arith, product) }
-
-pub bucket-start : (m : ℕ) (s : List ℕ) → bucket m s ≡ fold (mix m) 0 (drop 0 s) % 255
+pub bucket-is : (m h : ℕ) (s : List ℕ) → h ≡ hash m s → h % 255 ≡ bucket m s
 unfolding bucket
-bucket-start m s = refl
+bucket-is m h s e = rw e
 
 bucket-low : (m : ℕ) (s : List ℕ) → bucket m s < 255
 unfolding bucket
 bucket-low m s = omega arith
-
-module _ (m : ℕ) (s : List ℕ) (h k : ℕ) (inv : bucket m s ≡ fold (mix m) h (drop k s) % 255) where
-  pub bucket-next : (v : ℕ) → v ≡ getD s k 0 → k < length s → bucket m s ≡ fold (mix m) ((h * m + v) % 65536) (drop (k + 1) s) % 255
-  unfolding fold
-  bucket-next v e g = inv ∙ rw (drop-step 0 s k, e)
-
-  pub bucket-end : length s ≤ k → h % 255 ≡ bucket m s
-  unfolding fold
-  bucket-end g = sym (inv ∙ rw (drop-end s k))
 
 -- The last of equal labels
 
@@ -229,4 +207,4 @@ module _ (L : List Line) (hs ns : List ℕ) where
             rw (getD-set-other hs b (bucket-in hs s) (i + 1) 0 z)
             (kept p s ∙ sym (label-at L i s h ∙ rw (u, ne-== (label (line L i)) s (λ e. z (sym (q ∙ ap (bucket-in hs) (y ∙ e)))))))
 
-pub ruleset buckets = (product-fits, sum-fits, bucket-start, bucket-next, bucket-end, behind-none, behind-equal, behind-other, lookup-found, lookup-next, lookup-end)
+pub ruleset buckets = (bucket-is, behind-none, behind-equal, behind-other, lookup-found, lookup-next, lookup-end)

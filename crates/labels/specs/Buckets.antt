@@ -1,31 +1,29 @@
 -- The labels of a listing as the code keeps them, in 255 buckets by their names: of a bucket the entry of its last label, of a label the entry
--- of the one before it in its bucket. Behind the buckets stands the multiplier of the hash, which the code chooses so that buckets stay small.
---   mix m h c, bucket m s   the bucket of the name s for the multiplier m, byte by byte; any function of s would do
+-- of the one before it in its bucket. Behind the buckets stands the multiplier of the hash, which the code draws so that buckets stay small.
+--   bucket m s              the bucket of the name s for the multiplier m; any function of the two would do
 --   lookup L ns k p s       the first label named s from the entry p on, of at most k
 --   behind L ns s p         the entry behind a label s that is put in front of the entry p: that behind p where p's label is named s too
 --   Follows L ns s p r      r is p, or that entry: either may be put behind it
 --   Indexed L hs ns i       the labels of the first i lines are in their buckets
 --   line-of r               the line that the code answers
 -- Assumes nothing.
-use Prim.Native.Nat.{ℕ, zero, suc, _+_, _*_, _%_, _<_, _≤_}
+use Prim.Native.Nat.{ℕ, zero, suc, _%_, _<_, _≤_}
 use mathlib.Core.Path.{_≡_}
 use mathlib.Core.Logic.{_⊎_}
 use mathlib.Core.List.{List}
 use mathlib.Core.Option.{Option, none, some}
 use lib.ListN.{getD, take}
-use Rattle.definitions.specs.Lists.{if_then_else_, find, fold, _==_}
+use Rattle.definitions.specs.Lists.{if_then_else_, find, _==_}
 use Rattle.definitions.specs.Model.{Line, line}
 use Rattle.definitions.specs.Statements.{label}
 use Rattle.definitions.specs.FlowGraph.{label-line}
 use Rattle.blocks.specs.Entries.{linked}
+use Rattle.names.specs.Hash.{hash}
 use Rattle.labels.specs.declared.Label.{Label}
 use Rattle.labels.specs.declared.Label.the-variants.{At, Missing}
 
-abbrev pub mix : ℕ → ℕ → ℕ → ℕ
-mix m h c = (h * m + c) % 65536
-
 unfoldable pub bucket : ℕ → List ℕ → ℕ
-bucket m s = fold (mix m) 0 s % 255
+bucket m s = hash m s % 255
 
 unfoldable pub lookup : List Line → List ℕ → ℕ → ℕ → List ℕ → Option ℕ
 lookup L ns k p s = find (λ h. label (line L h) == s) (linked ns k p)

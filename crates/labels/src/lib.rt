@@ -1,12 +1,13 @@
 // The labels of a listing, and where its gotos lead.
 //
-// Labels stand in 255 buckets by their names, each put in front in line order, so that of equal ones the last is met first. `heads` has the
-// buckets and, at place 255, the multiplier of the hash. In a bucket that holds 16 labels a label takes the place of one of its name in
-// front; for any other label, all are put into their buckets anew, by the next of 8 multipliers. So few labels share a bucket, but where
-// names are chosen against all 8. `index` takes time linear in the tokens and in the bytes of the labels, at most 8 times; `label_line` in
-// the name and in the labels of its bucket. Contracts cite `label-line` of Rattle.definitions.specs.FlowGraph.
+// Labels stand in 255 buckets by the hashes of their names, each put in front in line order, so that of equal ones the last is met first.
+// `heads` has the buckets and, at place 255, the multiplier of the hash. In a bucket that holds 16 labels a label takes the place of one of its
+// name in front; for any other label, all are put into their buckets anew, by a multiplier drawn from the text, at most 7 times. `index` takes
+// time linear in the tokens and in the bytes of the labels, and each further time once more that and the bytes of the text; `label_line` in the
+// name and in the labels of its bucket. That few labels share a bucket is measured, not proved. Contracts cite `label-line` of
+// Rattle.definitions.specs.FlowGraph.
 ghost use mathlib.Core.Path.{_≡_};
-ghost use mathlib.Core.Bool.{true};
+ghost use mathlib.Core.Bool.{true, false};
 ghost use Prim.Native.Nat.{ℕ, _+_, _≤_, _<_};
 ghost use lib.ListN.{length, getD};
 ghost use Rattle.definitions.specs.Model.{line};
@@ -21,16 +22,13 @@ use model::columns::text_at;
 use model::columns::token_count;
 use pseudo_opt::labels::is_label;
 
+// The first multiplier.
+const FIRST: u16 = 27519;
+
 // The line of a label.
 pub enum Label {
     At(usize),
     Missing,
-}
-
-fn wide(b: u8) -> usize
-    ensures { λ r. ⌜ (r ≡ b) × (r < 256) ⌝ }
-{
-    b as usize
 }
 
 // The bucket of a name, for the multiplier that `heads` has.
@@ -38,14 +36,7 @@ fn bucket(heads: &[u16], s: &[u8]) -> usize
     requires { ⌜ 256 ≤ length (now heads) ⌝ }
     ensures { λ r. ⌜ (r ≡ bucket (getD (now (heads .entry)) 255 0) (now (s .entry))) × (r < 255) ⌝ }
 {
-    let m = heads[255] as usize;
-    let mut h = 0;
-    let mut k = 0;
-    while k < s.len() {
-        h = (h * m + wide(s[k])) % 65536;
-        k += 1;
-    }
-    h % 255
+    names::hash(heads[255], s) % 255
 }
 
 // Line i is a label: of a line that has not two tokens only its word is read.
@@ -149,29 +140,35 @@ fn index_line(
     }
 }
 
-// Puts every label into its bucket for the multiplier m; answers whether a bucket holds more than 16.
+// Puts the labels into their buckets for the multiplier m; answers whether all are there. Where there are more multipliers, it stops at a bucket
+// that holds more than 16.
 fn index_all(
     lines: &[u32],
     tokens: &[u32],
     text: &[u8],
     heads: &mut [u16],
     nexts: &mut [u16],
-    m: usize,
+    m: u16,
+    more: bool,
 ) -> bool
-    requires { ⌜ (256 ≤ length (now heads)) × (length (now lines) ≤ length (now nexts)) × (length (now lines) ≤ 1024) × (m < 65536) ⌝ }
+    requires { ⌜ (256 ≤ length (now heads)) × (length (now lines) ≤ length (now nexts)) × (length (now lines) ≤ 1024) ⌝ }
     requires { ⌜ ((b : ℕ) → b < 255 → getD (now heads) b 0 ≡ 0) ⌝ }
-    ensures { λ _.
+    ensures { λ r.
         ⌜ (let L = listing (now (lines .entry)) (now (tokens .entry)) (now (text .entry)) in
-        Indexed L (now (heads .exit)) (now (nexts .exit)) (length (now (lines .entry)))) ⌝ }
+        r ≡ true → Indexed L (now (heads .exit)) (now (nexts .exit)) (length (now (lines .entry)))) ⌝ }
+    ensures { λ r. ⌜ (more ≡ false → r ≡ true) ⌝ }
 {
-    heads[255] = m as u16;
-    let mut long = false;
+    heads[255] = m;
     let mut i = 0;
     while i < lines.len() {
-        long = long | index_line(lines, tokens, text, heads, nexts, i);
+        if index_line(lines, tokens, text, heads, nexts, i) {
+            if more {
+                return false;
+            }
+        }
         i += 1;
     }
-    long
+    true
 }
 
 // Empties the first n words.
@@ -186,8 +183,8 @@ fn empty(heads: &mut [u16], n: usize)
     }
 }
 
-// Puts every label into its bucket. The buckets are empty, and there is an entry for each line. The multipliers are odd, so that no byte
-// of a name is lost; by the first, 1,000 labels such as label_12, loc_401a3c or L7 are at most 9 to a bucket.
+// Puts every label into its bucket. The buckets are empty, and there is an entry for each line. By the first multiplier, 1,000 labels such as
+// label_12, loc_401a3c or L7 are at most 8 to a bucket.
 pub fn index(lines: &[u32], tokens: &[u32], text: &[u8], heads: &mut [u16], nexts: &mut [u16])
     requires { ⌜ (256 ≤ length (now heads)) × (length (now lines) ≤ length (now nexts)) × (length (now lines) ≤ 1024) ⌝ }
     requires { ⌜ ((b : ℕ) → getD (now heads) b 0 ≡ 0) ⌝ }
@@ -195,16 +192,17 @@ pub fn index(lines: &[u32], tokens: &[u32], text: &[u8], heads: &mut [u16], next
         ⌜ (let L = listing (now (lines .entry)) (now (tokens .entry)) (now (text .entry)) in
         Indexed L (now (heads .exit)) (now (nexts .exit)) (length (now (lines .entry)))) ⌝ }
 {
-    let mut m = 31;
+    let mut m = FIRST;
     let mut left: usize = 7;
-    while index_all(lines, tokens, text, heads, nexts, m) {
-        if left == 0 {
+    while 0 < left {
+        if index_all(lines, tokens, text, heads, nexts, m, true) {
             return;
         }
         empty(heads, 255);
-        m = (m * 37 + 18) % 65536;
+        m = names::next(m, text);
         left -= 1;
     }
+    index_all(lines, tokens, text, heads, nexts, m, false);
 }
 
 // The line of the label s, of equal ones the last.

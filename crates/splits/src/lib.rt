@@ -1,5 +1,5 @@
 // Splits of a listing: `split_points` and `Seg::Old` of pseudo_types.rs. The time is linear in the lines, the tokens, the gotos and the
-// bytes of names, but for names chosen against every multiplier of the tables of families and labels.
+// bytes of names, as long as few names share a bucket of the tables of families and labels.
 //
 //   starts     the split points by line
 //   tokens     the numbers and marks of the tokens

@@ -7,7 +7,7 @@
 --   taken-here, taken-found     a token that takes the address, and a line that does
 --   untaken-start, untaken-next, untaken-found, untaken-end     the loop of `lines_take`
 -- Assumes nothing.
-use Prim.Native.Nat.{ℕ, zero, suc, _+_, _-_, _/_, _%_, _<_, _≤_}
+use Prim.Native.Nat.{ℕ, zero, suc, _+_, _*_, _-_, _/_, _%_, _<_, _≤_}
 use mathlib.Core.Path.{_≡_, refl, sym, ap, _∙_}
 use mathlib.Core.Logic.{inl, inr}
 use mathlib.Core.Bool.{Bool, true, false, cond, _&&_, not, and-true, and-false}
@@ -59,8 +59,8 @@ defines-plain l f e = go (assignment l) e
     go none e = absurd (Option·none-ne-some _ e)
     go (some a) e = with-family a (fam-of (a .lhs)) e
 
-pub rsp-by : (L : List Line) (t : List ℕ) (k i : ℕ) (r : Register) (s : List ℕ) (y : Bool) → i ≡ getD t (1280 + k) 0 → s ≡ token (line L i) 0 .text
-    → family-of (token (line L i) 0 .text) r ≡ fam-of (token (line L i) 0) → y ≡ is-rsp (family-of s r) → y ≡ is-rsp (fam-of (token (line L (getD t (1280 + k) 0)) 0))
+pub rsp-by : (L : List Line) (t : List ℕ) (k i : ℕ) (r : Register) (s : List ℕ) (y : Bool) → i ≡ getD t (257 + 2 * k) 0 → s ≡ token (line L i) 0 .text
+    → family-of (token (line L i) 0 .text) r ≡ fam-of (token (line L i) 0) → y ≡ is-rsp (family-of s r) → y ≡ is-rsp (fam-of (token (line L (getD t (257 + 2 * k) 0)) 0))
 rsp-by L t k i r s y e p q z = z ∙ ap (λ (s : List ℕ). is-rsp (family-of s r)) p ∙ ap is-rsp q ∙ ap (λ (i : ℕ). is-rsp (fam-of (token (line L i) 0))) e
 
 -- a register token of which the text is no name of rsp
@@ -72,21 +72,21 @@ no-rsp u e = go (eqb (u .kind) 1)
     go true = e
     go false = refl
 
-pub rsp-not : (L : List Line) (t : List ℕ) (k i : ℕ) (s : List ℕ) (b : Bool) → i ≡ getD t (1280 + k) 0 → s ≡ token (line L i) 0 .text
-    → (b ≡ false → is-rsp (family s) ≡ false) → b ≡ false → false ≡ is-rsp (fam-of (token (line L (getD t (1280 + k) 0)) 0))
+pub rsp-not : (L : List Line) (t : List ℕ) (k i : ℕ) (s : List ℕ) (b : Bool) → i ≡ getD t (257 + 2 * k) 0 → s ≡ token (line L i) 0 .text
+    → (b ≡ false → is-rsp (family s) ≡ false) → b ≡ false → false ≡ is-rsp (fam-of (token (line L (getD t (257 + 2 * k) 0)) 0))
 rsp-not L t k i s b e p f q =
     sym (ap (λ (i : ℕ). is-rsp (fam-of (token (line L i) 0))) (sym e) ∙ no-rsp (token (line L i) 0) (ap (λ (s : List ℕ). is-rsp (family s)) (sym p) ∙ f q))
 
-module _ (L : List Line) (count k : ℕ) (t : List ℕ) (T : Table L count t) (h : k < count) (y : Bool) (e : y ≡ is-rsp (fam-of (token (line L (getD t (1280 + k) 0)) 0))) where
+module _ (L : List Line) (count k : ℕ) (t : List ℕ) (T : Table L count t) (h : k < count) (y : Bool) (e : y ≡ is-rsp (fam-of (token (line L (getD t (257 + 2 * k) 0)) 0))) where
   rsp-is : y ≡ (family-name L k == ascii "rsp")
-  rsp-is = let w = defines-first (line L (getD t (1280 + k) 0)) (family-name L k) (T .first k h) in e ∙ ap is-rsp (w .1) ∙ ap (_== ascii "rsp") (w .2)
+  rsp-is = let w = defines-first (line L (getD t (257 + 2 * k) 0)) (family-name L k) (T .first k h) in e ∙ ap is-rsp (w .1) ∙ ap (_== ascii "rsp") (w .2)
 
   -- a family that has a definition is read, but rsp
   pub family-read : is-read-family (family-name L k) ≡ not y
-  family-read = rw (sym rsp-is, defines-plain (line L (getD t (1280 + k) 0)) (family-name L k) (T .first k h))
+  family-read = rw (sym rsp-is, defines-plain (line L (getD t (257 + 2 * k) 0)) (family-name L k) (T .first k h))
 
   taken-by : address-taken L (family-name L k) ≡ (not y && any (λ i. takes-address (family-name L k) (line L i .tokens)) (range 1 (length L - 1)))
-  taken-by = rw (sym rsp-is, defines-plain (line L (getD t (1280 + k) 0)) (family-name L k) (T .first k h))
+  taken-by = rw (sym rsp-is, defines-plain (line L (getD t (257 + 2 * k) 0)) (family-name L k) (T .first k h))
 
   pub taken-some : (z : Bool) → z ≡ any (λ i. takes-address (family-name L k) (line L i .tokens)) (range 1 (length L - 1)) → z ≡ true → not y ≡ address-taken L (family-name L k)
   taken-some z s q = sym (taken-by ∙ rw (sym s, q) (and-true (not y)))
@@ -94,7 +94,7 @@ module _ (L : List Line) (count k : ℕ) (t : List ℕ) (T : Table L count t) (h
 pub taken-none : (L : List Line) (count k : ℕ) (t : List ℕ) → Table L count t → k < count → (z : Bool)
     → z ≡ any (λ i. takes-address (family-name L k) (line L i .tokens)) (range 1 (length L - 1)) → z ≡ false → false ≡ address-taken L (family-name L k)
 taken-none L count k t T h z s q =
-    let y = is-rsp (fam-of (token (line L (getD t (1280 + k) 0)) 0)) in
+    let y = is-rsp (fam-of (token (line L (getD t (257 + 2 * k) 0)) 0)) in
     sym (taken-by L count k t T h y refl ∙ rw (sym s, q) (and-false (not y)))
 
 -- `takes_at`

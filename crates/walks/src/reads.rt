@@ -4,7 +4,7 @@
 // Contracts cite `takes-address`, `address-taken` and `read-tokens` of Rattle.definitions.specs.Recover.
 ghost use mathlib.Core.Path.{_≡_};
 ghost use mathlib.Core.Bool.{cond};
-ghost use Prim.Native.Nat.{_+_, _-_, _<_, _≤_};
+ghost use Prim.Native.Nat.{_+_, _*_, _-_, _<_, _≤_};
 ghost use lib.Dec.{eqb};
 ghost use lib.ListN.{length, getD, set, take};
 ghost use Rattle.definitions.specs.Lists.{any, filter, range};
@@ -62,9 +62,9 @@ fn lines_take(
 // Family k is rsp. Of most families only the second byte is read.
 pub fn is_rsp(lines: &[u32], tokens: &[u32], text: &[u8], table: &[u16], k: usize) -> bool
     requires { ⌜ k < 1024 ⌝ }
-    ensures { λ y. ⌜ (let l = line (listing (now (lines .entry)) (now (tokens .entry)) (now (text .entry))) (getD (now (table .entry)) (1280 + k) 0) in y ≡ is-rsp (fam-of (token l 0))) ⌝ }
+    ensures { λ y. ⌜ (let l = line (listing (now (lines .entry)) (now (tokens .entry)) (now (text .entry))) (getD (now (table .entry)) (257 + 2 * k) 0) in y ≡ is-rsp (fam-of (token l 0))) ⌝ }
 {
-    let i = number(table, 1280 + k);
+    let i = number(table, 257 + 2 * k);
     let s = model::columns::text_at(lines, tokens, text, i, 0);
     if family::may_be_rsp(s) {
         let r = pseudo_opt::registers::register_at(lines, tokens, text, i, 0);

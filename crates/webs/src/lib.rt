@@ -5,7 +5,7 @@
 ghost use mathlib.Core.Path.{_≡_};
 ghost use mathlib.Core.Bool.{true};
 ghost use mathlib.Core.List.{[]};
-ghost use Prim.Native.Nat.{_<_, _≤_};
+ghost use Prim.Native.Nat.{_+_, _*_, _<_, _≤_};
 ghost use lib.ListN.{length};
 ghost use Rattle.definitions.specs.Lists.{or-else};
 ghost use Rattle.definitions.specs.Columns.{listing};
@@ -190,7 +190,7 @@ fn recover_in(
 ) -> Sweeps
     requires { ⌜ (2 ≤ length (now lines)) × (length (now lines) ≤ 1024) × (length (now tokens) ≤ 16384) × (covers 512 0 (now lines) (length (now tokens)) ≡ true) × (r ≡ row-words (length (now lines))) ⌝ }
     requires { ⌜ (space-words (length (now lines)) ≤ length (now space)) × (length (now numbers) ≡ length (now tokens)) × (length (now marks) ≡ length (now tokens)) × Drawn (listing (now lines) (now tokens) (now text)) (length (now lines)) r (now space) ⌝ }
-    requires { ⌜ (2304 ≤ length (now table)) × (length (now lines) ≤ length (now defs)) × (length (now lines) ≤ length (now first)) ⌝ }
+    requires { ⌜ (256 + 2 * length (now lines) ≤ length (now table)) × (length (now lines) ≤ length (now defs)) × (length (now lines) ≤ length (now first)) ⌝ }
     ensures { λ a. ⌜ (let L = listing (now (lines .entry)) (now (tokens .entry)) (now (text .entry)) in AllDone budget (numbered-webs L (or-else (recover L) [])) (now (numbers .exit)) (now (marks .exit)) a) ⌝ }
 {
     let count = families(lines, tokens, text, table, defs);
@@ -227,8 +227,8 @@ pub fn recover(
     requires { ⌜ (space-words (length (now lines)) ≤ length (now space)) × (length (now numbers) ≡ length (now tokens)) × (length (now marks) ≡ length (now tokens)) × Drawn (listing (now lines) (now tokens) (now text)) (length (now lines)) r (now space) ⌝ }
     ensures { λ a. ⌜ (let L = listing (now (lines .entry)) (now (tokens .entry)) (now (text .entry)) in AllDone budget (numbered-webs L (or-else (recover L) [])) (now (numbers .exit)) (now (marks .exit)) a) ⌝ }
 {
-    let mut table = [0u16; 2304];
     if 64 < lines.len() {
+        let mut table = [0u16; 2304];
         let mut defs = [0u16; 1024];
         let mut first = [0u16; 1024];
         return recover_in(
@@ -245,6 +245,7 @@ pub fn recover(
             &mut first,
         );
     }
+    let mut table = [0u16; 384];
     let mut defs = [0u16; 64];
     let mut first = [0u16; 64];
     recover_in(

@@ -9,11 +9,14 @@ use Rattle.families.proofs.add.Tie as tie
 narrow-requires : tie.Need-narrow-requires
 narrow-requires c κs = search needs
 
+mul-table : tie.Need-mul-table
+mul-table c = search needs
+
 add-table : tie.Need-add-table
 add-table c = search needs
 
-mul-table : tie.Need-mul-table
-mul-table c = search needs
+mul-table-2 : tie.Need-mul-table-2
+mul-table-2 c = search needs
 
 slice-write-table : tie.Need-slice-write-table
 slice-write-table c = search needs
@@ -32,8 +35,9 @@ add-spec =
     tie.close
     (tie.spec
     narrow-requires
-    add-table
     mul-table
+    add-table
+    mul-table-2
     slice-write-table
     link-requires
     same-length

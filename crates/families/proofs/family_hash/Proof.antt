@@ -5,6 +5,9 @@ use borrow.Author.Needs.{needs}
 use Rattle.families.proofs.family_hash.Statement.{statement}
 use Rattle.families.proofs.family_hash.Tie as tie
 
+mul-number : tie.Need-mul-number
+mul-number c = search (hash-rules, needs)
+
 add-number : tie.Need-add-number
 add-number c = search (hash-rules, needs)
 
@@ -26,4 +29,4 @@ returns c = search (hash-rules, needs)
 pub family-hash-spec : {M : Type 1} → statement M
 family-hash-spec =
     tie.close
-    (tie.spec add-number number-requires text-at-requires family-requires hash-of-requires returns)
+    (tie.spec mul-number add-number number-requires text-at-requires family-requires hash-of-requires returns)

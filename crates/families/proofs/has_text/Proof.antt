@@ -5,6 +5,9 @@ use borrow.Author.Needs.{needs}
 use Rattle.families.proofs.has_text.Statement.{statement}
 use Rattle.families.proofs.has_text.Tie as tie
 
+mul-number : tie.Need-mul-number
+mul-number c = search needs
+
 add-number : tie.Need-add-number
 add-number c = search needs
 
@@ -22,4 +25,4 @@ returns c = search (text-same, needs)
 
 pub has-text-spec : {M : Type 1} → statement M
 has-text-spec =
-    tie.close (tie.spec add-number number-requires text-at-requires equal-requires returns)
+    tie.close (tie.spec mul-number add-number number-requires text-at-requires equal-requires returns)

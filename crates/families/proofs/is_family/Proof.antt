@@ -5,6 +5,9 @@ use borrow.Author.Needs.{needs}
 use Rattle.families.proofs.is_family.Statement.{statement}
 use Rattle.families.proofs.is_family.Tie as tie
 
+mul-number : tie.Need-mul-number
+mul-number c = search (hash-rules, needs)
+
 add-number : tie.Need-add-number
 add-number c = search (hash-rules, needs)
 
@@ -18,4 +21,4 @@ returns : tie.Need-returns
 returns c = search (hash-rules, needs)
 
 pub is-family-spec : {M : Type 1} → statement M
-is-family-spec = tie.close (tie.spec add-number number-requires token-names-requires returns)
+is-family-spec = tie.close (tie.spec mul-number add-number number-requires token-names-requires returns)

@@ -20,6 +20,9 @@ returns c = search needs
 wide-requires : tie.Need-wide-requires Inv-loop μ-loop
 wide-requires c κs = search needs
 
+mul-word : tie.Need-mul-word Inv-loop μ-loop
+mul-word c = search needs
+
 add-word : tie.Need-add-word Inv-loop μ-loop
 add-word c = search needs
 
@@ -47,7 +50,7 @@ is-long-spec =
     loop-holds
     returns
     wide-requires
-    add-word
+    mul-word add-word
     word-requires
     add-n
     loop-less

@@ -13,11 +13,14 @@ mul-head c = search needs
 slice-read-head : tie.Need-slice-read-head
 slice-read-head c = search needs
 
+mul-table : tie.Need-mul-table
+mul-table c = search needs
+
 add-table : tie.Need-add-table
 add-table c = search needs
 
-mul-table : tie.Need-mul-table
-mul-table c = search needs
+mul-table-2 : tie.Need-mul-table-2
+mul-table-2 c = search needs
 
 slice-write-table : tie.Need-slice-write-table
 slice-write-table c = search needs
@@ -28,8 +31,8 @@ add-narrow c = search needs
 narrow-requires : tie.Need-narrow-requires
 narrow-requires c κs = search needs
 
-mul-table-2 : tie.Need-mul-table-2
-mul-table-2 c = search needs
+mul-table-3 : tie.Need-mul-table-3
+mul-table-3 c = search needs
 
 slice-write-table-2 : tie.Need-slice-write-table-2
 slice-write-table-2 c = simp length-set (omega arith)
@@ -46,12 +49,13 @@ link-spec =
     (tie.spec
     mul-head
     slice-read-head
-    add-table
     mul-table
+    add-table
+    mul-table-2
     slice-write-table
     add-narrow
     narrow-requires
-    mul-table-2
+    mul-table-3
     slice-write-table-2
     same-length
     returns)

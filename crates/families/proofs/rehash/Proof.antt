@@ -1,7 +1,7 @@
 -- `families::rehash` meets its contract. The first k families are in chains.
 -- Assumes nothing.
 use mathlib.Core.Path.{_≡_}
-use Prim.Native.Nat.{_-_, _≤_}
+use Prim.Native.Nat.{_+_, _*_, _-_, _≤_}
 use lib.ListN.{length}
 use Rattle.definitions.specs.Columns.{listing}
 use Rattle.families.specs.Families.{Linked}
@@ -11,7 +11,7 @@ use Rattle.families.proofs.rehash.Statement.{statement}
 use Rattle.families.proofs.rehash.Tie as tie
 
 abbrev Inv-loop : tie.InvT-loop
-Inv-loop lines tokens text table₀ count m k₀ table k = (k ≤ count) × (2304 ≤ length table) × (length table ≡ length table₀) × Linked (listing lines tokens text) count k table
+Inv-loop lines tokens text table₀ count m k₀ table k = (k ≤ count) × (256 + 2 * count ≤ length table) × (length table ≡ length table₀) × Linked (listing lines tokens text) count k table
 
 abbrev μ-loop : tie.MeasureT-loop
 μ-loop lines tokens text table₀ count m k₀ table k = count - k

@@ -5,31 +5,18 @@ use borrow.Author.Needs.{needs}
 use Rattle.families.proofs.row_hash.Statement.{statement}
 use Rattle.families.proofs.row_hash.Tie as tie
 
-mixed-requires : tie.Need-mixed-requires
-mixed-requires c κs = search needs
+array-read-short-hash : tie.Need-array-read-short-hash
+array-read-short-hash c = search needs
 
-array-read-mixed : tie.Need-array-read-mixed
-array-read-mixed c = search needs
+array-read-short-hash-2 : tie.Need-array-read-short-hash-2
+array-read-short-hash-2 c = search needs
 
-mixed-requires-2 : tie.Need-mixed-requires-2
-mixed-requires-2 c κs = search needs
-
-array-read-mixed-2 : tie.Need-array-read-mixed-2
-array-read-mixed-2 c = search needs
-
-mixed-requires-3 : tie.Need-mixed-requires-3
-mixed-requires-3 c κs = search needs
+short-hash-requires : tie.Need-short-hash-requires
+short-hash-requires c κs = search needs
 
 returns : tie.Need-returns
 returns c = search (hash-rules, needs)
 
 pub row-hash-spec : {M : Type 1} → statement M
 row-hash-spec =
-    tie.close
-    (tie.spec
-    mixed-requires
-    array-read-mixed
-    mixed-requires-2
-    array-read-mixed-2
-    mixed-requires-3
-    returns)
+    tie.close (tie.spec array-read-short-hash array-read-short-hash-2 short-hash-requires returns)

@@ -33,6 +33,9 @@ returns c = search (search-rules, needs)
 sub-number : tie.Need-sub-number Inv-loop μ-loop
 sub-number c = search (search-rules, needs)
 
+mul-number : tie.Need-mul-number Inv-loop μ-loop
+mul-number c = search (search-rules, needs)
+
 add-number : tie.Need-add-number Inv-loop μ-loop
 add-number c = search (search-rules, needs)
 
@@ -60,7 +63,7 @@ search-chain-spec =
     is-family-requires
     returns
     sub-number
-    add-number
+    mul-number add-number
     number-requires-2
     loop-less
     loop-again

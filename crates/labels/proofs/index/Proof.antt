@@ -1,19 +1,19 @@
 -- `labels::index` meets its contract. Before each time the buckets are empty. Assumes nothing.
 use Prim.Native.Nat.{ℕ, _<_}
 use mathlib.Core.Path.{_≡_, refl, _∙_}
-use borrow.Author.Needs.{needs}
 use lib.ListN.{length, getD}
+use borrow.Author.Needs.{needs}
 use Rattle.labels.proofs.index.Statement.{statement}
 use Rattle.labels.proofs.index.Tie as tie
 
 abbrev Inv-loop : tie.InvT-loop
-Inv-loop lines tokens text heads₀ nexts₀ m₀ left₀ heads nexts m left = (m < 65536) × (length heads ≡ length heads₀) × (length nexts ≡ length nexts₀) × ((b : ℕ) → b < 255 → getD heads b 0 ≡ 0)
+Inv-loop lines tokens text heads₀ nexts₀ m₀ left₀ heads nexts m left = (length heads ≡ length heads₀) × (length nexts ≡ length nexts₀) × ((b : ℕ) → b < 255 → getD heads b 0 ≡ 0)
 
 abbrev μ-loop : tie.MeasureT-loop
 μ-loop lines tokens text heads₀ nexts₀ m₀ left₀ heads nexts m left = left
 
 loop-holds : tie.Need-loop-holds Inv-loop μ-loop
-loop-holds c = (search needs, refl, refl, λ b h. c .before .before .before .before .before .pre .1 b)
+loop-holds c = (refl, refl, λ b h. c .before .before .before .before .before .pre .1 b)
 
 index-all-requires : tie.Need-index-all-requires Inv-loop μ-loop
 index-all-requires c κs = search needs
@@ -25,16 +25,13 @@ same-length-2 : tie.Need-same-length-2 Inv-loop μ-loop
 same-length-2 c = search needs
 
 returns : tie.Need-returns Inv-loop μ-loop
-returns c = c .before .before .before .before .before .before .index-all .ensures
+returns c = c .before .before .before .before .before .index-all .ensures .0 (c .if1 .taken)
 
 empty-requires : tie.Need-empty-requires Inv-loop μ-loop
 empty-requires c κs = search needs
 
-mul-m : tie.Need-mul-m Inv-loop μ-loop
-mul-m c = search needs
-
-add-m : tie.Need-add-m Inv-loop μ-loop
-add-m c = search needs
+next-requires : tie.Need-next-requires Inv-loop μ-loop
+next-requires c κs = search needs
 
 sub-left : tie.Need-sub-left Inv-loop μ-loop
 sub-left c = search needs
@@ -44,8 +41,12 @@ loop-less c = search needs
 
 loop-again : tie.Need-loop-again Inv-loop μ-loop
 loop-again c =
-    let l = c .before .before .before .before .before .before .before .before .before .before .before .before .before .loop in
-    (search needs, c .before .before .empty .kept .0 ∙ c .before .before .before .before .before .before .before .before .before .before .index-all .kept .1 .1 .1 .0 ∙ l .inv .1, c .before .before .before .before .before .before .before .before .before .before .index-all .kept .1 .1 .1 .1 .0 ∙ l .inv .2, c .before .before .empty .ensures)
+    let l = c .before .before .before .before .before .before .before .before .before .before .before .before .before .before .loop in
+    let a = c .before .before .before .before .before .before .before .before .before .before .index-all in
+    (c .before .before .before .empty .kept .0 ∙ a .kept .1 .1 .1 .0 ∙ l .inv .0, a .kept .1 .1 .1 .1 .0 ∙ l .inv .1, c .before .before .before .empty .ensures)
+
+index-all-requires-2 : tie.Need-index-all-requires-2 Inv-loop μ-loop
+index-all-requires-2 c κs = search needs
 
 same-length-3 : tie.Need-same-length-3 Inv-loop μ-loop
 same-length-3 c = search needs
@@ -54,7 +55,7 @@ same-length-4 : tie.Need-same-length-4 Inv-loop μ-loop
 same-length-4 c = search needs
 
 returns-2 : tie.Need-returns-2 Inv-loop μ-loop
-returns-2 c = c .before .before .before .before .before .index-all .ensures
+returns-2 c = c .before .before .before .before .index-all2 .ensures .0 (c .before .before .before .before .index-all2 .ensures .1 refl)
 
 pub index-spec : {M : Type 1} → statement M
 index-spec =
@@ -68,11 +69,11 @@ index-spec =
     same-length-2
     returns
     empty-requires
-    mul-m
-    add-m
+    next-requires
     sub-left
     loop-less
     loop-again
+    index-all-requires-2
     same-length-3
     same-length-4
     returns-2)

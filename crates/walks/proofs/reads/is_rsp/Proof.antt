@@ -5,6 +5,9 @@ use borrow.Author.Needs.{needs}
 use Rattle.walks.proofs.reads.is_rsp.Statement.{statement}
 use Rattle.walks.proofs.reads.is_rsp.Tie as tie
 
+mul-number : tie.Need-mul-number
+mul-number c = search (taken-rules, needs)
+
 add-number : tie.Need-add-number
 add-number c = search (taken-rules, needs)
 
@@ -33,7 +36,7 @@ pub is-rsp-spec : {M : Type 1} → statement M
 is-rsp-spec =
     tie.close
     (tie.spec
-    add-number
+    mul-number add-number
     number-requires
     text-at-requires
     may-be-rsp-requires

@@ -1,0 +1,21 @@
+-- `names::byte` meets its contract.
+-- Assumes nothing.
+use Rattle.names.proofs.Hashing.{byte-past}
+use borrow.Author.Needs.{needs}
+use Rattle.names.proofs.byte.Statement.{statement}
+use Rattle.names.proofs.byte.Tie as tie
+
+shared-slice-read-wide : tie.Need-shared-slice-read-wide
+shared-slice-read-wide c = search needs
+
+wide-requires : tie.Need-wide-requires
+wide-requires c κs = search needs
+
+returns : tie.Need-returns
+returns c = search needs
+
+returns-2 : tie.Need-returns-2
+returns-2 c = (search (byte-past, needs), search needs)
+
+pub byte-spec : {M : Type 1} → statement M
+byte-spec = tie.close (tie.spec shared-slice-read-wide wide-requires returns returns-2)

@@ -1,0 +1,86 @@
+// The hash of a name by a multiplier, and the multiplier to go on with where names collide.
+//
+// The hash is a polynomial in a factor that the multiplier gives, modulo the prime 2^33 - 9, with four bytes of the name to a step. A step adds
+// and then multiplies, so that the hash of a short name depends on the multiplier too. No contract uses more than that it is a function of
+// the multiplier and the name. `hash` takes time linear in the name, `next` in the text.
+ghost use mathlib.Core.Path.{_≡_};
+ghost use mathlib.Core.List.{[], _∷_};
+ghost use Prim.Native.Nat.{_+_, _≤_, _<_};
+ghost use lib.ListN.{length, getD};
+ghost use Rattle.names.specs.Hash.{factor, mix, packed, hash};
+
+mod siphash;
+
+fn wide(b: u8) -> usize
+    ensures { λ r. ⌜ (r ≡ b) × (r < 256) ⌝ }
+{
+    b as usize
+}
+
+// The byte at k, 0 past the end.
+fn byte(s: &[u8], k: usize) -> usize
+    ensures { λ r. ⌜ (r ≡ getD (now (s .entry)) k 0) × (r < 256) ⌝ }
+{
+    if k < s.len() { wide(s[k]) } else { 0 }
+}
+
+// The factor of a multiplier: never small, and not linear in the multiplier.
+fn factor(m: u16) -> usize
+    ensures { λ r. ⌜ (r ≡ factor m) × (r < 268435456) ⌝ }
+{
+    let x = m as usize + 65536;
+    x * x / 64
+}
+
+// (h + c) * f modulo 2^33 - 9: the bits from 33 on are added to those below, nine times.
+fn mix(f: usize, h: usize, c: usize) -> usize
+    requires { ⌜ (f < 268435456) × (h < 34359738368) × (c < 4294967296) ⌝ }
+    ensures { λ r. ⌜ (r ≡ mix f h c) × (r < 34359738368) ⌝ }
+{
+    let x = (h + c) * f;
+    x % 8589934592 + 9 * (x / 8589934592)
+}
+
+// The four bytes from i on as one number.
+fn four(s: &[u8], i: usize) -> usize
+    requires { ⌜ i + 4 ≤ length (now s) ⌝ }
+    ensures { λ r. ⌜ (let l = now (s .entry) in r ≡ packed (getD l i 0) (getD l (i + 1) 0) (getD l (i + 2) 0) (getD l (i + 3) 0)) × (r < 4294967296) ⌝ }
+{
+    wide(s[i]) + 256 * wide(s[i + 1]) + 65536 * wide(s[i + 2]) + 16777216 * wide(s[i + 3])
+}
+
+// The first three bytes as one number.
+fn three(s: &[u8]) -> usize
+    ensures { λ r. ⌜ (let l = now (s .entry) in r ≡ packed (getD l 0 0) (getD l 1 0) (getD l 2 0) 0) × (r < 4294967296) ⌝ }
+{
+    byte(s, 0) + 256 * byte(s, 1) + 65536 * byte(s, 2)
+}
+
+// The hash of the name s by the multiplier m.
+pub fn hash(m: u16, s: &[u8]) -> usize
+    ensures { λ r. ⌜ r ≡ hash m (now (s .entry)) ⌝ }
+{
+    let f = factor(m);
+    let mut h = 1;
+    let mut i = 0;
+    while 4 <= s.len() - i {
+        h = mix(f, h, four(s, i));
+        i += 4;
+    }
+    if i < s.len() {
+        return mix(f, h, three(&s[i..]));
+    }
+    h
+}
+
+// The hash of a name of three bytes.
+pub fn short_hash(m: u16, a: u8, b: u8, c: u8) -> usize
+    ensures { λ r. ⌜ r ≡ hash m (a ∷ b ∷ c ∷ []) ⌝ }
+{
+    mix(factor(m), 1, wide(a) + 256 * wide(b) + 65536 * wide(c))
+}
+
+// The multiplier after m: drawn from the text, so that whoever chooses names against it has to know the whole text. No contract depends on it.
+pub fn next(m: u16, text: &[u8]) -> u16 {
+    (siphash::hash(m as u64, text) % 65536) as u16
+}
