@@ -4,15 +4,14 @@
 -- Assumes nothing.
 use mathlib.Core.Path.{_≡_, refl, sym, _∙_}
 use mathlib.Core.Bool.{false}
-use mathlib.Core.List.{List, []}
-use Prim.Native.Nat.{ℕ, _/_, _%_, _≤_, _<_}
+use mathlib.Core.List.{List}
+use Prim.Native.Nat.{ℕ, _/_, _%_, _≤_}
 use native.Mathlib.Omega.{arith}
 use native.Mathlib.Decide.{decLe}
 use lib.ListN.{length, getD}
 use Rattle.definitions.specs.Lists.{part}
-use Rattle.definitions.specs.Model.{Token, line}
+use Rattle.definitions.specs.Model.{line}
 use Rattle.definitions.specs.Columns.{listing, token-list}
-use Rattle.definitions.specs.Calls.{Columns}
 use Rattle.text.proofs.Parts.{part-none, part-clamp}
 use Rattle.model.specs.Places.{line-start, line-end}
 use Rattle.model.proofs.Decode.{line-at, length-tokens}
@@ -21,7 +20,7 @@ use Rattle.write.specs.declared.Cursor.{Cursor}
 use Rattle.write_run.specs.Runs.{Runs}
 use Rattle.pieces.specs.Pieces.{piece}
 use Rattle.pieces.proofs.Forms.{kept-piece}
-use Rattle.append.specs.Adds.{Adds, Adding}
+use Rattle.append.specs.Adds.{Adding}
 use Rattle.append.proofs.Appends.{adds-none, adds-as}
 
 module _ (l t x : List ℕ) (i s e : ℕ) (p : s ≡ line-start l i) (q : e ≡ line-end l t i) where

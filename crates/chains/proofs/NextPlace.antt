@@ -12,7 +12,6 @@ use lib.ListN.{length, getD, drop, length-drop}
 use lib.Seq.{getD-drop}
 use Rattle.definitions.specs.Model.{Token, no-token}
 use Rattle.definitions.specs.Family.{names}
-use Rattle.theory.proofs.Bools.{clash}
 use Rattle.text.proofs.Parts.{drop-step}
 use Rattle.chains.specs.Chains.{gap, next-place}
 

@@ -24,7 +24,7 @@ use Rattle.theory.proofs.Bools.{lt-or-ge}
 use Rattle.model.specs.Places.{start-from, line-start, line-end}
 use Rattle.model.proofs.Decode.{length-tokens, line-length}
 use Rattle.model.proofs.Formed.{line-within}
-use Rattle.families.specs.Families.{place, place-of}
+use Rattle.families.specs.Families.{place-of}
 use Rattle.families.specs.Tokens.{family-name, Finds}
 use Rattle.families.proofs.Numbered.{place-cases}
 use Rattle.memo.specs.Found.{found}

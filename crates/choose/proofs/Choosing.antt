@@ -6,7 +6,7 @@
 --   of-limits                with question 1's limits it is the chooser
 --   as-webs, as-splits       what the chooser gives is, word for word, what that one of the two calls gives
 -- Assumes nothing.
-use Prim.Native.Nat.{ℕ, _+_, _≤_, _<_}
+use Prim.Native.Nat.{ℕ, _≤_, _<_}
 use mathlib.Core.Path.{_≡_, refl, sym, ap, ap₂, _∙_}
 use mathlib.Core.Logic.{_⊎_, inl, inr}
 use mathlib.Core.Bool.{Bool, true, false, cond, not}

@@ -4,7 +4,7 @@
 --   family-numbered            a numbered name is none of the table
 -- Assumes nothing.
 use mathlib.Core.Path.{_≡_, refl, sym, ap, _∙_}
-use mathlib.Core.Bool.{Bool, true, false, _&&_, _||_, not, cond}
+use mathlib.Core.Bool.{Bool, true, false, _&&_, not, cond}
 use mathlib.Core.List.{List, [], _∷_, _++_}
 use mathlib.Core.Option.{Option, none, some, Option·map}
 use Prim.Native.Nat.{ℕ, suc, _+_, _-_, _/_, _%_, _≤_, _<_}
@@ -12,8 +12,8 @@ use native.Mathlib.Omega.{arith}
 use lib.Dec.{eqb}
 use borrow.Author.Tests.{eqb-true, lt-ltb, le-ltb}
 use lib.ListN.{getD}
-use Rattle.definitions.specs.Lists.{_==_, all, range, up-to, position, concat, ascii, take-while, starts-with}
-use Rattle.definitions.specs.Family.{Family, legacy, widths, legacy-family, is-high, other-family, suffix-width, is-numbered, numbered-family, family}
+use Rattle.definitions.specs.Lists.{_==_, all, range, position, concat, ascii, take-while, starts-with}
+use Rattle.definitions.specs.Family.{Family, legacy, widths, legacy-family, is-high, other-family, is-numbered, numbered-family, family}
 use Rattle.text.proofs.Texts.{==-eq}
 use Rattle.family.specs.declared.Register.{Register}
 use Rattle.family.specs.declared.Register.the-variants.{Legacy}

@@ -5,25 +5,24 @@
 --   word-parts                  the parts of the word of a line without a header
 --   body-line                   the word stands for the line that `jump` gives, moved in by one
 -- Assumes nothing.
-use Prim.Native.Nat.{ℕ, zero, suc, _+_, _-_, _*_, _/_, _%_, _≤_, _<_}
-use mathlib.Core.Path.{_≡_, refl, sym, ap, ap₂, _∙_}
-use mathlib.Core.Bool.{Bool, true, false, _&&_, cond}
+use Prim.Native.Nat.{ℕ, _+_, _-_, _*_, _/_, _%_, _≤_, _<_}
+use mathlib.Core.Path.{_≡_, refl, sym, ap, _∙_}
+use mathlib.Core.Bool.{Bool, true, false, cond}
 use mathlib.Core.List.{List}
 use mathlib.Core.Option.{Option, none, some}
 use native.Mathlib.Omega.{arith}
 use native.Mathlib.Numerals.{add-one}
 use native.Mathlib.Decide.{decLe}
 use borrow.Author.Tests.{lt-ltb, le-ltb}
-use lib.Dec.{ltb}
 use lib.ListN.{length, getD, take, set, length-set, length-take}
 use lib.Seq.{take-set-lt, getD-take}
 use Rattle.definitions.specs.Lists.{all, part, on-part, _==_, ascii}
-use Rattle.definitions.specs.Model.{Token, Line, pseudo-line, token, line}
+use Rattle.definitions.specs.Model.{Line, pseudo-line, token, line}
 use Rattle.definitions.specs.Columns.{listing}
 use Rattle.definitions.specs.Statements.{goto-target}
 use Rattle.definitions.specs.RecoverGotoLoops.{goes-to, jump-line, jump, move-in}
 use Rattle.loop_theory.proofs.Cases.{true-false}
-use Rattle.plan.specs.Plan.{Form, Form.kept, Form.continued, Form.broken, Form.closed, form-of, form-tokens, piece-of, piece-tokens, indent-at, header-at, piece-at, test-at, initialiser-at, step-at, header-of, header-tokens, planned, plan-of, line-of}
+use Rattle.plan.specs.Plan.{Form, Form.kept, Form.continued, Form.broken, Form.closed, form-of, form-tokens, piece-of, piece-tokens, indent-at, header-at, piece-at, line-of}
 use Rattle.plan.specs.Source.{Source}
 use Rattle.plan.proofs.Loops.{on-step, on-none, all-step, no-exit}
 use Rattle.plan.proofs.Rendered.{kept-line}

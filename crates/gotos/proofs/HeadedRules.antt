@@ -6,15 +6,15 @@
 --   made-tested, made-plain             the plan with the header
 --   head-line-always, head-line-leading the word stands for the header of `headed`
 -- Assumes nothing.
-use Prim.Native.Nat.{ℕ, zero, suc, _+_, _-_, _*_, _/_, _%_, _≤_, _<_}
-use mathlib.Core.Path.{_≡_, refl, sym, ap, ap₂, _∙_}
+use Prim.Native.Nat.{ℕ, _+_, _-_, _*_, _/_, _<_}
+use mathlib.Core.Path.{_≡_, refl, sym, ap, _∙_}
 use mathlib.Core.Bool.{Bool, true, false, _&&_, cond}
-use mathlib.Core.List.{List, []}
+use mathlib.Core.List.{List}
 use mathlib.Core.Option.{Option, none, some}
 use native.Mathlib.Omega.{arith}
 use borrow.Author.Tests.{eq-eqb, ne-eqb}
 use lib.Dec.{eqb}
-use lib.ListN.{length, getD, take, set}
+use lib.ListN.{getD, take, set}
 use lib.Seq.{take-set-lt, getD-take}
 use Rattle.definitions.specs.Lists.{_>>=_, require, is-some, or-else, remove, position, first, last, part, on-first, starts-with, ends-with, ascii}
 use Rattle.definitions.specs.Model.{Token, Line, pseudo-line, token, line, text}
@@ -22,7 +22,7 @@ use Rattle.definitions.specs.Statements.{is-kw, merge}
 use Rattle.definitions.specs.Condition.{cut-front, cut, negate-cond}
 use Rattle.definitions.specs.Passes.{while-head}
 use Rattle.definitions.specs.RecoverGotoLoops.{leading-test, one}
-use Rattle.plan.specs.Plan.{Test.always, Test.leading, Header.while-over, piece-of, piece-line, piece-tokens, test-tokens, while-tokens, header-tokens, header-of, planned, plan-of, word, indent-at, header-at, piece-at, line-of}
+use Rattle.plan.specs.Plan.{piece-of, piece-line, piece-tokens, test-tokens, while-tokens, header-tokens, header-of, planned, plan-of, word, indent-at, header-at, piece-at, line-of}
 use Rattle.plan.proofs.Rendered.{kept-line, plan-word}
 use Rattle.pseudo_opt.specs.declared.Found.{Found}
 use Rattle.pseudo_opt.specs.declared.Found.the-variants.{At, Nothing}

@@ -5,23 +5,22 @@
 --   labels, insides, backs    the rules
 -- Assumes nothing.
 use mathlib.Core.Path.{_≡_, refl, sym, ap, ap₂, _∙_}
-use mathlib.Core.Bool.{Bool, true, false, cond, _&&_, _||_, and-false, or-false}
-use mathlib.Core.List.{List, [], _∷_, _++_, append-nil, append-assoc}
-use mathlib.Core.Option.{Option, none, some}
-use Prim.Native.Nat.{ℕ, zero, suc, _+_, _-_, _/_, _%_, _≤_, _<_}
+use mathlib.Core.Bool.{Bool, true, false, cond, _&&_, _||_, and-false}
+use mathlib.Core.List.{List, [], _∷_, _++_, append-assoc}
+use Prim.Native.Nat.{ℕ, zero, suc, _+_, _≤_, _<_}
 use native.Mathlib.Omega.{arith}
 use borrow.Author.Tests.{eq-eqb, ne-eqb, eqb-true, lt-ltb, le-ltb}
 use lib.Dec.{eqb, ltb}
-use lib.ListN.{length, getD, drop, length-append}
+use lib.ListN.{length, getD, length-append}
 use lib.Seq.{getD-append-add}
 use Rattle.definitions.specs.Lists.{_==_, ascii}
-use Rattle.definitions.specs.Model.{Token, Line, tok, pseudo-line, token, no-token, text, Keyword, Symbol, Punct, Text}
+use Rattle.definitions.specs.Model.{Token, Line, tok, token, no-token, text, Keyword, Symbol, Punct, Text}
 use Rattle.definitions.specs.Statements.{is-label, joins, glue, merge}
 use Rattle.definitions.specs.ToFor.{for-head, popped}
 use Rattle.definitions.specs.Passes.{while-head}
 use Rattle.definitions.specs.RecoverGotoLoops.{in-block, is-back}
-use Rattle.text.proofs.Texts.{ne-==, eq-==}
-use Rattle.plan.specs.Plan.{Test, Test.guard, Test.always, Test.leading, Header, Header.no-header, Header.while-over, Header.for-over, Piece, piece-of, piece-tokens, test-tokens, while-tokens, header-tokens, header-of, planned, plan-of, indent-at, header-at, piece-at, test-at, initialiser-at, step-at, line-of}
+use Rattle.text.proofs.Texts.{ne-==}
+use Rattle.plan.specs.Plan.{Test, Test.guard, Test.always, Test.leading, Header, Header.while-over, Header.for-over, Piece, piece-of, piece-tokens, test-tokens, while-tokens, header-tokens, header-of, planned, plan-of, indent-at, header-at, piece-at, test-at, initialiser-at, step-at, line-of}
 use Rattle.pieces.specs.Pieces.{piece, piece-text}
 
 -- Merging keeps a keyword in front, and the text.

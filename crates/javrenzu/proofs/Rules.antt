@@ -10,7 +10,7 @@
 --   read-said, read-refused                       the reader
 -- Assumes nothing.
 use Prim.Native.Nat.{ℕ, _≤_, _<_}
-use mathlib.Core.Path.{_≡_, refl}
+use mathlib.Core.Path.{_≡_}
 use mathlib.Core.List.{List, []}
 use native.Mathlib.Omega.{arith}
 use borrow.Author.Tests.{leb-true, le-leb, lt-leb}
@@ -19,7 +19,7 @@ use lib.ListN.{length, take, replicate}
 use mathlib.Core.Bool.{_&&_}
 use Rattle.definitions.specs.Model.{Line}
 use Rattle.definitions.specs.Columns.{listing}
-use Rattle.definitions.specs.Answers.{Answer, refused, accepted, loops, goto-loops}
+use Rattle.definitions.specs.Answers.{Answer, accepted, loops, goto-loops}
 use Rattle.definitions.specs.Calls.{Columns, Passed, by-webs, by-splits, pass-call, web-call, split-call, choose-call}
 use Rattle.model.proofs.Ands.{both}
 use Rattle.model.proofs.Formed.{formed-lines}
@@ -49,7 +49,6 @@ use Rattle.rows.proofs.Accepted.{Asked, web-asked, split-asked, choose-asked, p
 use Rattle.dot.specs.Dot.{dot-text}
 use Rattle.dot.specs.Held.{Ready}
 use Rattle.javrenzu.specs.Room.{token-zeros, text-zeros, mark-zeros, space-zeros, word-zeros, byte-zeros, lent-room, split-room, pass-room}
-use Rattle.javrenzu.specs.declared.calls.Said.{Said}
 use Rattle.javrenzu.specs.declared.calls.Said.the-variants.{Text, ByWebs, BySplits, Refused}
 use Rattle.javrenzu.specs.declared.words.Word.{Word}
 use Rattle.javrenzu.specs.declared.words.Word.the-variants as word

@@ -10,8 +10,8 @@ use Prim.Native.Nat.{ℕ}
 use mathlib.Core.Path.{_≡_, refl, sym, ap, _∙_}
 use mathlib.Core.List.{List}
 use Rattle.definitions.specs.Questions.{Limits}
-use Rattle.definitions.specs.Answers.{Answer, refused}
-use Rattle.definitions.specs.Calls.{Lent, Called, Chosen, Columns, Passed}
+use Rattle.definitions.specs.Answers.{refused}
+use Rattle.definitions.specs.Calls.{Called, Chosen, Columns, Passed}
 use Rattle.pseudo_ssa.specs.declared.Webs.{Webs}
 use Rattle.pseudo_ssa.specs.declared.Webs.the-variants.{Accepted, Refused}
 use Rattle.pseudo_ssa.specs.Answers.{answer-of, lent, called}

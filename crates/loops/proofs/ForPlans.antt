@@ -13,7 +13,7 @@ use mathlib.Core.Option.{none, some}
 use native.Mathlib.Nat.{sub-zero, zero-add}
 use native.Mathlib.Omega.{arith}
 use borrow.Author.Tests.{eqb-true, eqb-false, eq-eqb, leb-true, le-ltb}
-use lib.Dec.{eqb, leb, ltb}
+use lib.Dec.{eqb, leb}
 use lib.ListN.{length, take, drop, getD, set}
 use lib.Seq.{getD-take, drop-set-lt}
 use Rattle.definitions.specs.Lists.{_>>=_, any, all, part, position-from, remove, _==_, ascii}

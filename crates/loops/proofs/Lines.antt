@@ -5,7 +5,7 @@
 --   header-inits, header-passes    a header is no assignment
 --   guard-test                     the condition of a header is that of its guard
 -- Assumes nothing.
-use Prim.Native.Nat.{ℕ, zero, suc, _+_, _-_, _/_, _%_}
+use Prim.Native.Nat.{ℕ, zero, suc, _/_, _%_}
 use mathlib.Core.Path.{_≡_, refl, ap, _∙_}
 use mathlib.Core.List.{List, [], _∷_, _++_}
 use mathlib.Core.Bool.{Bool, true, false, cond}
@@ -14,7 +14,7 @@ use borrow.Author.Tests.{eqb-true}
 use lib.Dec.{eqb, leb}
 use lib.ListN.{length, getD}
 use Rattle.definitions.specs.Lists.{_>>=_, require, or-else, ascii}
-use Rattle.definitions.specs.Model.{Token, Line, tok, no-token, pseudo-line, token, line, Keyword}
+use Rattle.definitions.specs.Model.{Token, Line, tok, no-token, pseudo-line, token, Keyword}
 use Rattle.definitions.specs.Columns.{listing}
 use Rattle.definitions.specs.Statements.{Assignment, is-label, has-kw, assignment, joins, glue, merge}
 use Rattle.definitions.specs.Condition.{condition}

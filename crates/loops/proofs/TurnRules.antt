@@ -8,7 +8,7 @@
 use Prim.Native.Nat.{ℕ, _+_, _-_, _/_, _≤_, _<_}
 use mathlib.Core.Path.{_≡_, refl, sym, ap, ap₂, subst, _∙_}
 use mathlib.Core.List.{List, []}
-use mathlib.Core.Bool.{Bool, true, false, cond, _&&_, not, and-false}
+use mathlib.Core.Bool.{Bool, true, false, cond, _&&_, and-false}
 use mathlib.Core.Option.{Option, none, some}
 use native.Mathlib.Nat.{le-refl}
 use native.Mathlib.Omega.{arith}
@@ -22,7 +22,7 @@ use Rattle.definitions.specs.Columns.{listing}
 use Rattle.definitions.specs.Statements.{is-kw, has-kw}
 use Rattle.definitions.specs.Condition.{condition}
 use Rattle.definitions.specs.ToFor.{to-for}
-use Rattle.definitions.specs.Passes.{Turn, go, beyond, lone-brace}
+use Rattle.definitions.specs.Passes.{go, beyond, lone-brace}
 use Rattle.definitions.specs.RecoverLoops.{is-guard, guarded, unwrapped, rebuilt, close-at, close, loop-turn}
 use Rattle.loop_theory.proofs.Cases.{and-split, true-false}
 use Rattle.plan.specs.Plan.{indent-at, header-at, piece-at, line-of, render}

@@ -13,7 +13,6 @@ use native.Mathlib.Omega.{arith}
 use borrow.Author.Tests.{eq-eqb, ne-eqb}
 use mir.Syntax.{w64}
 use mir.Val.{Fits}
-use lib.Dec.{eqb}
 use lib.ListN.{take}
 use lib.Seq.{take-all}
 use Rattle.definitions.specs.Lists.{is-some}

@@ -6,25 +6,25 @@
 use mathlib.Core.Path.{_≡_, refl, sym, ap, ap₂, _∙_}
 use mathlib.Core.Bool.{Bool, true, false, not, cond}
 use mathlib.Core.List.{List, [], _∷_, _++_, map}
-use mathlib.Core.Option.{Option, none, some, Option·map}
-use Prim.Native.Nat.{ℕ, zero, suc, _+_, _-_, _≤_, _<_}
-use native.Mathlib.Nat.{add-zero, add-suc, suc-add, zero-add, sub-zero}
+use mathlib.Core.Option.{none, some, Option·map}
+use Prim.Native.Nat.{ℕ, zero, suc, _+_, _≤_, _<_}
+use native.Mathlib.Nat.{add-zero, zero-add, sub-zero}
 use native.Mathlib.Omega.{arith}
 use borrow.Author.Tests.{eq-eqb, ne-eqb, leb-true}
 use lib.Dec.{eqb, leb}
 use lib.ListN.{length, getD, take, drop, length-append}
 use lib.Seq.{take-nil, drop-nil}
-use Rattle.definitions.specs.Lists.{_==_, filter, find, range, all, on-first, on-part, starts-with, ascii}
+use Rattle.definitions.specs.Lists.{_==_, find, range, all, on-first, on-part, starts-with, ascii}
 use Rattle.definitions.specs.Model.{Token, Line, tok, no-token, Punct}
 use Rattle.definitions.specs.Statements.{is-empty, merge}
-use Rattle.definitions.specs.Condition.{Comparison, comparisons, Found, Seen, nothing-seen, scan, flip, only-comparison, negate-cond}
+use Rattle.definitions.specs.Condition.{Comparison, comparisons, Found, nothing-seen, scan, flip, only-comparison, negate-cond}
 use Rattle.text.proofs.Texts.{==-length}
-use Rattle.loop_theory.proofs.Cases.{none-some, some-same, true-false, IfSome}
+use Rattle.loop_theory.proofs.Cases.{none-some}
 use Rattle.loop_theory.proofs.Places.{on-part-one}
-use Rattle.loop_theory.proofs.Comparisons.{Stands, comparison-in, comparison-stands, find-among}
+use Rattle.loop_theory.proofs.Comparisons.{comparison-in, comparison-stands, find-among}
 use Rattle.negate.specs.Tests.{test, test-count, test-token, test-from, test-tokens}
 use Rattle.append.specs.Adds.{whole}
-use Rattle.negate.specs.Comparisons.{numbered, found-in, found-at, seen, flip-some, negated-token, negation}
+use Rattle.negate.specs.Comparisons.{found-in, seen, negated-token, negation}
 use Rattle.negate.specs.declared.comparison.Seen.{Seen as Counts}
 use Rattle.negate.specs.declared.comparison.Only.the-variants.{At, Nothing}
 use Rattle.negate.proofs.TestTokens.{test-is}

@@ -8,15 +8,14 @@ use mathlib.Core.Path.{_≡_, refl, sym, ap, _∙_}
 use mathlib.Core.Bool.{Bool, true, false, not, cond, _&&_, _||_}
 use mathlib.Core.List.{List, [], _∷_, _++_, append-assoc}
 use mathlib.Core.Option.{Option, none, some, Option·map}
-use Prim.Native.Nat.{ℕ, zero, suc, _+_, _-_, _≤_, _<_}
+use Prim.Native.Nat.{ℕ, zero, suc, _+_, _-_}
 use native.Mathlib.Nat.{add-zero}
 use native.Mathlib.Numerals.{add-one}
-use native.Mathlib.Omega.{arith}
 use lib.Dec.{eqb}
 use lib.ListN.{length, getD, take, drop, length-append}
 use lib.Seq.{take-at}
 use Rattle.definitions.specs.Lists.{_==_, filter, count, on-first, on-part, starts-with, ascii}
-use Rattle.definitions.specs.Model.{Token, tok, no-token, Punct, Keyword}
+use Rattle.definitions.specs.Model.{Token, no-token, Punct, Keyword}
 use Rattle.definitions.specs.Statements.{is-empty}
 use Rattle.definitions.specs.Condition.{Comparison, Found, Seen, nothing-seen, at-depth-0, add-found, see-logical, comparison-at, see-bracket, scan-text, scan-token, scan}
 use Rattle.loop_theory.proofs.Cases.{true-false, ==-true}

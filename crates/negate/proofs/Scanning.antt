@@ -24,7 +24,7 @@ use native.Mathlib.Omega.{arith}
 use borrow.Author.Tests.{eq-eqb, ne-eqb}
 use lib.Dec.{T, eqb}
 use lib.ListN.{length, getD, drop, length-drop}
-use lib.Seq.{drop-drop, drop-nil}
+use lib.Seq.{drop-drop}
 use Rattle.definitions.specs.Lists.{if_then_else_, filter, count, find, starts-with, ascii, part}
 use Rattle.definitions.specs.Condition.{Comparison, comparisons, Found, Seen, at-depth-0, add-found, see-logical, comparison-at, see-bracket, add-brackets, nothing-seen, scan-text, scan-token, scan}
 use Rattle.definitions.specs.Model.{Line, tok}

@@ -16,9 +16,9 @@ use native.Mathlib.Decide.{decLt}
 use native.Mathlib.Omega.{arith}
 use borrow.Author.Tests.{eq-eqb, ne-eqb, eqb-true, eqb-false}
 use lib.Dec.{eqb}
-use lib.ListN.{length, getD, take, drop, length-map, length-drop, List·getD-eq-default}
+use lib.ListN.{length, getD, drop, length-map, length-drop, List·getD-eq-default}
 use lib.Seq.{take-all, ext-getD}
-use Rattle.definitions.specs.Lists.{if_then_else_, part, range, on-first, on-last}
+use Rattle.definitions.specs.Lists.{part, range, on-first, on-last}
 use Rattle.definitions.specs.Model.{Token, Line, tok, token, line, no-token}
 use Rattle.definitions.specs.Columns.{listing}
 use Rattle.definitions.specs.Condition.{cut-front, cut-end}

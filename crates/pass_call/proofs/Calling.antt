@@ -7,7 +7,7 @@
 --   written-is         what is written and zeroed is `packed`
 --   few-lines, rooms, small-columns, zeros-are, refusals, asked-none, asked-some    what each function shows
 -- Assumes nothing.
-use Prim.Native.Nat.{ℕ, zero, suc, _-_, _≤_, _<_}
+use Prim.Native.Nat.{ℕ, zero, suc, _≤_, _<_}
 use mathlib.Core.Path.{_≡_, refl, sym, ap, ap₂, _∙_}
 use mathlib.Core.Bool.{Bool, true, false, _&&_}
 use mathlib.Core.List.{List, [], _∷_, map}

@@ -7,13 +7,13 @@
 -- Assumes nothing.
 use mathlib.Core.Path.{_≡_, refl, sym, ap, ap₂, _∙_}
 use mathlib.Core.Bool.{Bool, true, false, _&&_, and-false, and-assoc}
-use mathlib.Core.List.{List, [], _∷_, _++_, append-nil, append-assoc}
-use Prim.Native.Nat.{ℕ, zero, suc, _+_, _-_, _/_, _%_, _≤_, _<_}
+use mathlib.Core.List.{List, [], _∷_, _++_, append-assoc}
+use Prim.Native.Nat.{ℕ, _-_, _%_, _≤_, _<_}
 use native.Mathlib.Nat.{sub-zero, le-of-suc-le-suc, not-suc-le-zero}
 use native.Mathlib.Decide.{decLe}
 use native.Mathlib.Omega.{arith}
 use lib.Dec.{eqb}
-use lib.ListN.{length, take, drop, length-append, length-take, take-append-drop}
+use lib.ListN.{length, take, drop, length-append, take-append-drop}
 use lib.Seq.{take-at, take-append-le, drop-append-le}
 use Rattle.definitions.specs.Lists.{part, _==_, starts-with, ascii}
 use Rattle.definitions.specs.Model.{Token, Line, tok, text, Keyword, Punct}

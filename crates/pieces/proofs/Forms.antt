@@ -11,23 +11,22 @@ use mathlib.Core.Path.{_≡_, refl, sym, ap, _∙_}
 use mathlib.Core.Bool.{Bool, true, false, cond, not, _||_, or-true}
 use mathlib.Core.List.{List, [], _∷_, _++_}
 use mathlib.Core.Option.{Option, none, some, Option·map}
-use Prim.Native.Nat.{ℕ, zero, suc, _+_, _-_, _/_, _%_, _≤_, _<_}
+use Prim.Native.Nat.{ℕ, zero, suc, _%_, _≤_, _<_}
 use native.Mathlib.Decide.{decLt}
 use native.Mathlib.Omega.{arith}
-use borrow.Author.Tests.{eq-eqb, ne-eqb, lt-ltb, le-ltb}
-use lib.Dec.{eqb, ltb}
-use lib.ListN.{length, take, drop, length-append, length-take}
-use lib.Seq.{take-all}
+use borrow.Author.Tests.{lt-ltb, le-ltb}
+use lib.Dec.{ltb}
+use lib.ListN.{length, take, length-append}
 use Rattle.definitions.specs.Lists.{or-else, any, position, take-while, _==_, ascii}
-use Rattle.definitions.specs.Model.{Token, Line, tok, pseudo-line, line, text, Keyword, Punct}
+use Rattle.definitions.specs.Model.{Token, Line, tok, pseudo-line, text, Keyword, Punct}
 use Rattle.definitions.specs.Statements.{is-kw, has-kw, is-label, goto-target}
 use Rattle.definitions.specs.Passes.{lone-brace}
 use Rattle.definitions.specs.RecoverGotoLoops.{jump-line}
 use Rattle.text.proofs.Texts.{==-length}
 use Rattle.loop_theory.proofs.Cases.{or-split}
 use Rattle.loop_theory.proofs.Jumps.{jump-line-no-label, jump-line-has-no-goto}
-use Rattle.plan.specs.Plan.{form-tokens, form-of, piece-of, piece-tokens}
-use Rattle.pseudo_opt.specs.Places.{found, text-at}
+use Rattle.plan.specs.Plan.{form-tokens, form-of}
+use Rattle.pseudo_opt.specs.Places.{found}
 use Rattle.pseudo_opt.specs.declared.Found.{Found}
 use Rattle.pseudo_opt.specs.declared.Found.the-variants.{At, Nothing}
 use Rattle.pieces.specs.Pieces.{piece, origin, cut-place, jumped, comes-before}

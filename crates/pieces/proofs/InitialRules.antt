@@ -3,18 +3,18 @@
 --   cut-lines         a line that was cut at its first goto, by its tests
 --   init-pieces       a piece, by its form
 -- Assumes nothing.
-use mathlib.Core.Path.{_≡_, refl, sym, ap, ap₂, _∙_}
+use mathlib.Core.Path.{_≡_, refl, sym, ap, _∙_}
 use mathlib.Core.Bool.{Bool, true, false, _&&_, _||_, not, cond, and-false, and-assoc, or-false, or-assoc}
 use mathlib.Core.List.{List, [], _∷_, _++_, append-nil, append-assoc}
 use mathlib.Core.Option.{Option, none, some, Option·map}
-use Prim.Native.Nat.{ℕ, zero, suc, _+_, _-_, _/_, _%_, _≤_, _<_}
+use Prim.Native.Nat.{ℕ, zero, suc, _+_, _-_, _%_, _≤_, _<_}
 use native.Mathlib.Nat.{not-suc-le-zero, le-of-suc-le-suc}
 use native.Mathlib.Omega.{arith}
 use borrow.Author.Tests.{eq-eqb, ne-eqb, le-leb, lt-leb, lt-ltb, le-ltb}
 use lib.Dec.{eqb, leb, ltb}
 use lib.ListN.{length, getD, take, drop, length-append}
-use lib.Seq.{getD-take, length-take-le, take-at, drop-append-le}
-use Rattle.definitions.specs.Lists.{_>>=_, require, is-some, or-else, any, position, last, _==_, starts-with, ends-with, ascii}
+use lib.Seq.{getD-take, length-take-le, take-at}
+use Rattle.definitions.specs.Lists.{_>>=_, require, is-some, any, last, _==_, starts-with, ascii}
 use Rattle.definitions.specs.Model.{Token, Line, tok, pseudo-line, token, no-token, Register, Keyword, Symbol, Punct}
 use Rattle.definitions.specs.Statements.{Assignment, is-kw, is-callee, callee, call-at, assignment, unless-empty, is-empty, without-semicolon}
 use Rattle.definitions.specs.Family.{Family, fam-of, names}

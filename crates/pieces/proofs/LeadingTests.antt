@@ -5,18 +5,18 @@
 --   tested-kept, tested-continued, tested-broken, tested-closed    a piece, by its form
 -- Assumes nothing.
 use mathlib.Core.Path.{_≡_, refl, sym, ap, ap₂, _∙_}
-use mathlib.Core.Bool.{Bool, true, false, _&&_, cond, and-true, and-false}
-use mathlib.Core.List.{List, [], _∷_, _++_, append-assoc}
+use mathlib.Core.Bool.{Bool, true, false, cond, and-true, and-false}
+use mathlib.Core.List.{List, [], _∷_, _++_}
 use mathlib.Core.Option.{Option, none, some, Option·map}
-use Prim.Native.Nat.{ℕ, zero, suc, _+_, _-_, _/_, _%_, _≤_, _<_, min}
+use Prim.Native.Nat.{ℕ, zero, suc, _+_, _-_, _%_, _≤_, _<_}
 use native.Mathlib.Nat.{not-suc-le-zero, le-of-suc-le-suc, sub-zero, zero-add}
-use native.Mathlib.Decide.{decLe, decLt}
+use native.Mathlib.Decide.{decLe}
 use native.Mathlib.Omega.{arith}
 use borrow.Author.Tests.{eq-eqb, ne-eqb, le-leb, lt-leb}
 use lib.Dec.{eqb, leb}
-use lib.ListN.{length, getD, take, drop, getElem?, length-append, length-take, length-drop}
+use lib.ListN.{length, getD, take, drop, length-append, length-drop}
 use lib.Seq.{take-append-le, drop-append-le, drop-append-add, length-take-le}
-use Rattle.definitions.specs.Lists.{_>>=_, require, or-else, position, first, last, part, on-first, _==_, starts-with, ends-with, ascii}
+use Rattle.definitions.specs.Lists.{_>>=_, require, position, first, last, part, on-first, _==_, starts-with, ends-with, ascii}
 use Rattle.definitions.specs.Model.{Token, Line, tok, pseudo-line, token, no-token, text, Keyword, Punct}
 use Rattle.definitions.specs.Statements.{is-kw}
 use Rattle.definitions.specs.Condition.{cut-front, cut, negate-cond}
@@ -28,7 +28,7 @@ use Rattle.pseudo_opt.specs.Places.{found}
 use Rattle.pseudo_opt.specs.declared.Found.{Found}
 use Rattle.pseudo_opt.specs.declared.Found.the-variants.{At, Nothing}
 use Rattle.pieces.specs.Pieces.{piece, origin, cut-place, jumped, text-before}
-use Rattle.pieces.specs.Leading.{leading, test-at, tested, first-of}
+use Rattle.pieces.specs.Leading.{test-at, tested, first-of}
 use Rattle.pieces.proofs.Forms.{kept-piece, continued-piece, broken-piece, closed-piece, place-within}
 use Rattle.pieces.proofs.Backs.{text-append, split}
 

@@ -11,13 +11,13 @@ use mathlib.Core.Bool.{Bool, true, false, cond, _&&_, _||_, not}
 use mathlib.Core.List.{List, [], _∷_, _++_, append-nil}
 use mathlib.Core.Option.{Option, none, some}
 use borrow.Author.Tests.{lt-ltb}
-use lib.Dec.{eqb, ltb}
+use lib.Dec.{eqb}
 use lib.ListN.{drop, getD, getElem?}
 use Rattle.definitions.specs.Lists.{_>>=_, require, is-some, or-else, any, position, position-from, first, last, filter, part, on-first, on-last, _==_, starts-with, ascii}
 use Rattle.definitions.specs.Model.{Token, Line, tok, no-token, pseudo-line, line, token, text, Keyword, Punct}
 use Rattle.definitions.specs.Family.{Family, fam-of, names}
 use Rattle.definitions.specs.Statements.{Assignment, is-kw, is-empty, call-at, assignment}
-use Rattle.definitions.specs.Condition.{cut-front, cut-end, cut, closing, condition}
+use Rattle.definitions.specs.Condition.{cut-front, cut-end, closing, condition}
 use Rattle.definitions.specs.ToFor.{initialiser, for-loop}
 use Rattle.definitions.specs.Passes.{while-head}
 use Rattle.family.specs.Register.{names-family}

@@ -2,11 +2,10 @@
 --   symbol-past, symbol-found, symbol-next, symbol-end    the loop of `first_symbol`
 --   goto-none, goto-some                                  the first goto, and the symbol behind it
 --   target-none, target-some                              the text of that symbol
---   targets-goto, targets-other, targets-end              every goto of a line: for callers that go through its tokens
 -- Assumes nothing.
 use mathlib.Core.Path.{_≡_, refl, sym, _∙_}
 use mathlib.Core.Bool.{Bool, true, false, cond}
-use mathlib.Core.List.{List, [], _∷_}
+use mathlib.Core.List.{List, []}
 use mathlib.Core.Option.{Option, none, some}
 use Prim.Native.Nat.{ℕ, _+_, _≤_, _<_}
 use native.Mathlib.Omega.{arith}
@@ -14,7 +13,7 @@ use lib.Dec.{eqb}
 use lib.ListN.{length, getD, drop}
 use Rattle.definitions.specs.Lists.{_>>=_, or-else, position, find, ascii}
 use Rattle.definitions.specs.Model.{Token, Line, no-token, token, Symbol}
-use Rattle.definitions.specs.Statements.{is-kw, first-symbol, goto-target, targets}
+use Rattle.definitions.specs.Statements.{is-kw, first-symbol, goto-target}
 use Rattle.text.proofs.Parts.{drop-step, drop-end}
 use Rattle.pseudo_opt.specs.Places.{found, text-at}
 use Rattle.pseudo_opt.specs.declared.Found.{Found}
@@ -44,26 +43,6 @@ module _ (ts : List Token) (n : ℕ) (e : n ≡ length ts) where
     pub symbol-end : n ≤ j → none ≡ r
     unfolding first-symbol find
     symbol-end h = sym (inv ∙ rw (drop-end ts j (omega arith)))
-
--- Every goto of a line, from token j on
-
-module _ (ts : List Token) (j : ℕ) where
-  targets-step : j < length ts
-      → targets (drop j ts)
-      ≡ cond (is-kw (ascii "goto") (getD ts j no-token)) (first-symbol (drop (j + 1) ts) ∷ targets (drop (j + 1) ts)) (targets (drop (j + 1) ts))
-  unfolding targets
-  targets-step h = rw (drop-step no-token ts j)
-
-  module _ (h : j < length ts) (b : Bool) (q : b ≡ is-kw (ascii "goto") (getD ts j no-token)) where
-    pub targets-goto : b ≡ true → targets (drop j ts) ≡ first-symbol (drop (j + 1) ts) ∷ targets (drop (j + 1) ts)
-    targets-goto f = targets-step h ∙ rw (← q, f)
-
-    pub targets-other : b ≡ false → targets (drop j ts) ≡ targets (drop (j + 1) ts)
-    targets-other f = targets-step h ∙ rw (← q, f)
-
-  pub targets-end : length ts ≤ j → targets (drop j ts) ≡ []
-  unfolding targets
-  targets-end h = rw (drop-end ts j h)
 
 -- The first goto of a line
 

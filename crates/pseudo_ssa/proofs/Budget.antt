@@ -3,31 +3,30 @@
 --   within-enough     with a budget of 4,294,967,295 sweeps the call is that without one
 --   of-limits         with question 1's limits it is the web call
 -- Assumes nothing.
-use Prim.Native.Nat.{ℕ, zero, suc, _+_, _-_, _*_, _≤_}
-use mathlib.Core.Path.{_≡_, refl, sym, ap, _∙_}
-use mathlib.Core.Bool.{Bool, true, false, cond, not, _&&_}
+use Prim.Native.Nat.{ℕ, suc, _+_, _-_, _*_, _≤_}
+use mathlib.Core.Path.{_≡_, refl}
+use mathlib.Core.Bool.{Bool, true, false, cond, not}
 use mathlib.Core.List.{List, [], _∷_, map}
 use mathlib.Core.Option.{Option, none, some}
 use native.Mathlib.Omega.{arith}
-use native.Mathlib.Nat.{suc-mul, mul-le-mul-left, mul-le-mul-right}
+use native.Mathlib.Nat.{suc-mul, mul-le-mul-right}
 use borrow.Author.Tests.{le-leb, leb-true}
 use lib.Dec.{leb}
 use lib.ListN.{length, length-map}
-use Rattle.definitions.specs.Lists.{_>>=_, require, or-else, filter, fold, up-to, range}
+use Rattle.definitions.specs.Lists.{_>>=_, require, or-else, filter, fold}
 use Rattle.definitions.specs.Model.{Line}
 use Rattle.definitions.specs.Columns.{listing}
 use Rattle.definitions.specs.Questions.{Limits, limits, question-1}
 use Rattle.definitions.specs.FlowGraph.{flow-graph}
-use Rattle.definitions.specs.Recover.{Webs, def-lines, address-taken, webs-of, defined-families, recover, total-sweeps}
-use Rattle.definitions.specs.Answers.{Answer, refused, accepted, Numbered, webs-refusal, webs}
+use Rattle.definitions.specs.Recover.{def-lines, address-taken, webs-of, defined-families, recover, total-sweeps}
+use Rattle.definitions.specs.Answers.{Answer, refused, Numbered, webs-refusal, webs}
 use Rattle.definitions.specs.Calls.{Lent, Called, webs-written, web-call}
 use Rattle.theory.proofs.ListLaws.{length-range}
 use Rattle.theory.proofs.Sweeping.{sweeps-count}
-use Rattle.theory.proofs.Graph.{predecessor-lists, predecessors-length}
-use Rattle.theory.proofs.Accepted.{accepted-flow, accepted-lines, all-webs}
+use Rattle.theory.proofs.Graph.{predecessor-lists}
+use Rattle.theory.proofs.Accepted.{all-webs}
 use Rattle.model.proofs.Ands.{both}
 use Rattle.model.proofs.Decode.{length-listing}
-use Rattle.families.specs.Families.{families-before}
 use Rattle.families.proofs.Numbered.{families-all, families-few}
 use Rattle.pseudo_ssa.proofs.Asking.{refusal-yes}
 use Rattle.pseudo_ssa.proofs.Written.{accepted-webs, refused-webs}

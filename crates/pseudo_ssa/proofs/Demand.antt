@@ -6,7 +6,7 @@ use Prim.Native.Nat.{ℕ}
 use mathlib.Core.Path.{_≡_, sym, ap, subst, _∙_}
 use mathlib.Core.List.{List}
 use Rattle.definitions.specs.Columns.{listing}
-use Rattle.definitions.specs.Answers.{Answer, accepted}
+use Rattle.definitions.specs.Answers.{accepted}
 use Rattle.definitions.specs.Calls.{Lent, Called, web-call}
 use Rattle.theory.proofs.Called.{Demand-3-of, web-call-demand}
 use Rattle.pseudo_ssa.specs.declared.Webs.{Webs}

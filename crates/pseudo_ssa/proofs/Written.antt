@@ -8,8 +8,8 @@
 --   space-swapped            what the working space held at first does not matter
 --   within-answered, within-refused    questions 1 to 5
 -- Assumes nothing.
-use Prim.Native.Nat.{ℕ, zero, suc, _+_, _-_, _≤_, _<_}
-use mathlib.Core.Path.{_≡_, refl, sym, ap, ap₂, _∙_}
+use Prim.Native.Nat.{ℕ, zero, suc, _≤_, _<_}
+use mathlib.Core.Path.{_≡_, refl, sym, ap, _∙_}
 use mathlib.Core.Logic.{_≢_}
 use mathlib.Core.Bool.{Bool, true, false}
 use mathlib.Core.List.{List, [], _++_}
@@ -18,7 +18,7 @@ use native.Mathlib.Omega.{arith}
 use native.Mathlib.Numerals.{unary-clauses}
 use borrow.Author.Tests.{leb-true, lt-leb}
 use lib.Dec.{leb}
-use lib.ListN.{length, take, drop, replicate, length-append, length-take, length-drop}
+use lib.ListN.{length, take, drop, length-append, length-take, length-drop}
 use lib.Seq.{take-append-seam}
 use Rattle.definitions.specs.Lists.{or-else}
 use Rattle.definitions.specs.Model.{Line}
@@ -26,7 +26,7 @@ use Rattle.definitions.specs.Columns.{listing}
 use Rattle.definitions.specs.Questions.{Limits}
 use Rattle.definitions.specs.Recover.{recover}
 use Rattle.definitions.specs.Answers.{Answer, refused, accepted, Numbered, numbered-webs, webs-refusal, webs}
-use Rattle.definitions.specs.Calls.{Lent, Called, zeros, filled, webs-written}
+use Rattle.definitions.specs.Calls.{zeros, filled, webs-written}
 use Rattle.bits.specs.Edges.{row-words}
 use Rattle.text.specs.Zeroed.{zeroed}
 use Rattle.questions.specs.Refusals.{refused as asked-refused}

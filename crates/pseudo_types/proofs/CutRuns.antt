@@ -18,7 +18,7 @@ use native.Mathlib.Numerals.{add-one}
 use native.Mathlib.Nat.{sub-zero}
 use borrow.Author.Tests.{eq-eqb, ne-eqb}
 use lib.Dec.{eqb}
-use lib.ListN.{length, take, drop, getD, length-drop, drop-of-length-le}
+use lib.ListN.{length, drop, getD, length-drop, drop-of-length-le}
 use lib.Seq.{drop-cons, take-all}
 use Rattle.definitions.specs.Lists.{part, range, filter, any, position, on-first, on-last, or-else, _==_, starts-with, ascii}
 use Rattle.definitions.specs.Model.{Token, Line, tok, no-token, token}

@@ -7,13 +7,12 @@
 use mathlib.Core.Path.{_≡_, refl, sym, ap, ap₂, subst, _∙_}
 use mathlib.Core.Bool.{Bool, true, false, not, cond}
 use mathlib.Core.List.{List, [], _∷_, _++_, append-nil}
-use mathlib.Core.Option.{none}
 use Prim.Native.Nat.{ℕ, zero, suc, _+_, _-_, _≤_, _<_}
 use native.Mathlib.Omega.{arith}
 use lib.ListN.{length, take, drop, getD, length-append, length-drop, drop-of-length-le}
 use lib.Seq.{take-append-add, drop-append-le, getD-drop}
 use Rattle.definitions.specs.Lists.{part, filter, on-first, on-last, _==_, ascii}
-use Rattle.definitions.specs.Model.{Token, Line, tok, no-token, token, text}
+use Rattle.definitions.specs.Model.{Token, Line, no-token, text}
 use Rattle.definitions.specs.Statements.{is-empty}
 use Rattle.definitions.specs.Condition.{cut-front, cut-end, cut, condition}
 use Rattle.definitions.specs.ToFor.{is-step}

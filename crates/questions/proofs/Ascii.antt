@@ -4,17 +4,15 @@
 --   ascii-tokens                  where the whole text is such, question 3 is answered yes
 --   bounds                        the rules
 -- Assumes nothing.
-use mathlib.Core.Path.{_≡_, refl, sym, _∙_}
-use mathlib.Core.Bool.{Bool, true, false, _&&_}
+use mathlib.Core.Path.{_≡_, refl, sym}
+use mathlib.Core.Bool.{true}
 use mathlib.Core.List.{List, [], _∷_}
-use Prim.Native.Nat.{ℕ, zero, suc, _+_, _-_, _/_, _≤_, _<_, min}
+use Prim.Native.Nat.{ℕ, suc, _+_, _/_, _≤_, _<_}
 use native.Mathlib.Omega.{arith}
 use native.Mathlib.Decide.{decLt}
-use lib.ListN.{length, getD, take, drop}
-use lib.Seq.{getD-take, getD-drop}
+use lib.ListN.{length, getD}
 use Rattle.definitions.specs.Lists.{all, part}
-use Rattle.definitions.specs.Model.{Token}
-use Rattle.definitions.specs.Columns.{pieces, token-of, token-list}
+use Rattle.definitions.specs.Columns.{pieces, token-of}
 use Rattle.definitions.specs.Utf8.{utf8-after, is-utf8}
 use Rattle.definitions.specs.Questions.{question-3}
 use Rattle.text.proofs.CodePoints.{following-1}

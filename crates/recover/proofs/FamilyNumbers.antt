@@ -12,7 +12,7 @@ use mathlib.Core.Bool.{Bool, true, _&&_}
 use mathlib.Core.List.{List, [], _∷_, map}
 use native.Mathlib.Omega.{arith}
 use lib.ListN.{length, getD}
-use Rattle.definitions.specs.Lists.{any, filter, fold, range, up-to, member, or-else, first}
+use Rattle.definitions.specs.Lists.{any, filter, range, up-to, member, or-else, first}
 use Rattle.definitions.specs.Model.{Line, line}
 use Rattle.definitions.specs.Sweeps.{incoming, sweeps}
 use Rattle.definitions.specs.Recover.{is-def-of, def-lines, read-lines, webs-of, web-number, read-number}

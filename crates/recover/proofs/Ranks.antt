@@ -1,7 +1,7 @@
 -- Counting the definitions that are their own representative, from the front.
 --   earlier-zero, earlier-next    none before definition 0; one more behind a definition that is its own representative
 -- Assumes nothing.
-use Prim.Native.Nat.{ℕ, zero, suc, _+_, _-_, _<_, _≤_}
+use Prim.Native.Nat.{ℕ, zero, suc, _+_, _<_, _≤_}
 use mathlib.Core.Path.{_≡_, refl, ap, _∙_}
 use mathlib.Core.Bool.{Bool, true, false, cond, _&&_, and-true, and-false}
 use mathlib.Core.List.{List, _∷_}

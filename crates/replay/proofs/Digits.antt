@@ -4,14 +4,13 @@
 --   digits-more, digits-over, digits-beyond, digits-end    the loop of `digits`
 --   number-found, number-empty, number-beyond    the answers of `number`
 -- Assumes nothing.
-use mathlib.Core.Path.{_≡_, refl, sym, _∙_}
+use mathlib.Core.Path.{_≡_, sym, _∙_}
 use mathlib.Core.Bool.{Bool, true, false}
-use mathlib.Core.List.{List, []}
+use mathlib.Core.List.{List}
 use Prim.Native.Nat.{ℕ, _+_, _*_, _-_, _/_, _≤_, _<_}
 use native.Mathlib.Omega.{arith}
 use borrow.Author.Tests.{le-leb, lt-leb, lt-ltb, le-ltb}
 use lib.ListN.{length, getD, drop}
-use lib.Dec.{leb}
 use Rattle.text.proofs.Parts.{drop-step, drop-end}
 use Rattle.replay.specs.declared.decimal.Found.{Found}
 use Rattle.replay.specs.declared.decimal.Found.the-variants.{Number, Bad}

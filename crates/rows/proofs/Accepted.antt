@@ -4,7 +4,7 @@
 --   printed                                 what has room is printed
 -- Assumes nothing.
 use Prim.Native.Nat.{ℕ, _≤_}
-use mathlib.Core.Path.{_≡_, refl, _∙_}
+use mathlib.Core.Path.{_≡_, refl}
 use mathlib.Core.Bool.{Bool, true, false}
 use mathlib.Core.List.{List, _∷_}
 use mathlib.Core.Option.{Option, none, some}
@@ -12,7 +12,7 @@ use native.Mathlib.Omega.{arith}
 use lib.ListN.{length}
 use Rattle.definitions.specs.Columns.{listing}
 use Rattle.definitions.specs.Questions.{limits, question-1, question-2, refusal}
-use Rattle.definitions.specs.Answers.{Answer, refused, accepted, webs, splits, choose}
+use Rattle.definitions.specs.Answers.{refused, accepted, webs, splits, choose}
 use Rattle.definitions.specs.Calls.{Lent, Called, Chosen, written, web-refusal, split-refusal, webs-written, chosen-written, web-call, split-call, choose-call}
 use Rattle.json_append.specs.Appended.{Appended}
 use Rattle.rows.specs.Rows.{Printed}

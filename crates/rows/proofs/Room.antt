@@ -5,32 +5,31 @@
 --   refused-short      a refusal
 -- Assumes nothing.
 use Prim.Native.Nat.{ℕ, zero, suc, _+_, _*_, _-_, _/_, _%_, _≤_, _<_}
-use mathlib.Core.Path.{_≡_, refl}
-use mathlib.Core.Bool.{Bool, true, false, cond, _&&_}
+use mathlib.Core.Path.{_≡_}
+use mathlib.Core.Bool.{true, _&&_}
 use mathlib.Core.List.{List, [], _∷_, _++_, map}
 use mathlib.Core.Option.{Option, none, some}
 use native.Mathlib.Nat.{add-zero}
-use native.Mathlib.Numerals.{add-one}
 use native.Mathlib.Omega.{arith}
 use borrow.Author.Tests.{ltb-false, leb-true}
 use mir.Val.{Fits}
 use mir.Syntax.{w32}
 use lib.Dec.{eqb, ltb, leb}
-use lib.ListN.{length, take, drop, getD, length-append, length-take, length-drop}
-use Rattle.definitions.specs.Lists.{_>>=_, part, concat, range, ascii, position, take-while, starts-with, _==_}
+use lib.ListN.{length, drop, getD, length-append, length-take, length-drop}
+use Rattle.definitions.specs.Lists.{_>>=_, part, concat, range, ascii, position, starts-with, _==_}
 use Rattle.definitions.specs.Model.{Token, tok, no-token, Register}
 use Rattle.definitions.specs.Columns.{token-list}
-use Rattle.definitions.specs.Family.{Family, widths, legacy, legacy-family, digits, suffix-width, is-high, is-numbered, numbered-family, other-family, family, fam-of}
+use Rattle.definitions.specs.Family.{Family, legacy, legacy-family, digits, suffix-width, is-high, is-numbered, other-family, family, fam-of}
 use Rattle.definitions.specs.Questions.{covers}
 use Rattle.loop_theory.proofs.Cases.{if-has, case-has, and-split}
 use Rattle.loop_theory.proofs.Places.{take-while-shorter}
 use Rattle.definitions.specs.Answers.{no-family}
 use Rattle.model.specs.Places.{start-from, token-start, line-start, line-end}
-use Rattle.model.proofs.Decode.{start-zero, token-at}
+use Rattle.model.proofs.Decode.{token-at}
 use Rattle.model.proofs.Formed.{formed-lines, formed-tokens, line-order, line-within, token-order, token-within}
 use Rattle.text.proofs.Parts.{length-part}
 use Rattle.json_definitions.specs.Writer.{digits-of, decimal}
-use Rattle.rows.specs.Rows.{name-of, number-text, place-text, mark-text, web-text, row-text, token-row, rows, row-at, line-rows, all-rows, refused-text, Short}
+use Rattle.rows.specs.Rows.{name-of, number-text, place-text, mark-text, web-text, row-text, token-row, row-at, line-rows, all-rows, refused-text, Short}
 
 -- Digits
 

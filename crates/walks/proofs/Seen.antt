@@ -8,16 +8,16 @@
 use Prim.Native.Nat.{ℕ, zero, suc, _+_, _-_, _/_, _%_, _<_, _≤_}
 use mathlib.Core.Path.{_≡_, refl, sym, ap, _∙_}
 use mathlib.Core.Logic.{_⊎_, inl, inr}
-use mathlib.Core.Bool.{Bool, true, false, cond, _||_}
+use mathlib.Core.Bool.{Bool, true, false, cond}
 use mathlib.Core.List.{List, [], _∷_, _++_}
 use mathlib.Core.Option.{Option, none, some}
 use native.Mathlib.Omega.{arith}
 use lib.Dec.{eqb, ltb}
-use borrow.Author.Tests.{eqb-true, eq-eqb, ne-eqb, lt-ltb, le-ltb, ltb-true}
+use borrow.Author.Tests.{eqb-true, eq-eqb, ne-eqb, lt-ltb, ltb-true}
 use lib.ListN.{length, getD, set, take, drop, length-drop}
 use lib.Seq.{getD-drop, getD-set-same, getD-set-other}
 use Rattle.definitions.specs.Lists.{any, filter, range, is-some}
-use Rattle.definitions.specs.Model.{Token, Line, no-token, token, line}
+use Rattle.definitions.specs.Model.{Token, Line, no-token, line}
 use Rattle.definitions.specs.Family.{names}
 use Rattle.definitions.specs.Statements.{defines}
 use Rattle.definitions.specs.Columns.{token-list, listing}

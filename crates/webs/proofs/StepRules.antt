@@ -12,9 +12,9 @@ use mathlib.Core.List.{List}
 use native.Mathlib.Omega.{arith}
 use lib.Dec.{eqb}
 use borrow.Author.Tests.{le-leb}
-use lib.ListN.{length, getD, take}
+use lib.ListN.{length, getD}
 use Rattle.definitions.specs.Lists.{any, _==_}
-use Rattle.definitions.specs.Model.{Line, line}
+use Rattle.definitions.specs.Model.{Line}
 use Rattle.definitions.specs.Columns.{listing}
 use Rattle.definitions.specs.Recover.{read-lines, address-taken, defined-families, key}
 use Rattle.definitions.specs.Demand3.{defines-at}

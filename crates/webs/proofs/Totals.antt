@@ -18,7 +18,6 @@ use Rattle.definitions.specs.Columns.{listing}
 use Rattle.definitions.specs.Recover.{Webs, webs-of, address-taken, defined-families, total-sweeps}
 use Rattle.definitions.specs.Answers.{numbered-webs, no-family, per-token}
 use Rattle.theory.proofs.Bools.{lt-or-ge}
-use Rattle.model.proofs.Decode.{length-listing}
 use Rattle.bits.specs.Edges.{preds-of}
 use Rattle.sweep.specs.declared.Sweeps.{Sweeps}
 use Rattle.sweep.specs.declared.Sweeps.the-variants.{Done, OverBudget}

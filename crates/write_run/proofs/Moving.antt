@@ -3,15 +3,15 @@
 --   starts-rise               tokens start one behind the other
 --   run-words                 the words of the tokens of a run, behind so many bytes
 -- Assumes nothing.
-use mathlib.Core.Path.{_≡_, refl, sym, ap, ap₂, _∙_}
+use mathlib.Core.Path.{_≡_, refl, sym, ap₂, _∙_}
 use native.Mathlib.Numerals.{add-one}
 use mathlib.Core.Bool.{true}
 use mathlib.Core.List.{List, [], _∷_, _++_, map}
-use Prim.Native.Nat.{ℕ, zero, suc, _+_, _-_, _*_, _/_, _%_, _≤_, _<_}
+use Prim.Native.Nat.{ℕ, zero, suc, _+_, _-_, _*_, _/_, _≤_, _<_}
 use native.Mathlib.Omega.{arith}
 use lib.ListN.{length, take, getD, set, length-map}
 use Rattle.definitions.specs.Lists.{part}
-use Rattle.definitions.specs.Model.{Token, tok, no-token, text}
+use Rattle.definitions.specs.Model.{Token, no-token, text}
 use Rattle.definitions.specs.Columns.{token-list, token-words-from}
 use Rattle.definitions.specs.Questions.{covers}
 use Rattle.text.proofs.Parts.{part-step, part-none, length-part}

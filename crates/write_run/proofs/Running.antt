@@ -5,22 +5,20 @@
 use mathlib.Core.Path.{_≡_, refl, sym, ap, subst, _∙_}
 use mathlib.Core.Bool.{true}
 use mathlib.Core.List.{List, [], _∷_, _++_, map, append-nil, append-assoc}
-use mathlib.Core.Option.{Option·map}
 use Prim.Native.Nat.{ℕ, suc, _+_, _-_, _/_, _%_, _≤_, _<_}
-use native.Mathlib.Nat.{zero-add}
 use native.Mathlib.Omega.{arith}
 use lib.ListN.{length, take, getD, length-append}
-use Rattle.definitions.specs.Lists.{or-else, last, part}
+use Rattle.definitions.specs.Lists.{last, part}
 use Rattle.definitions.specs.Model.{Token, no-token, text}
 use Rattle.definitions.specs.Columns.{token-list, token-words-from, all-tokens}
 use Rattle.definitions.specs.Questions.{covers}
 use Rattle.definitions.specs.Calls.{Columns}
-use Rattle.text.proofs.Parts.{length-part, part-step, part-get}
+use Rattle.text.proofs.Parts.{length-part, part-get}
 use Rattle.model.specs.Places.{token-start, start-from}
 use Rattle.model.proofs.Decode.{start-pred, token-at, length-tokens}
 use Rattle.model.proofs.Formed.{run-text, token-within}
 use Rattle.write.specs.State.{State, add-bytes, last-kind, written-tokens, written-bytes}
-use Rattle.write.specs.Holds.{columns, Filled, Held, Room, Holds, Writes}
+use Rattle.write.specs.Holds.{columns, Filled, Held, Room, Writes}
 use Rattle.write.specs.declared.Cursor.{Cursor}
 use Rattle.write.proofs.Words.{text-append, length-token-words}
 use Rattle.write_run.specs.Runs.{moved, add-run, Runs}

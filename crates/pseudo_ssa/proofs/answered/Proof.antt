@@ -1,6 +1,5 @@
 -- `pseudo_ssa::answered` meets its contract. Assumes nothing.
 use mathlib.Core.Path.{refl, ap, _∙_}
-use native.Mathlib.Omega.{arith}
 use borrow.Author.Needs.{needs}
 use denote.Ref.{now}
 use lib.ListN.{length}

@@ -1,6 +1,5 @@
 -- `append_pieces::tokens::add_kept` meets its contract. The tokens of a line stand one behind the other.
 -- Assumes nothing.
-use native.Mathlib.Omega.{arith}
 use borrow.Author.Needs.{needs}
 use Rattle.model.proofs.Formed.{formed-tokens}
 use Rattle.append_pieces.proofs.Kept.{kept-none, kept-run}
