@@ -139,12 +139,18 @@ fn mark_all_in(
     mark_lines(lines, tokens, text, heads, nexts, far);
 }
 
-// The gotos of every line, the labels looked for first.
+// The gotos of every line, the labels looked for first; of a short listing with shorter columns, since to zero them costs most.
 fn mark_all(lines: &[u32], tokens: &[u32], text: &[u8], far: &mut [u16])
     requires { ⌜ (length (now lines) ≤ length (now far)) × (length (now far) ≤ 1024) ⌝ }
     ensures { λ _. ⌜ Marked (now (far .entry)) (now (far .exit)) (all-jumps (listing (now (lines .entry)) (now (tokens .entry)) (now (text .entry)))) ⌝ }
 {
-    let mut heads = [0u16; 256];
+    if lines.len() <= 64 {
+        let mut heads = [0u16; 256];
+        let mut nexts = [0u16; 64];
+        mark_all_in(lines, tokens, text, &mut heads, &mut nexts, far);
+        return;
+    }
+    let mut heads = [0u16; 1024];
     let mut nexts = [0u16; 1024];
     mark_all_in(lines, tokens, text, &mut heads, &mut nexts, far);
 }

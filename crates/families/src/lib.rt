@@ -4,7 +4,7 @@
 //
 // The hash is that of crate names, modulo 247. Where a family joins a chain of 16 or more, all chains are made anew by a multiplier drawn from
 // the text: that hashes each family once more and passes over the text once. That the chains are short is measured, not proved: by the first
-// multiplier r0 to r99 and the legacy names have a chain each, and no chain of r0 to r1014 has more than 7.
+// multiplier r8 to r15 and the legacy names have a chain each, and no chain of r0 to r1014 has more than 9.
 //
 // The table, one lent slice:
 //   words [0, 247)         1 + the last family of each hash, 0 for none
@@ -37,7 +37,7 @@ use words::word;
 use words::zero;
 
 // The first multiplier.
-const FIRST: u16 = 26211;
+const FIRST: u16 = 4339;
 
 // The second byte of the name of each row; the first is `r`.
 const SECONDS: [u8; 8] = *b"abcdsdbs";

@@ -171,7 +171,7 @@ fn flow_graph_long(lines: &[u32], tokens: &[u32], text: &[u8], space: &mut [u64]
     let mut ends = [0u16; 1024];
     let mut parents = [0u16; 1024];
     let mut counts = [0usize; 1024];
-    let mut heads = [0u16; 256];
+    let mut heads = [0u16; 1024];
     let mut nexts = [0u16; 1024];
     line_keywords::masks(lines, tokens, text, &mut masks);
     flow_graph_in(

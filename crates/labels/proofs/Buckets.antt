@@ -1,5 +1,5 @@
 -- Labels in buckets.
---   bucket-is                                              `bucket`
+--   size-few, size-many, size-room, bucket-few, bucket-many, bucket-is    `size`, `bucket_of`, `bucket`
 --   behind-none, behind-equal, behind-other                what is put behind a label
 --   empty-next                                             the loop of `empty`
 --   indexed-start, indexed-label, indexed-other            the buckets before the first line, after a label, after another line
@@ -14,7 +14,9 @@ use mathlib.Core.Option.{Option, none, some}
 use native.Mathlib.Numerals.{add-one}
 use native.Mathlib.Decide.{ℕ-discrete}
 use native.Mathlib.Omega.{arith}
-use lib.ListN.{length, getD, set, take}
+use lib.Dec.{ltb}
+use borrow.Author.Tests.{lt-ltb, le-ltb, ltb-false}
+use lib.ListN.{length, getD, set, take, length-set}
 use lib.Seq.{getD-set-same, getD-set-other, take-all}
 use Rattle.definitions.specs.Lists.{find, last-position, _==_}
 use Rattle.definitions.specs.Model.{Line, line, no-line, token}
@@ -23,19 +25,52 @@ use Rattle.definitions.specs.FlowGraph.{label-line}
 use Rattle.text.proofs.Texts.{==-eq, ne-==}
 use Rattle.text.proofs.Loops.{last-found, last-next}
 use Rattle.names.specs.Hash.{hash}
-use Rattle.labels.specs.Buckets.{bucket, lookup, behind, Follows, Indexed}
+use Rattle.labels.specs.Buckets.{size, bucket, lookup, behind, Follows, Indexed}
 use Rattle.blocks.specs.Entries.{linked}
 use Rattle.blocks.proofs.Links.{get-set, linked-set, linked-fuel}
 
 -- The bucket of a name
 
-pub bucket-is : (m h : ℕ) (s : List ℕ) → h ≡ hash m s → h % 255 ≡ bucket m s
-unfolding bucket
-bucket-is m h s e = rw e
+module _ (n : ℕ) where
+  pub size-few : n < 1024 → size n ≡ 255
+  unfolding size
+  size-few h = rw (lt-ltb n 1024 h)
 
-bucket-low : (m : ℕ) (s : List ℕ) → bucket m s < 255
+  pub size-many : 1024 ≤ n → size n ≡ 1023
+  unfolding size
+  size-many h = rw (le-ltb n 1024 h)
+
+  -- there is room for the buckets and the multiplier
+  pub size-room : 256 ≤ n → size n < n
+  unfolding size
+  size-room h = go (ltb n 1024) refl
+    where
+      go : (b : Bool) → ltb n 1024 ≡ b → cond b 255 1023 < n
+      go true e = omega arith
+      go false e = omega (arith, ltb-false n 1024 e)
+
+module _ (n h : ℕ) where
+  pub bucket-few : n < 1024 → h % 255 ≡ h % size n
+  bucket-few g = rw (size-few n g)
+
+  pub bucket-many : 1024 ≤ n → h % 1023 ≡ h % size n
+  bucket-many g = rw (size-many n g)
+
+bucket-low : (hs s : List ℕ) → bucket hs s < size (length hs)
+unfolding bucket size
+bucket-low hs s = go (ltb (length hs) 1024)
+  where
+    go : (b : Bool) → hash (getD hs (cond b 255 1023) 0) s % cond b 255 1023 < cond b 255 1023
+    go true = omega arith
+    go false = omega arith
+
+pub bucket-is : (hs s : List ℕ) (c h r : ℕ) → c ≡ size (length hs) → h ≡ hash (getD hs c 0) s → r ≡ h % size (length hs) → 256 ≤ length hs
+    → (r ≡ bucket hs s) × (r < size (length hs)) × (r < length hs)
 unfolding bucket
-bucket-low m s = omega arith
+bucket-is hs s c h r e g q room =
+    let is : r ≡ bucket hs s = q ∙ rw (g, e) in
+    let low : r < size (length hs) = rw is (bucket-low hs s) in
+    (is, low, omega (arith, size-room (length hs) room))
 
 -- The last of equal labels
 
@@ -101,24 +136,25 @@ module _ (L : List Line) (ns s : List ℕ) (p : ℕ) where
 pub empty-next : (hs : List ℕ) (k : ℕ) → ((b : ℕ) → b < k → getD hs b 0 ≡ 0) → k < length hs → (b : ℕ) → b < k + 1 → getD (set hs k 0) b 0 ≡ 0
 empty-next hs k e h b g = get-set hs k b 0 h (λ v. v ≡ 0) (λ z. refl) (λ z. e b (omega arith))
 
--- the bucket of s for the multiplier that hs has
-abbrev bucket-in : List ℕ → List ℕ → ℕ
-bucket-in hs s = bucket (getD hs 255 0) s
+-- a label in a bucket leaves every bucket's place
+bucket-kept : (hs : List ℕ) (b x : ℕ) (s : List ℕ) → b < size (length hs) → bucket (set hs b x) s ≡ bucket hs s
+unfolding bucket
+bucket-kept hs b x s h = rw (length-set, getD-set-other hs b (size (length hs)) x 0 (λ z. omega arith))
 
 module _ (L : List Line) (hs ns : List ℕ) where
-  pub indexed-start : (m : ℕ) → ((b : ℕ) → b < 255 → getD hs b 0 ≡ 0) → Indexed L (set hs 255 m) ns 0
+  pub indexed-start : (m c : ℕ) → c ≡ size (length hs) → ((b : ℕ) → b < size (length hs) → getD hs b 0 ≡ 0) → Indexed L (set hs c m) ns 0
   unfolding lookup linked find label-line last-position
-  indexed-start m e = record {
-    below = λ b g. rw (getD-set-other hs 255 b m 0 (λ z. omega arith), e b g) (omega arith);
+  indexed-start m c q e = record {
+    below = λ b g. let h : b < size (length hs) = rw length-set at g in rw (getD-set-other hs c b m 0 (λ z. omega arith), e b h) (omega arith);
     back = λ j g. absurd (omega arith);
     found = λ s. refl;
   }
 
-  pub lookup-start : (n : ℕ) → Indexed L hs ns n → n ≡ length L → (s : List ℕ) (p : ℕ) → p ≡ getD hs (bucket-in hs s) 0
+  pub lookup-start : (n : ℕ) → Indexed L hs ns n → n ≡ length L → (s : List ℕ) (p : ℕ) → p ≡ getD hs (bucket hs s) 0
       → (p ≤ n) × (label-line L s ≡ lookup L ns p p s)
   unfolding lookup
   lookup-start n I e s p q =
-      let b : p ≤ n = rw q (I .below (bucket-in hs s) (bucket-low _ s)) in (
+      let b : p ≤ n = rw q (I .below (bucket hs s) (bucket-low hs s)) in (
         b,
         ap (λ (M : List Line). label-line M s) (sym (take-all n L (omega arith))) ∙ sym (I .found s)
             ∙ rw (← q) (ap (find (λ h. label (line L h) == s)) (linked-fuel ns n p p b (omega arith) (λ j g. I .back j (omega arith)))),
@@ -130,11 +166,11 @@ module _ (L : List Line) (hs ns : List ℕ) where
         linked-set ns i v k p b (λ j q. I .back j (omega arith)) ∙ linked-fuel ns k i p c b (λ j q. I .back j (omega arith))
 
     -- a bucket that is left alone holds what it held
-    kept : (v : ℕ) (s : List ℕ) → lookup L (set ns i v) (i + 1) (getD hs (bucket-in hs s) 0) s ≡ label-line (take i L) s
+    kept : (v : ℕ) (s : List ℕ) → lookup L (set ns i v) (i + 1) (getD hs (bucket hs s) 0) s ≡ label-line (take i L) s
     unfolding lookup
     kept v s =
-        let b = I .below (bucket-in hs s) (bucket-low _ s) in
-        ap (find (λ h. label (line L h) == s)) (walk v (i + 1) (getD hs (bucket-in hs s) 0) b (omega arith)) ∙ I .found s
+        let b = I .below (bucket hs s) (bucket-low hs s) in
+        ap (find (λ h. label (line L h) == s)) (walk v (i + 1) (getD hs (bucket hs s) 0) b (omega arith)) ∙ I .found s
 
     pub indexed-other : (t : Bool) → t ≡ is-label (line L i) → t ≡ false → Indexed L hs (set ns i 0) (i + 1)
     indexed-other t u v = record {
@@ -167,44 +203,44 @@ module _ (L : List Line) (hs ns : List ℕ) where
             ∙ rw o (ap (find (λ h. label (line L h) == s)) (linked-fuel ns (i - 1) i (getD ns j 0) (omega arith) (omega arith) (λ a q. I .back a (omega arith)))))
         go false z = refl
 
-    pub indexed-label : is-label (line L i) ≡ true → (b : ℕ) (x : List ℕ) → b ≡ bucket-in hs x → x ≡ label (line L i) → 256 ≤ length hs → (p : ℕ) → Follows L ns x (getD hs b 0) p
+    pub indexed-label : is-label (line L i) ≡ true → (b : ℕ) (x : List ℕ) → b ≡ bucket hs x → x ≡ label (line L i) → 256 ≤ length hs → (p : ℕ) → Follows L ns x (getD hs b 0) p
         → Indexed L (set hs b (i + 1)) (set ns i p) (i + 1)
     unfolding lookup linked find
     indexed-label u b x q y m p r = record {
-      below = λ x a. get-set hs b x (i + 1) inside (λ v. v ≤ i + 1) (λ z. omega arith) (λ z. omega (arith, I .below x a));
+      below = λ x a. get-set hs b x (i + 1) inside (λ v. v ≤ i + 1) (λ z. omega arith) (λ z. omega (arith, I .below x (rw length-set at a)));
       back = λ j a. get-set ns i j p g (λ v. v ≤ j) (λ z. omega (arith, small)) (λ z. I .back j (omega arith));
-      found = λ s. rw (getD-set-other hs b 255 (i + 1) 0 (λ z. omega (arith, low))) (go s (ℕ-discrete (bucket-in hs s) b));
+      found = λ s. rw (bucket-kept hs b (i + 1) s low) (go s (ℕ-discrete (bucket hs s) b));
     }
       where
-        low : b < 255
-        low = rw q (bucket-low _ x)
+        low : b < size (length hs)
+        low = rw q (bucket-low hs x)
 
         inside : b < length hs
-        inside = omega (arith, low)
+        inside = omega (arith, low, size-room (length hs) m)
 
         small : p ≤ i
         small = let w = I .below b low in ⊎-elim (λ e. omega arith) (λ e. omega (arith, behind-low x (getD hs b 0) w)) r
 
         -- the labels behind the new one
-        rest : (s : List ℕ) → bucket-in hs s ≡ b → (x == s) ≡ false → lookup L (set ns i p) i p s ≡ label-line (take i L) s
+        rest : (s : List ℕ) → bucket hs s ≡ b → (x == s) ≡ false → lookup L (set ns i p) i p s ≡ label-line (take i L) s
         rest s z e =
             ap (find (λ h. label (line L h) == s)) (walk p i p small small)
             ∙ ⊎-elim (λ k. ap (λ (v : ℕ). lookup L ns i v s) k) (λ k. ap (λ (v : ℕ). lookup L ns i v s) k ∙ behind-same x s (getD hs b 0) (I .below b low) e) r
             ∙ ap (λ (v : ℕ). lookup L ns i (getD hs v 0) s) (sym z) ∙ I .found s
 
-        front : (s : List ℕ) → bucket-in hs s ≡ b → (t : Bool) → (x == s) ≡ t → cond t (some i) (lookup L (set ns i p) i p s) ≡ cond t (some i) (label-line (take i L) s)
+        front : (s : List ℕ) → bucket hs s ≡ b → (t : Bool) → (x == s) ≡ t → cond t (some i) (lookup L (set ns i p) i p s) ≡ cond t (some i) (label-line (take i L) s)
         front s z true e = refl
         front s z false e = rest s z e
 
-        go : (s : List ℕ) → Dec (bucket-in hs s ≡ b)
-            → lookup L (set ns i p) (i + 1) (getD (set hs b (i + 1)) (bucket-in hs s) 0) s ≡ label-line (take (i + 1) L) s
+        go : (s : List ℕ) → Dec (bucket hs s ≡ b)
+            → lookup L (set ns i p) (i + 1) (getD (set hs b (i + 1)) (bucket hs s) 0) s ≡ label-line (take (i + 1) L) s
         go s (yes z) =
             let last : label-line (take (suc i) L) s ≡ cond (named s (line L i)) (some i) (label-line (take i L) s) = rw (add-one i) at (label-at L i s h) in
             rw (z, getD-set-same hs b (i + 1) 0 inside, add-one i, getD-set-same ns i p 0 g)
             (rw y at (front s z (x == s) refl)
             ∙ sym (last ∙ rw u))
         go s (no z) =
-            rw (getD-set-other hs b (bucket-in hs s) (i + 1) 0 z)
-            (kept p s ∙ sym (label-at L i s h ∙ rw (u, ne-== (label (line L i)) s (λ e. z (sym (q ∙ ap (bucket-in hs) (y ∙ e)))))))
+            rw (getD-set-other hs b (bucket hs s) (i + 1) 0 z)
+            (kept p s ∙ sym (label-at L i s h ∙ rw (u, ne-== (label (line L i)) s (λ e. z (sym (q ∙ ap (bucket hs) (y ∙ e)))))))
 
-pub ruleset buckets = (bucket-is, behind-none, behind-equal, behind-other, lookup-found, lookup-next, lookup-end)
+pub ruleset buckets = (size-few, size-many, bucket-few, bucket-many, behind-none, behind-equal, behind-other, lookup-found, lookup-next, lookup-end)

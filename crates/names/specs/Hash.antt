@@ -2,7 +2,8 @@
 --   factor m            the factor of the multiplier m
 --   mix f h c           (h + c) * f modulo 2^33 - 9, not reduced in full
 --   packed a b c d      four bytes as one number
---   hashed f h s        the hash h, gone on with the bytes s, four at a time
+--   hashed f h s        the number h, gone on with the bytes s, four at a time
+--   spread h            the square of the lower 32 bits of h, without its lower 16
 --   hash m s            the hash of the name s by the multiplier m
 -- Assumes nothing.
 use Prim.Native.Nat.{ℕ, _+_, _*_, _/_, _%_}
@@ -24,5 +25,8 @@ hashed f h (a ∷ b ∷ []) = mix f h (packed a b 0 0)
 hashed f h (a ∷ b ∷ c ∷ []) = mix f h (packed a b c 0)
 hashed f h (a ∷ b ∷ c ∷ d ∷ s) = hashed f (mix f h (packed a b c d)) s
 
+unfoldable pub spread : ℕ → ℕ
+spread h = (h % 4294967296) * (h % 4294967296) / 65536
+
 unfoldable pub hash : ℕ → List ℕ → ℕ
-hash m s = hashed (factor m) 1 s
+hash m s = spread (hashed (factor m) 1 s)

@@ -1,13 +1,14 @@
 // The hash of a name by a multiplier, and the multiplier to go on with where names collide.
 //
-// The hash is a polynomial in a factor that the multiplier gives, modulo the prime 2^33 - 9, with four bytes of the name to a step. A step adds
-// and then multiplies, so that the hash of a short name depends on the multiplier too. No contract uses more than that it is a function of
-// the multiplier and the name. `hash` takes time linear in the name, `next` in the text.
+// The hash is a polynomial in a factor that the multiplier gives, modulo the prime 2^33 - 9, with four bytes of the name to a step, and at the
+// end a square. A step adds and then multiplies, so that the hash of a short name depends on the multiplier too; the square takes names at
+// equal distances, such as L1, L2, L3, to unequal ones. No contract uses more than that it is a function of the multiplier and the name. `hash`
+// takes time linear in the name, `next` in the text.
 ghost use mathlib.Core.Path.{_≡_};
 ghost use mathlib.Core.List.{[], _∷_};
 ghost use Prim.Native.Nat.{_+_, _≤_, _<_};
 ghost use lib.ListN.{length, getD};
-ghost use Rattle.names.specs.Hash.{factor, mix, packed, hash};
+ghost use Rattle.names.specs.Hash.{factor, mix, packed, hashed, spread, hash};
 
 mod siphash;
 
@@ -56,11 +57,11 @@ fn three(s: &[u8]) -> usize
     byte(s, 0) + 256 * byte(s, 1) + 65536 * byte(s, 2)
 }
 
-// The hash of the name s by the multiplier m.
-pub fn hash(m: u16, s: &[u8]) -> usize
-    ensures { λ r. ⌜ r ≡ hash m (now (s .entry)) ⌝ }
+// The polynomial of the name s in the factor f.
+fn hashed(f: usize, s: &[u8]) -> usize
+    requires { ⌜ f < 268435456 ⌝ }
+    ensures { λ r. ⌜ r ≡ hashed f 1 (now (s .entry)) ⌝ }
 {
-    let f = factor(m);
     let mut h = 1;
     let mut i = 0;
     while 4 <= s.len() - i {
@@ -73,11 +74,26 @@ pub fn hash(m: u16, s: &[u8]) -> usize
     h
 }
 
+// The square of the lower 32 bits, without its lower 16.
+fn spread(h: usize) -> usize
+    ensures { λ r. ⌜ r ≡ spread h ⌝ }
+{
+    let x = h % 4294967296;
+    x * x / 65536
+}
+
+// The hash of the name s by the multiplier m.
+pub fn hash(m: u16, s: &[u8]) -> usize
+    ensures { λ r. ⌜ r ≡ hash m (now (s .entry)) ⌝ }
+{
+    spread(hashed(factor(m), s))
+}
+
 // The hash of a name of three bytes.
 pub fn short_hash(m: u16, a: u8, b: u8, c: u8) -> usize
     ensures { λ r. ⌜ r ≡ hash m (a ∷ b ∷ c ∷ []) ⌝ }
 {
-    mix(factor(m), 1, wide(a) + 256 * wide(b) + 65536 * wide(c))
+    spread(mix(factor(m), 1, wide(a) + 256 * wide(b) + 65536 * wide(c)))
 }
 
 // The multiplier after m: drawn from the text, so that whoever chooses names against it has to know the whole text. No contract depends on it.

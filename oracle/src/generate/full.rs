@@ -124,23 +124,24 @@ fn colliding(prefix: &str, count: usize, hash: impl Fn(&str) -> u64) -> Vec<Stri
     (16..).map(|n| format!("{prefix}{n}")).filter(|s| hash(s) == 7).take(count).collect()
 }
 
-/// The library's hash of a name by a multiplier: four bytes a step, modulo 2^33 - 9.
+/// The library's hash of a name by a multiplier: four bytes a step, modulo 2^33 - 9, and at the end a square.
 fn name_hash(multiplier: u64, s: &str) -> u64 {
     let factor = (multiplier + 65_536).pow(2) / 64;
-    s.as_bytes().chunks(4).fold(1, |h, bytes| {
+    let sum = s.as_bytes().chunks(4).fold(1, |h, bytes| {
         let x = (h + bytes.iter().rev().fold(0, |c, &b| c * 256 + u64::from(b))) * factor;
         x % (1 << 33) + 9 * (x >> 33)
-    })
+    });
+    (sum % (1 << 32)).pow(2) >> 16
 }
 
 /// The place of a label in the library's table, by its first multiplier.
 fn label_place(s: &str) -> u64 {
-    name_hash(27_519, s) % 255
+    name_hash(633, s) % 1_023
 }
 
 /// The place of a family in the library's table, by its first multiplier.
 fn family_place(s: &str) -> u64 {
-    name_hash(26_211, s) % 247
+    name_hash(4_339, s) % 247
 }
 
 /// 500 labels whose names collide in the library's table by its first multiplier, and 500 lines with five gotos each.

@@ -1,16 +1,17 @@
 -- `labels::index` meets its contract. Before each time the buckets are empty. Assumes nothing.
 use Prim.Native.Nat.{ℕ, _<_}
-use mathlib.Core.Path.{_≡_, refl, _∙_}
+use mathlib.Core.Path.{_≡_, refl, sym, ap, _∙_}
 use lib.ListN.{length, getD}
 use borrow.Author.Needs.{needs}
+use Rattle.labels.specs.Buckets.{size}
 use Rattle.labels.proofs.index.Statement.{statement}
 use Rattle.labels.proofs.index.Tie as tie
 
 abbrev Inv-loop : tie.InvT-loop
-Inv-loop lines tokens text heads₀ nexts₀ m₀ left₀ heads nexts m left = (length heads ≡ length heads₀) × (length nexts ≡ length nexts₀) × ((b : ℕ) → b < 255 → getD heads b 0 ≡ 0)
+Inv-loop lines tokens text heads₀ nexts₀ m₀ most₀ left₀ heads nexts m most left = (length heads ≡ length heads₀) × (length nexts ≡ length nexts₀) × ((b : ℕ) → b < size (length heads) → getD heads b 0 ≡ 0)
 
 abbrev μ-loop : tie.MeasureT-loop
-μ-loop lines tokens text heads₀ nexts₀ m₀ left₀ heads nexts m left = left
+μ-loop lines tokens text heads₀ nexts₀ m₀ most₀ left₀ heads nexts m most left = left
 
 loop-holds : tie.Need-loop-holds Inv-loop μ-loop
 loop-holds c = (refl, refl, λ b h. c .before .before .before .before .before .pre .1 b)
@@ -27,6 +28,9 @@ same-length-2 c = search needs
 returns : tie.Need-returns Inv-loop μ-loop
 returns c = c .before .before .before .before .before .index-all .ensures .0 (c .if1 .taken)
 
+size-requires : tie.Need-size-requires Inv-loop μ-loop
+size-requires c κs = search needs
+
 empty-requires : tie.Need-empty-requires Inv-loop μ-loop
 empty-requires c κs = search needs
 
@@ -41,9 +45,10 @@ loop-less c = search needs
 
 loop-again : tie.Need-loop-again Inv-loop μ-loop
 loop-again c =
-    let l = c .before .before .before .before .before .before .before .before .before .before .before .before .before .before .loop in
-    let a = c .before .before .before .before .before .before .before .before .before .before .index-all in
-    (c .before .before .before .empty .kept .0 ∙ a .kept .1 .1 .1 .0 ∙ l .inv .0, a .kept .1 .1 .1 .1 .0 ∙ l .inv .1, c .before .before .before .empty .ensures)
+    let l = c .before .before .before .before .before .before .before .before .before .before .before .before .before .before .before .before .loop in
+    let a = c .before .before .before .before .before .before .before .before .before .before .before .before .index-all in
+    let e = c .before .before .before .empty in
+    (e .kept .0 ∙ a .kept .1 .1 .1 .0 ∙ l .inv .0, a .kept .1 .1 .1 .1 .0 ∙ l .inv .1, λ b h. e .ensures b (rw (ap size (e .kept .0) ∙ sym (c .before .before .before .before .before .size .ensures .0)) at h))
 
 index-all-requires-2 : tie.Need-index-all-requires-2 Inv-loop μ-loop
 index-all-requires-2 c κs = search needs
@@ -68,6 +73,7 @@ index-spec =
     same-length
     same-length-2
     returns
+    size-requires
     empty-requires
     next-requires
     sub-left

@@ -13,18 +13,24 @@ use Rattle.labels.proofs.index_all.Statement.{statement}
 use Rattle.labels.proofs.index_all.Tie as tie
 
 abbrev Inv-loop : tie.InvT-loop
-Inv-loop lines tokens text heads₀ nexts₀ m more i₀ heads nexts i = (i ≤ length lines) × (length heads ≡ length heads₀) × (length nexts ≡ length nexts₀) × Indexed (listing lines tokens text) heads nexts i
+Inv-loop lines tokens text heads₀ nexts₀ m most more c i₀ heads nexts i = (i ≤ length lines) × (length heads ≡ length heads₀) × (length nexts ≡ length nexts₀) × Indexed (listing lines tokens text) heads nexts i
 
 abbrev μ-loop : tie.MeasureT-loop
-μ-loop lines tokens text heads₀ nexts₀ m more i₀ heads nexts i = length lines - i
+μ-loop lines tokens text heads₀ nexts₀ m most more c i₀ heads nexts i = length lines - i
+
+size-requires : tie.Need-size-requires Inv-loop μ-loop
+size-requires c κs = search needs
+
+mul-heads : tie.Need-mul-heads Inv-loop μ-loop
+mul-heads c = search needs
 
 slice-write-heads : tie.Need-slice-write-heads Inv-loop μ-loop
 slice-write-heads c = search needs
 
 loop-holds : tie.Need-loop-holds Inv-loop μ-loop
 loop-holds c =
-    let a = c .before .before .before .before .before .args in
-    (search needs, refl, refl, indexed-start (listing (now (a .lines)) (now (a .tokens)) (now (a .text))) (now (a .heads)) (now (a .nexts)) (a .m) (c .before .before .before .before .before .pre .1))
+    let a = c .before .before .before .before .before .before .before .args in
+    (search needs, refl, refl, indexed-start (listing (now (a .lines)) (now (a .tokens)) (now (a .text))) (now (a .heads)) (now (a .nexts)) (a .m) _ (c .size .ensures .0) (c .before .before .before .before .before .before .before .pre .1))
 
 index-line-requires : tie.Need-index-line-requires Inv-loop μ-loop
 index-line-requires c κs = let z = simp length-set at (c .before .before .before .loop .inv .1) in search needs
@@ -59,7 +65,7 @@ same-length-4 c = search needs
 returns-2 : tie.Need-returns-2 Inv-loop μ-loop
 returns-2 c =
     let l = c .before .loop in
-    let a = c .before .before .before .before .before .before .before .args in
+    let a = c .before .before .before .before .before .before .before .before .before .args in
     let e : l .i ≡ length (now (a .lines)) = omega arith in
     (λ h. rw (← e) (l .inv .3), λ h. refl)
 
@@ -69,6 +75,8 @@ index-all-spec =
     (tie.spec
     Inv-loop
     μ-loop
+    size-requires
+    mul-heads
     slice-write-heads
     loop-holds
     index-line-requires

@@ -6,10 +6,10 @@ use Rattle.labels.proofs.is_long.Statement.{statement}
 use Rattle.labels.proofs.is_long.Tie as tie
 
 abbrev Inv-loop : tie.InvT-loop
-Inv-loop nexts p q₀ left₀ q left = left ≤ 16
+Inv-loop nexts p most q₀ left₀ q left = left ≤ most
 
 abbrev μ-loop : tie.MeasureT-loop
-μ-loop nexts p q₀ left₀ q left = left
+μ-loop nexts p most q₀ left₀ q left = left
 
 loop-holds : tie.Need-loop-holds Inv-loop μ-loop
 loop-holds c = search needs

@@ -32,6 +32,9 @@ add-mix-2 c = search needs
 mix-requires : tie.Need-mix-requires
 mix-requires c κs = search needs
 
+spread-requires : tie.Need-spread-requires
+spread-requires c κs = search needs
+
 returns : tie.Need-returns
 returns c = search (hashing, needs)
 
@@ -48,4 +51,5 @@ short-hash-spec =
     mul-mix-2
     add-mix-2
     mix-requires
+    spread-requires
     returns)

@@ -35,7 +35,7 @@ slice-aggregate-flow-graph-in-6 c = search needs
 flow-graph-in-requires : tie.Need-flow-graph-in-requires
 flow-graph-in-requires c κs =
     let p = c .before .before .before .before .before .before .before .before .before .before .before .before .before .before .pre in
-    ((p .0, p .0, p .0, omega arith, p .0, p .0), (c .before .before .before .before .before .before .before .before .masks2 .ensures, (zeros 256, p .1)))
+    ((p .0, p .0, p .0, omega arith, p .0, p .0), (c .before .before .before .before .before .before .before .before .masks2 .ensures, (zeros 1024, p .1)))
 
 same-length : tie.Need-same-length
 same-length c = search needs
