@@ -1,6 +1,6 @@
 -- Names of `r` and digits, and of `var_`.
 --   digits-low, digits-high, digits-next, digits-end    the loop over digits
---   is-numbered-by, flag, no-flag    `r` and one or more digits, by where the digits end
+--   is-numbered-by, flag, no-flag, number-inside    `r` and one or more digits, by where the digits end
 --   numbered-some, numbered-none    the family, by the width that the suffix says
 --   other-numbered, other-var, other-none    a name that is not in the table
 -- Assumes nothing.
@@ -72,6 +72,20 @@ digits-part (c ∷ s) = go (is-digit c) (digits-part s)
     go true e = ap (λ (l : List ℕ). c ∷ l) e
     go false e = refl
 
+digits-short : (s : List ℕ) → length (digits s) ≤ length s
+unfolding take-while
+digits-short [] = omega arith
+digits-short (c ∷ s) = go (is-digit c) (digits-short s)
+  where
+    go : (b : Bool) → length (digits s) ≤ length s → length (cond b (c ∷ digits s) []) ≤ suc (length s)
+    go true h = omega arith
+    go false h = omega arith
+
+numbered-short : (s : List ℕ) → starts-with (ascii "r") s ≡ true → 1 + digit-count (drop 1 s) ≤ length s
+unfolding starts-with digit-count
+numbered-short [] h = let z : _≡_ {A = ℕ} 0 1 = cc in absurd (omega arith)
+numbered-short (c ∷ s) h = omega (arith, digits-short s)
+
 numbered-part : (s : List ℕ) → starts-with (ascii "r") s ≡ true → part 0 (1 + digit-count (drop 1 s)) s ≡ ascii "r" ++ digits (drop 1 s)
 unfolding starts-with digit-count
 numbered-part [] h = cc
@@ -103,6 +117,9 @@ module _ (s : List ℕ) (n : ℕ) (e : n ≡ number-end s) where
 
     ends : n ≡ 1 + digit-count (drop 1 s)
     ends = e ∙ rw starts
+
+    pub number-inside : n ≤ length s
+    number-inside = rw ends (numbered-short s starts)
 
     module _ (w : ℕ) (x : List ℕ) (q : above-zero w ≡ suffix-width x) (p : x ≡ part n (length s) s) where
       suffix : suffix-width (drop (1 + digit-count (drop 1 s)) s) ≡ above-zero w

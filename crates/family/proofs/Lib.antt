@@ -1,4 +1,5 @@
 pub mod Places
+pub mod Codes
 pub mod Digits
 pub mod FamilyNames
 pub mod Rsp

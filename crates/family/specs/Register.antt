@@ -4,6 +4,8 @@
 --   above-zero w         w, where it is not 0
 --   family-of s r        the family and the width that the answer r gives the text s
 --   rest-family s        the family of a text that is none of the names
+--   number-length n w    how many of n bytes are the name of a numbered register of width w: not the letter that says the width
+--   decoded n c          the answer that the number c stands for, of a text of n bytes
 --   row r                where the name of r's family stands: its row of the table; 8, in the text; 9, nowhere
 --   own-name s r         the part of the text s that is its family's name, where it stands there
 --   same-name o p        both are families, of one name
@@ -11,7 +13,7 @@
 --   named p o            o is a family, and p holds of its name
 --   is-rsp o, is-var-family o, is-wide o    o is the family rsp; a `var_`; a family, of width 32 or more
 -- Assumes nothing.
-use Prim.Native.Nat.{ℕ, _+_}
+use Prim.Native.Nat.{ℕ, _+_, _-_, _/_, _%_}
 use mathlib.Core.Bool.{Bool, false}
 use mathlib.Core.List.{List, []}
 use mathlib.Core.Option.{Option, none, some}
@@ -45,6 +47,16 @@ rest-family s =
     if is-numbered s then numbered-family s
     else if starts-with (ascii "var_") s then some (record { name = s; width = 64 })
     else none
+
+abbrev pub number-length : ℕ → ℕ → ℕ
+number-length n w = if eqb w 64 then n else n - 1
+
+unfoldable pub decoded : ℕ → ℕ → Register
+decoded n c =
+    if eqb (c % 4) 0 then Nothing
+    else if eqb (c % 4) 1 then Var
+    else if eqb (c % 4) 2 then Legacy (c / 1024) (c / 4 % 256)
+    else Numbered (number-length n (c / 4)) (c / 4)
 
 abbrev pub row : Register → ℕ
 row (Legacy i w) = if ltb i 8 then i else 9

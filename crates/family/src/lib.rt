@@ -2,17 +2,17 @@
 // stand, in the table or in the text that was looked up.
 //
 // A look-up compares the text with one name, which its hash gives, and scans no byte behind the token's text; a test on an answer compares
-// at most one name. Contracts cite `family`, `fam-of` and `names` of Rattle.definitions.specs.Family; `family-of` of this crate's specs/ says which family
+// at most one name. A look-up answers by one number, `decoded` of specs/Register.antt, so that answers are not handed on through memory. Contracts cite `family`, `fam-of` and `names` of Rattle.definitions.specs.Family; `family-of` of this crate's specs/ says which family
 // an answer gives a text.
 ghost use mathlib.Core.Path.{_≡_};
 ghost use mathlib.Core.Bool.{false};
 ghost use mathlib.Core.List.{[], _∷_};
 ghost use Prim.Native.Nat.{ℕ, _+_, _<_};
-ghost use lib.ListN.{getD, drop};
+ghost use lib.ListN.{length, getD, drop};
 ghost use Rattle.definitions.specs.Lists.{_==_, position};
 ghost use Rattle.definitions.specs.Model.{tok};
 ghost use Rattle.definitions.specs.Family.{suffix-width, is-numbered, numbered-family, family, fam-of};
-ghost use Rattle.family.specs.Register.{digit-count, number-end, above-zero, family-of, rest-family, row, own-name, same-name, names-family, is-rsp, is-var-family, is-wide};
+ghost use Rattle.family.specs.Register.{digit-count, number-end, above-zero, family-of, rest-family, number-length, decoded, row, own-name, same-name, names-family, is-rsp, is-var-family, is-wide};
 use legacy::byte;
 use legacy::is_row;
 use legacy::place;
@@ -60,7 +60,7 @@ fn number_end(s: &[u8]) -> usize
 
 // The width that what follows the digits says, 0 where it says none.
 fn suffix_width(s: &[u8]) -> usize
-    ensures { λ r. ⌜ above-zero r ≡ suffix-width (now (s .entry)) ⌝ }
+    ensures { λ r. ⌜ (above-zero r ≡ suffix-width (now (s .entry))) × (r < 256) ⌝ }
 {
     if text::equal(s, b"") {
         return 64;
@@ -81,42 +81,74 @@ fn suffix_width(s: &[u8]) -> usize
 }
 
 // A name that starts with `r` and digits, n bytes of it.
-fn numbered(s: &[u8], n: usize) -> Register
+fn numbered(s: &[u8], n: usize) -> usize
     requires { ⌜ (n ≡ number-end (now s)) × (1 < n) ⌝ }
-    ensures { λ r. ⌜ family-of (now (s .entry)) r ≡ numbered-family (now (s .entry)) ⌝ }
+    ensures { λ c. ⌜ family-of (now (s .entry)) (decoded (length (now (s .entry))) c) ≡ numbered-family (now (s .entry)) ⌝ }
 {
     let w = suffix_width(text::part(s, n, s.len()));
     if w == 0 {
-        return Register::Nothing;
+        return 0;
     }
-    Register::Numbered(n, w)
+    3 + 4 * w
 }
 
 // A name that is neither numbered nor in the table.
-fn other(s: &[u8]) -> Register
+fn other(s: &[u8]) -> usize
     requires { ⌜ is-numbered (now s) ≡ false ⌝ }
-    ensures { λ r. ⌜ family-of (now (s .entry)) r ≡ rest-family (now (s .entry)) ⌝ }
+    ensures { λ c. ⌜ family-of (now (s .entry)) (decoded (length (now (s .entry))) c) ≡ rest-family (now (s .entry)) ⌝ }
 {
     if text::starts_with(s, b"var_") {
-        return Register::Var;
+        return 1;
     }
-    Register::Nothing
+    0
 }
 
 // A name that is not numbered.
-fn named(s: &[u8]) -> Register
+fn named(s: &[u8]) -> usize
     requires { ⌜ is-numbered (now s) ≡ false ⌝ }
-    ensures { λ r. ⌜ family-of (now (s .entry)) r ≡ family (now (s .entry)) ⌝ }
+    ensures { λ c. ⌜ family-of (now (s .entry)) (decoded (length (now (s .entry))) c) ≡ family (now (s .entry)) ⌝ }
 {
     let p = place(s);
     if p < 32 {
         let w = wide(WIDTHS[p % 4]);
-        return Register::Legacy(p / 4, w);
+        return 2 + 4 * w + 1024 * (p / 4);
     }
     if p < 36 {
-        return Register::Legacy(p - 32, 8);
+        return 2 + 4 * 8 + 1024 * (p - 32);
     }
     other(s)
+}
+
+// The family and the width of the register named s, as a number. No name of the table has a digit behind an `r`, so digits are looked for
+// first.
+fn coded(s: &[u8]) -> usize
+    ensures { λ c. ⌜ family-of (now (s .entry)) (decoded (length (now (s .entry))) c) ≡ family (now (s .entry)) ⌝ }
+{
+    let n = number_end(s);
+    if 1 < n {
+        return numbered(s, n);
+    }
+    named(s)
+}
+
+fn number_length(n: usize, w: usize) -> usize
+    ensures { λ r. ⌜ r ≡ number-length n w ⌝ }
+{
+    if w == 64 {
+        return n;
+    }
+    if n == 0 { 0 } else { n - 1 }
+}
+
+fn decoded(n: usize, c: usize) -> Register
+    ensures { λ r. ⌜ r ≡ decoded n c ⌝ }
+{
+    match c % 4 {
+        0 => Register::Nothing,
+        1 => Register::Var,
+        2 => Register::Legacy(c / 1024, c / 4 % 256),
+        _ => Register::Numbered(number_length(n, c / 4), c / 4),
+    }
 }
 
 // Where the family's name stands: its row of the table; 8, in the text; 9, nowhere.
@@ -131,15 +163,11 @@ fn row(r: Register) -> usize
     }
 }
 
-// The family and the width of the register named s. No name of the table has a digit behind an `r`, so digits are looked for first.
+// The family and the width of the register named s.
 pub fn family(s: &[u8]) -> Register
     ensures { λ r. ⌜ family-of (now (s .entry)) r ≡ family (now (s .entry)) ⌝ }
 {
-    let n = number_end(s);
-    if 1 < n {
-        return numbered(s, n);
-    }
-    named(s)
+    decoded(s.len(), coded(s))
 }
 
 // The same of a register token.

@@ -44,7 +44,11 @@ fn size(heads: &[u16]) -> usize
 fn bucket_of(heads: &[u16], h: usize) -> usize
     ensures { λ r. ⌜ (r ≡ h % size (length (now (heads .entry)))) × (r < 1024) ⌝ }
 {
-    if heads.len() < 1024 { h % 255 } else { h % 1023 }
+    if heads.len() < 1024 {
+        h % 255
+    } else {
+        h % 1023
+    }
 }
 
 // The bucket of a name, for the multiplier that `heads` has.

@@ -13,7 +13,7 @@ use mathlib.Core.Path.{_≡_, refl, sym, ap, _∙_}
 use mathlib.Core.Bool.{Bool, true, false, _&&_, cond}
 use mathlib.Core.List.{List, [], _∷_}
 use mathlib.Core.Option.{Option, none, some, Option·map}
-use Prim.Native.Nat.{ℕ, zero, suc, _+_, _-_, _/_, _%_, _≤_, _<_}
+use Prim.Native.Nat.{ℕ, zero, suc, _+_, _*_, _-_, _≤_, _<_}
 use native.Mathlib.Nat.{add-zero, add-suc, suc-add, zero-add, le-of-suc-le-suc, not-suc-le-zero}
 use lib.Dec.{eqb, leb, ltb}
 use native.Mathlib.Omega.{arith}
@@ -99,18 +99,16 @@ below p n i t h = rw zero-add at (range-at p 0 n i t h)
 
 -- The cells
 
-abbrev cell-right : List (List (List ℕ)) → List (List ℕ) → List ℕ → ℕ → Bool
-cell-right t d e p = letters (getD (getD t (p / 4) d) (p % 4) e) == name-at p
+abbrev cell-right : List (List ℕ) → List ℕ → ℕ → Bool
+cell-right t d p = letters (getD t p d) == name-at p
 
-pub cell-is : (t : List (List (List ℕ))) (d : List (List ℕ)) (e : List ℕ) (p : ℕ) (s : List ℕ) (r : Bool)
-    → all (cell-right t d e) (up-to 36) ≡ true → p < 36 → r ≡ (s == letters (getD (getD t (p / 4) d) (p % 4) e)) → r ≡ (s == name-at p)
-cell-is t d e p s r right h q =
-    q ∙ ap (s ==_) (==-eq (letters (getD (getD t (p / 4) d) (p % 4) e)) (name-at p) (below (cell-right t d e) 36 p right h))
+pub cell-is : (t : List (List ℕ)) (d : List ℕ) (p : ℕ) (s : List ℕ) (r : Bool)
+    → all (cell-right t d) (up-to 36) ≡ true → p < 36 → r ≡ (s == letters (getD t p d)) → r ≡ (s == name-at p)
+cell-is t d p s r right h q = q ∙ ap (s ==_) (==-eq (letters (getD t p d)) (name-at p) (below (cell-right t d) 36 p right h))
 
-pub first-row : (t : List (List (List ℕ))) (d : List (List ℕ)) (e : List ℕ) (i : ℕ) (s : List ℕ) (r : Bool)
-    → all (λ i. letters (getD (getD t i d) 0 e) == row-name i) (up-to 8) ≡ true → i < 8 → r ≡ (s == letters (getD (getD t i d) 0 e)) → r ≡ (s == row-name i)
-first-row t d e i s r right h q =
-    q ∙ ap (s ==_) (==-eq (letters (getD (getD t i d) 0 e)) (row-name i) (below (λ i. letters (getD (getD t i d) 0 e) == row-name i) 8 i right h))
+pub first-row : (i : ℕ) (s : List ℕ) (r : Bool) → i < 8 → r ≡ (s == name-at (4 * i)) → r ≡ (s == row-name i)
+unfolding all range _==_ concat legacy all-names
+first-row i s r h q = q ∙ ap (s ==_) (==-eq (name-at (4 * i)) (row-name i) (below (λ i. name-at (4 * i) == row-name i) 8 i refl h))
 
 -- The hashes
 

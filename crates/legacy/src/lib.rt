@@ -9,18 +9,45 @@ ghost use lib.ListN.{getD};
 ghost use Rattle.definitions.specs.Lists.{_==_, position};
 ghost use Rattle.legacy.specs.Table.{letters, all-names, name-at, hash, found, row-name};
 
-// A row is a family, a column a width; the last row is the 8 bits above those of `al`, `bl`, `cl` and `dl`. A name of two letters is filled
-// up with a 0.
-const NAMES: [[[u8; 3]; 4]; 9] = [
-    [*b"rax", *b"eax", *b"ax\0", *b"al\0"],
-    [*b"rbx", *b"ebx", *b"bx\0", *b"bl\0"],
-    [*b"rcx", *b"ecx", *b"cx\0", *b"cl\0"],
-    [*b"rdx", *b"edx", *b"dx\0", *b"dl\0"],
-    [*b"rsi", *b"esi", *b"si\0", *b"sil"],
-    [*b"rdi", *b"edi", *b"di\0", *b"dil"],
-    [*b"rbp", *b"ebp", *b"bp\0", *b"bpl"],
-    [*b"rsp", *b"esp", *b"sp\0", *b"spl"],
-    [*b"ah\0", *b"bh\0", *b"ch\0", *b"dh\0"],
+// Row by row, a row being a family, a column a width; the last row is the 8 bits above those of `al`, `bl`, `cl` and `dl`. A name of two letters
+// is filled up with a 0.
+const NAMES: [[u8; 3]; 36] = [
+    *b"rax",
+    *b"eax",
+    *b"ax\0",
+    *b"al\0",
+    *b"rbx",
+    *b"ebx",
+    *b"bx\0",
+    *b"bl\0",
+    *b"rcx",
+    *b"ecx",
+    *b"cx\0",
+    *b"cl\0",
+    *b"rdx",
+    *b"edx",
+    *b"dx\0",
+    *b"dl\0",
+    *b"rsi",
+    *b"esi",
+    *b"si\0",
+    *b"sil",
+    *b"rdi",
+    *b"edi",
+    *b"di\0",
+    *b"dil",
+    *b"rbp",
+    *b"ebp",
+    *b"bp\0",
+    *b"bpl",
+    *b"rsp",
+    *b"esp",
+    *b"sp\0",
+    *b"spl",
+    *b"ah\0",
+    *b"bh\0",
+    *b"ch\0",
+    *b"dh\0",
 ];
 
 // The text is these two bytes.
@@ -69,9 +96,7 @@ fn is_at(p: usize, s: &[u8]) -> bool
     ensures { λ r. ⌜ r ≡ (now (s .entry) == name-at p) ⌝ }
 {
     let table = NAMES;
-    let row = table[p / 4];
-    let cell = row[p % 4];
-    is_name(cell, s)
+    is_name(table[p], s)
 }
 
 // The name is that of the family in row i.
@@ -79,9 +104,7 @@ pub fn is_row(i: usize, name: &[u8]) -> bool
     requires { ⌜ i < 8 ⌝ }
     ensures { λ r. ⌜ r ≡ (now (name .entry) == row-name i) ⌝ }
 {
-    let table = NAMES;
-    let row = table[i];
-    is_name(row[0], name)
+    is_at(4 * i, name)
 }
 
 pub fn wide(x: u8) -> usize

@@ -1,26 +1,19 @@
 -- `family::family` meets its contract.
 -- Assumes nothing.
-use Rattle.family.proofs.Digits.{digit-rules}
-use Rattle.family.proofs.Places.{place-rules}
+use mathlib.Core.Path.{ap, _∙_}
+use Rattle.family.specs.Register.{family-of}
 use borrow.Author.Needs.{needs}
 use Rattle.family.proofs.family.Statement.{statement}
 use Rattle.family.proofs.family.Tie as tie
 
-number-end-requires : tie.Need-number-end-requires
-number-end-requires c κs = search (digit-rules, place-rules, needs)
+coded-requires : tie.Need-coded-requires
+coded-requires c κs = search needs
 
-numbered-requires : tie.Need-numbered-requires
-numbered-requires c κs = search (digit-rules, place-rules, needs)
+decoded-requires : tie.Need-decoded-requires
+decoded-requires c κs = search needs
 
 returns : tie.Need-returns
-returns c = search (digit-rules, place-rules, needs)
-
-named-requires : tie.Need-named-requires
-named-requires c κs = search (digit-rules, place-rules, needs)
-
-returns-2 : tie.Need-returns-2
-returns-2 c = search (digit-rules, place-rules, needs)
+returns c = ap (family-of _) (c .decoded .ensures) ∙ c .before .coded .ensures
 
 pub family-spec : {M : Type 1} → statement M
-family-spec =
-    tie.close (tie.spec number-end-requires numbered-requires returns named-requires returns-2)
+family-spec = tie.close (tie.spec coded-requires decoded-requires returns)

@@ -8,17 +8,11 @@ use borrow.Author.Needs.{needs}
 use Rattle.legacy.proofs.is_at.Statement.{statement}
 use Rattle.legacy.proofs.is_at.Tie as tie
 
-mul-row : tie.Need-mul-row
-mul-row c = search needs
+mul-is-name : tie.Need-mul-is-name
+mul-is-name c = search needs
 
-array-copy-out-row : tie.Need-array-copy-out-row
-array-copy-out-row c = search needs
-
-mul-cell : tie.Need-mul-cell
-mul-cell c = search needs
-
-array-copy-out-cell : tie.Need-array-copy-out-cell
-array-copy-out-cell c = search needs
+array-copy-out-is-name : tie.Need-array-copy-out-is-name
+array-copy-out-is-name c = search needs
 
 is-name-requires : tie.Need-is-name-requires
 is-name-requires c κs = search needs
@@ -28,6 +22,4 @@ unfolding all range _==_ concat legacy all-names
 returns c = search (cell-is, needs)
 
 pub is-at-spec : {M : Type 1} → statement M
-is-at-spec =
-    tie.close
-    (tie.spec mul-row array-copy-out-row mul-cell array-copy-out-cell is-name-requires returns)
+is-at-spec = tie.close (tie.spec mul-is-name array-copy-out-is-name is-name-requires returns)
