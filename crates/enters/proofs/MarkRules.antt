@@ -34,7 +34,7 @@ use Rattle.pseudo_opt.specs.declared.Found.the-variants.{At, Nothing}
 use Rattle.pieces.specs.Pieces.{piece, origin}
 use Rattle.pieces.proofs.Forms.{kept-piece}
 use Rattle.goto_targets.specs.Seek.{Seek.looking, seek}
-use Rattle.goto_targets.specs.Targets.{over}
+use Rattle.goto_targets.specs.Conditions.{over}
 use Rattle.enters.specs.Inside.{names, goes-inside}
 use Rattle.enters.specs.Marks.{has-g, place-mark, Mark, Marked, quiet, quiet-over, own-mark, silent, Passed}
 use Rattle.goto_targets.proofs.SeekLaws.{target-is, seek-one}

@@ -13,10 +13,10 @@ ghost use Rattle.definitions.specs.Lists.{_==_, position};
 ghost use Rattle.definitions.specs.Model.{tok};
 ghost use Rattle.definitions.specs.Family.{suffix-width, is-numbered, numbered-family, family, fam-of};
 ghost use Rattle.family.specs.Register.{digit-count, number-end, above-zero, family-of, rest-family, number-length, decoded, row, own-name, same-name, names-family, is-rsp, is-var-family, is-wide};
-use legacy::byte;
 use legacy::is_row;
 use legacy::place;
-use legacy::wide;
+use text::byte;
+use text::wide_byte;
 
 pub enum Register {
     // The row of the table, and the width in bits.
@@ -110,7 +110,7 @@ fn named(s: &[u8]) -> usize
 {
     let p = place(s);
     if p < 32 {
-        let w = wide(WIDTHS[p % 4]);
+        let w = wide_byte(WIDTHS[p % 4]);
         return 2 + 4 * w + 1024 * (p / 4);
     }
     if p < 36 {

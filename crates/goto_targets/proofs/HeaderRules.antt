@@ -32,7 +32,7 @@ use Rattle.pieces.specs.Pieces.{piece, origin, cut-place}
 use Rattle.pieces.specs.Leading.{leading}
 use Rattle.pieces.proofs.Forms.{kept-piece, continued-piece, broken-piece, closed-piece, place-within}
 use Rattle.goto_targets.specs.Seek.{Seek, Seek.looking, seek, target}
-use Rattle.goto_targets.specs.Targets.{over}
+use Rattle.goto_targets.specs.Conditions.{over}
 use Rattle.goto_targets.proofs.SeekLaws.{target-is, seek-negate, seek-one, seek-while, seek-for, popped-jumped, popped-closed}
 
 -- A piece without its last code point

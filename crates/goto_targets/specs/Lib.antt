@@ -1,2 +1,2 @@
 pub mod Seek
-pub mod Targets
+pub mod Conditions

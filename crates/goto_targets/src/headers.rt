@@ -12,7 +12,7 @@ ghost use Rattle.plan.specs.Plan.{header-at, line-of};
 ghost use Rattle.plan.specs.Changes.{is-goto};
 ghost use Rattle.pieces.specs.Pieces.{piece};
 ghost use Rattle.goto_targets.specs.Seek.{seek, target, told};
-ghost use Rattle.goto_targets.specs.Targets.{over};
+ghost use Rattle.goto_targets.specs.Conditions.{over};
 use crate::seeking::State;
 use crate::seeking::seek_line;
 use crate::seeking::seek_test;

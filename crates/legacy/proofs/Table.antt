@@ -4,7 +4,6 @@
 --   letters-two, letters-three            the name in a cell
 --   below                what a test finds of every number below n
 --   cell-is              the cell at place p holds the name at place p
---   byte-past            no byte past the end
 --   place-start, place-least, place-only   an entry of the hashes is a place, that of the name with this hash
 --   place-found, place-none   the text is the name at that place; it is not, so it is no name
 --   first-row            the name of a family stands in the first column
@@ -18,7 +17,7 @@ use native.Mathlib.Nat.{add-zero, add-suc, suc-add, zero-add, le-of-suc-le-suc, 
 use lib.Dec.{eqb, leb, ltb}
 use native.Mathlib.Omega.{arith}
 use borrow.Author.Tests.{eq-eqb, ne-eqb, eqb-true, lt-ltb, leb-true, ltb-true}
-use lib.ListN.{length, getD, take, List·getD-eq-default}
+use lib.ListN.{length, getD, take}
 use Rattle.definitions.specs.Lists.{_==_, all, range, up-to, position, concat}
 use Rattle.definitions.specs.Family.{legacy}
 use Rattle.text.proofs.Texts.{==-eq, ==-length}
@@ -111,9 +110,6 @@ unfolding all range _==_ concat legacy all-names
 first-row i s r h q = q ∙ ap (s ==_) (==-eq (name-at (4 * i)) (row-name i) (below (λ i. name-at (4 * i) == row-name i) 8 i refl h))
 
 -- The hashes
-
-pub byte-past : (s : List ℕ) (k : ℕ) → length s ≤ k → 0 ≡ getD s k 0
-byte-past s k h = sym (List·getD-eq-default s 0 h)
 
 module _ (t : List ℕ) (h c : ℕ) (e : c ≡ getD t h 0) where
   pub place-start : all (λ h. leb 48 (getD t h 0)) (up-to 64) ≡ true → h < 64 → 48 ≤ c

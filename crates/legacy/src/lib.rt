@@ -8,6 +8,7 @@ ghost use Prim.Native.Nat.{ℕ, _<_};
 ghost use lib.ListN.{getD};
 ghost use Rattle.definitions.specs.Lists.{_==_, position};
 ghost use Rattle.legacy.specs.Table.{letters, all-names, name-at, hash, found, row-name};
+use text::byte;
 
 // Row by row, a row being a family, a column a width; the last row is the 8 bits above those of `al`, `bl`, `cl` and `dl`. A name of two letters
 // is filled up with a 0.
@@ -105,19 +106,6 @@ pub fn is_row(i: usize, name: &[u8]) -> bool
     ensures { λ r. ⌜ r ≡ (now (name .entry) == row-name i) ⌝ }
 {
     is_at(4 * i, name)
-}
-
-pub fn wide(x: u8) -> usize
-    ensures { λ r. ⌜ (r ≡ x) × (r < 256) ⌝ }
-{
-    x as usize
-}
-
-// The byte at k, 0 past the end.
-pub fn byte(s: &[u8], k: usize) -> usize
-    ensures { λ r. ⌜ (r ≡ getD (now (s .entry)) k 0) × (r < 256) ⌝ }
-{
-    if k < s.len() { wide(s[k]) } else { 0 }
 }
 
 fn hash(s: &[u8]) -> usize

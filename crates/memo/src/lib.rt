@@ -17,9 +17,9 @@ ghost use Rattle.memo.specs.Memo.{pack, Memo};
 use families::is_some;
 use families::search;
 use family::Register;
-use legacy::byte;
 use model::columns::token_kind;
 use model::columns::token_text;
+use text::byte;
 
 // 1 + the place of the family that the answer r of the register s is, 1 for one without a definition, 0 where it is none.
 fn search_place(

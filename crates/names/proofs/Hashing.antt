@@ -10,7 +10,7 @@ use mathlib.Core.Path.{_≡_, refl, sym, ap, _∙_}
 use mathlib.Core.List.{List, [], _∷_}
 use native.Mathlib.Omega.{arith}
 use native.Mathlib.Nat.{mul-le-mul, add-zero}
-use lib.ListN.{length, getD, drop, length-drop, List·getD-eq-default}
+use lib.ListN.{length, getD, drop, length-drop}
 use lib.Seq.{drop-drop, getD-drop}
 use Rattle.definitions.specs.Lists.{part}
 use Rattle.text.proofs.Parts.{drop-end, part-tail}
@@ -26,9 +26,6 @@ pub product-small : (x f : ℕ) → x < 38654705664 → f < 268435456 → x * f 
 product-small x f a b =
     let q : x * f ≤ 38654705663 * 268435455 = mul-le-mul {n₂ = 38654705663} {m₂ = 268435455} (omega arith) (omega arith) in
     omega arith
-
-pub byte-past : (s : List ℕ) (k : ℕ) → length s ≤ k → 0 ≡ getD s k 0
-byte-past s k h = sym (List·getD-eq-default s 0 h)
 
 -- four bytes at once
 four-more : (f h : ℕ) (l : List ℕ) → 4 ≤ length l → hashed f h l ≡ hashed f (mix f h (packed (getD l 0 0) (getD l 1 0) (getD l 2 0) (getD l 3 0))) (drop 4 l)

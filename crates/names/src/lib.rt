@@ -12,18 +12,8 @@ ghost use Rattle.names.specs.Hash.{factor, mix, packed, hashed, spread, 
 
 mod siphash;
 
-fn wide(b: u8) -> usize
-    ensures { λ r. ⌜ (r ≡ b) × (r < 256) ⌝ }
-{
-    b as usize
-}
-
-// The byte at k, 0 past the end.
-fn byte(s: &[u8], k: usize) -> usize
-    ensures { λ r. ⌜ (r ≡ getD (now (s .entry)) k 0) × (r < 256) ⌝ }
-{
-    if k < s.len() { wide(s[k]) } else { 0 }
-}
+use text::byte;
+use text::wide_byte;
 
 // The factor of a multiplier: never small, and not linear in the multiplier.
 fn factor(m: u16) -> usize
@@ -47,7 +37,7 @@ fn four(s: &[u8], i: usize) -> usize
     requires { ⌜ i + 4 ≤ length (now s) ⌝ }
     ensures { λ r. ⌜ (let l = now (s .entry) in r ≡ packed (getD l i 0) (getD l (i + 1) 0) (getD l (i + 2) 0) (getD l (i + 3) 0)) × (r < 4294967296) ⌝ }
 {
-    wide(s[i]) + 256 * wide(s[i + 1]) + 65536 * wide(s[i + 2]) + 16777216 * wide(s[i + 3])
+    wide_byte(s[i]) + 256 * wide_byte(s[i + 1]) + 65536 * wide_byte(s[i + 2]) + 16777216 * wide_byte(s[i + 3])
 }
 
 // The first three bytes as one number.
@@ -93,7 +83,7 @@ pub fn hash(m: u16, s: &[u8]) -> usize
 pub fn short_hash(m: u16, a: u8, b: u8, c: u8) -> usize
     ensures { λ r. ⌜ r ≡ hash m (a ∷ b ∷ c ∷ []) ⌝ }
 {
-    spread(mix(factor(m), 1, wide(a) + 256 * wide(b) + 65536 * wide(c)))
+    spread(mix(factor(m), 1, wide_byte(a) + 256 * wide_byte(b) + 65536 * wide_byte(c)))
 }
 
 // The multiplier after m: drawn from the text, so that whoever chooses names against it has to know the whole text. No contract depends on it.

@@ -1,6 +1,6 @@
 // Byte texts and columns of words: comparing, taking a part, asking whether bytes are UTF-8, zeroing. Nothing is copied.
 //
-// Each function takes time linear in the bytes or words that it looks at: `word` and `part` constant time, `code_point` at most four
+// Each function takes time linear in the bytes or words that it looks at: `word`, `byte` and `part` constant time, `code_point` at most four
 // bytes. Each is total, and its result is what a definition gives: of Rattle.definitions.specs.Lists, of Rattle.definitions.specs.Utf8, or
 // of this crate's specs/.
 ghost use mathlib.Core.Path.{_≡_};
@@ -30,6 +30,19 @@ pub fn word(ws: &[u32], k: usize) -> usize
     ensures { λ r. ⌜ r ≡ getD (now (ws .entry)) k 0 ⌝ }
 {
     if k < ws.len() { wide(ws[k]) } else { 0 }
+}
+
+pub fn wide_byte(b: u8) -> usize
+    ensures { λ r. ⌜ (r ≡ b) × (r < 256) ⌝ }
+{
+    b as usize
+}
+
+// The byte at k, 0 past the end.
+pub fn byte(s: &[u8], k: usize) -> usize
+    ensures { λ r. ⌜ (r ≡ getD (now (s .entry)) k 0) × (r < 256) ⌝ }
+{
+    if k < s.len() { wide_byte(s[k]) } else { 0 }
 }
 
 // The bytes from a up to e, as many of them as there are.

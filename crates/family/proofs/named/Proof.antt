@@ -10,11 +10,11 @@ use Rattle.family.proofs.named.Tie as tie
 place-requires : tie.Need-place-requires
 place-requires c κs = search (legacy-coded, digit-rules, place-rules, needs)
 
-array-read-wide : tie.Need-array-read-wide
-array-read-wide c = search (legacy-coded, digit-rules, place-rules, needs)
+array-read-wide-byte : tie.Need-array-read-wide-byte
+array-read-wide-byte c = search (legacy-coded, digit-rules, place-rules, needs)
 
-wide-requires : tie.Need-wide-requires
-wide-requires c κs = search (legacy-coded, digit-rules, place-rules, needs)
+wide-byte-requires : tie.Need-wide-byte-requires
+wide-byte-requires c κs = search (legacy-coded, digit-rules, place-rules, needs)
 
 mul-result : tie.Need-mul-result
 mul-result c = search (legacy-coded, digit-rules, place-rules, needs)
@@ -57,8 +57,8 @@ named-spec =
     tie.close
     (tie.spec
     place-requires
-    array-read-wide
-    wide-requires
+    array-read-wide-byte
+    wide-byte-requires
     mul-result
     add-result
     mul-result-2

@@ -8,11 +8,11 @@ use Rattle.names.proofs.short_hash.Tie as tie
 factor-requires : tie.Need-factor-requires
 factor-requires c κs = search needs
 
-wide-requires : tie.Need-wide-requires
-wide-requires c κs = search needs
+wide-byte-requires : tie.Need-wide-byte-requires
+wide-byte-requires c κs = search needs
 
-wide-requires-2 : tie.Need-wide-requires-2
-wide-requires-2 c κs = search needs
+wide-byte-requires-2 : tie.Need-wide-byte-requires-2
+wide-byte-requires-2 c κs = search needs
 
 mul-mix : tie.Need-mul-mix
 mul-mix c = search needs
@@ -20,8 +20,8 @@ mul-mix c = search needs
 add-mix : tie.Need-add-mix
 add-mix c = search needs
 
-wide-requires-3 : tie.Need-wide-requires-3
-wide-requires-3 c κs = search needs
+wide-byte-requires-3 : tie.Need-wide-byte-requires-3
+wide-byte-requires-3 c κs = search needs
 
 mul-mix-2 : tie.Need-mul-mix-2
 mul-mix-2 c = search needs
@@ -43,11 +43,11 @@ short-hash-spec =
     tie.close
     (tie.spec
     factor-requires
-    wide-requires
-    wide-requires-2
+    wide-byte-requires
+    wide-byte-requires-2
     mul-mix
     add-mix
-    wide-requires-3
+    wide-byte-requires-3
     mul-mix-2
     add-mix-2
     mix-requires
