@@ -2,8 +2,9 @@
 --   given-leaves                        a visit gives a column what `OneDefinition.leaves` says of the definition with that number
 --   swept-next                          so a sweep takes a column from `swept t` to `swept (suc t)`
 --   sweep-moved, sweep-still            a column changes exactly if an outgoing set does
---   solve-start, solve-next             the loop of `solve`
---   solve-done, solve-over              its two ends
+--   solve-start, solve-next             the sweeps of `solve`
+--   solve-done, solve-over              the two ends of its loop
+--   first-*                             its first sweep, before the loop
 --   budget-enough                       with a budget of n + 1 sweeps the answer is their number
 --   incoming-made                       the row in the making is the incoming set
 --   incoming-kept, incoming-holds       the outgoing rows, the edges and all else are as they were
@@ -137,12 +138,18 @@ module _ (n r w : ℕ) (nums : List ℕ) where
     pub kept : Kept n r w l₀ l
     pub listed : Listed n r w nums l (todo n r l)
 
-  pub solve-start : (l₀ l : List ℕ) → Started n r w l₀ l → Solving l l 0
+  solve-start : (l₀ l : List ℕ) → Started n r w l₀ l → Solving l l 0
   unfolding Listed
   solve-start l₀ l S = record { cols = S .empty; moving = λ u h. absurd (omega arith); kept = kept-none n r w l; listed = λ j h e. clash (S .all j h) e }
 
-  pub agree-still : (lₑ l₀ l : List ℕ) (t : ℕ) → n + 64 ≤ r * 64 → Started n r w lₑ l₀ → Solving l₀ l t → Agree n r lₑ → Agree n r l
-  agree-still lₑ l₀ l t wide S P A = kept-both n r w lₑ l wide (kept-then n r w lₑ l₀ l (S .kept) (P .kept)) A
+  -- the words where the loop begins, as the words where `solve` does
+  solving-own : (l₀ l : List ℕ) (t : ℕ) → n + 64 ≤ r * 64 → Solving l₀ l t → Solving l l t
+  solving-own l₀ l t wide P =
+      let ps : preds-of n r l ≡ preds-of n r l₀ = kept-preds n r w l₀ l wide (P .kept) in
+      record { cols = λ b h. rw ps (P .cols b h); moving = λ u h. rw ps (P .moving u h); kept = kept-none n r w l; listed = P .listed }
+
+  pub agree-still : (lₑ l₀ l : List ℕ) (t : ℕ) → n + 64 ≤ r * 64 → Kept n r w lₑ l₀ → Solving l₀ l t → Agree n r lₑ → Agree n r l
+  agree-still lₑ l₀ l t wide K P A = kept-both n r w lₑ l wide (kept-then n r w lₑ l₀ l K (P .kept)) A
 
   module _ (l₀ l l′ : List ℕ) (t : ℕ) (z : Bool) (pos : 0 < n) (wide : n + 64 ≤ r * 64) (N : Numbered n w nums) (P : Solving l₀ l t) (Q : Sweep n r w nums l l′ z) where
     swept-cols : (b : ℕ) → b < w * 64 → outs n r w l′ b ≡ col l₀ b (suc t)
@@ -173,10 +180,10 @@ module _ (n r w : ℕ) (nums : List ℕ) where
         preds-kept : preds-of n r l″ ≡ preds-of n r l′
         preds-kept = same-preds n r l′ l″ wide (λ v h. T .kept v (λ x y. omega arith))
 
-    pub solve-done : (lₑ : List ℕ) (budget : ℕ) → Started n r w lₑ l₀ → t < budget → z ≡ false → Solved n r w nums budget lₑ l′ (Done (t + 1))
-    solve-done lₑ budget S h e =
+    pub solve-done : (lₑ : List ℕ) (budget : ℕ) → Kept n r w lₑ l₀ → t < budget → z ≡ false → Solved n r w nums budget lₑ l′ (Done (t + 1))
+    solve-done lₑ budget K h e =
         let c = sweeps-are (preds-of n r l₀) (defining-lines n nums) t (still e) (P .moving) in
-        let ps : preds-of n r l₀ ≡ preds-of n r lₑ = kept-preds n r w lₑ l₀ wide (S .kept) in
+        let ps : preds-of n r l₀ ≡ preds-of n r lₑ = kept-preds n r w lₑ l₀ wide K in
         record {
           answers = rw (← ps, c .0, le-leb (suc t) budget h, add-one t);
           holds = λ q. rw (← ps, c .1) (record {
@@ -184,18 +191,35 @@ module _ (n r w : ℕ) (nums : List ℕ) where
                 ap (λ (f : ℕ → Bool). f i) (swept-cols b (omega (arith, N .few)) ∙ sym (after-column (preds-of n r l₀) (defining-lines n nums) (suc t) (line-at n nums b)))
                 ∙ ap (λ (d : ℕ). member d (getD (sets l₀ (suc t)) i [])) (line-at-line n nums b hb);
           });
-          kept = kept-then n r w lₑ l l′ (kept-then n r w lₑ l₀ l (S .kept) (P .kept)) (Q .kept);
+          kept = kept-then n r w lₑ l l′ (kept-then n r w lₑ l₀ l K (P .kept)) (Q .kept);
         }
 
-  pub solve-over : (lₑ l₀ l : List ℕ) (t budget : ℕ) → n + 64 ≤ r * 64 → Started n r w lₑ l₀ → Solving l₀ l t → budget ≤ t → Solved n r w nums budget lₑ l OverBudget
-  solve-over lₑ l₀ l t budget wide S P h =
+  pub solve-over : (lₑ l₀ l : List ℕ) (t budget : ℕ) → n + 64 ≤ r * 64 → Kept n r w lₑ l₀ → Solving l₀ l t → budget ≤ t → Solved n r w nums budget lₑ l OverBudget
+  solve-over lₑ l₀ l t budget wide K P h =
       let c : t < (sweeps (preds-of n r lₑ) (defining-lines n nums)) .count =
-      rw (← kept-preds n r w lₑ l₀ wide (S .kept)) (sweeps-more (preds-of n r l₀) (defining-lines n nums) t (P .moving)) in
+      rw (← kept-preds n r w lₑ l₀ wide K) (sweeps-more (preds-of n r l₀) (defining-lines n nums) t (P .moving)) in
       record {
         answers = rw (lt-leb ((sweeps (preds-of n r lₑ) (defining-lines n nums)) .count) budget (omega arith));
         holds = λ q. absurd (omega arith);
-        kept = kept-then n r w lₑ l₀ l (S .kept) (P .kept);
+        kept = kept-then n r w lₑ l₀ l K (P .kept);
       }
+
+  -- The first sweep
+
+  pub first-turned : (lₑ l₀ l l′ : List ℕ) (z : Bool) → 0 < n → n + 64 ≤ r * 64 → Numbered n w nums → Started n r w lₑ l₀ → Sweep n r w nums l₀ l z → z ≡ true → Turned n r l l′
+      → Solving l′ l′ 1
+  first-turned lₑ l₀ l l′ z pos wide N S Q e T = solving-own l₀ l′ 1 wide (solve-next l₀ l₀ l 0 z pos wide N (solve-start lₑ l₀ S) Q l′ e T)
+
+  pub first-done : (lₑ l₀ l : List ℕ) (z : Bool) (budget : ℕ) → 0 < n → n + 64 ≤ r * 64 → Numbered n w nums → Started n r w lₑ l₀ → Sweep n r w nums l₀ l z → z ≡ false → (budget ≡ 0 → ⊥)
+      → Solved n r w nums budget lₑ l (Done 1)
+  first-done lₑ l₀ l z budget pos wide N S Q e h = solve-done l₀ l₀ l 0 z pos wide N (solve-start lₑ l₀ S) Q lₑ budget (S .kept) (omega arith) e
+
+  pub first-over : (lₑ l₀ : List ℕ) (budget : ℕ) → n + 64 ≤ r * 64 → Started n r w lₑ l₀ → budget ≡ 0 → Solved n r w nums budget lₑ l₀ OverBudget
+  first-over lₑ l₀ budget wide S e = solve-over lₑ l₀ l₀ 0 budget wide (S .kept) (solve-start lₑ l₀ S) (omega arith)
+
+  pub first-kept : (lₑ l₀ l l′ : List ℕ) (z : Bool) → Started n r w lₑ l₀ → Sweep n r w nums l₀ l z → Turned n r l l′ → Kept n r w lₑ l′
+  unfolding Kept
+  first-kept lₑ l₀ l l′ z S Q T v h = T .kept v (λ x y. h x (omega arith)) ∙ Q .kept v h ∙ S .kept v h
 
   pub budget-enough : (budget : ℕ) (lₑ l : List ℕ) (a : Sweeps) → Solved n r w nums budget lₑ l a → n + 1 ≤ budget
       → a ≡ Done ((sweeps (preds-of n r lₑ) (defining-lines n nums)) .count)

@@ -3,7 +3,9 @@
 --   Sweeping                  a sweep before line k: the columns, whether they changed, and the lists
 --   sweep-pass, sweep-skip    lines that are not on the list
 --   sweep-visit               a line that is visited
---   work-start, work-next, work-end, work-agree    the loop of `sweep`
+--   swept-visit, swept-end    the same of the words; all lines are passed
+--   work-start, work-next, work-end, work-agree        the loop of `sweep`
+--   first-start, first-next, first-end, first-agree    the loop of `first_sweep`
 -- Assumes nothing.
 use Prim.Native.Nat.{ℕ, zero, suc, _+_, _-_, _*_, _<_, _≤_}
 use mathlib.Core.Path.{_≡_, refl, sym, ap, _∙_, fun-ext, subst}
@@ -11,6 +13,7 @@ use mathlib.Core.Logic.{_≢_, inl, inr}
 use mathlib.Core.Bool.{Bool, true, false, cond, _&&_, _||_, and-false, true≢false}
 use mathlib.Core.List.{List, []}
 use native.Mathlib.Omega.{arith}
+use native.Mathlib.Numerals.{add-one}
 use native.Mathlib.Decide.{ℕ-discrete}
 use lib.Dec.{eqb}
 use lib.ListN.{getD}
@@ -22,9 +25,10 @@ use Rattle.bits.specs.Rows.{bit, First}
 use Rattle.bits.specs.Edges.{edges, succs, Agree, preds-of}
 use Rattle.bits.proofs.EdgeLaws.{preds-of-at}
 use Rattle.visit.specs.Layout.{outs, todo, next, Kept}
-use Rattle.visit.specs.Steps.{coming, given, visit, visited, Stable, Step, Listed, Sweep}
+use Rattle.visit.specs.Steps.{coming, given, visit, visited, Stable, Full, Step, Listed, Sweep}
 use Rattle.visit.proofs.ListFacts.{any-alike}
 use Rattle.visit.proofs.LayoutLaws.{kept-none, kept-then, kept-preds, kept-both}
+use Rattle.visit.proofs.StepLaws.{step-full}
 
 module _ (preds : List (List ℕ)) (nums : List ℕ) where
   pub given-local : (b j : ℕ) (f g : ℕ → Bool) → ((p : ℕ) → member p (getD preds j []) ≡ true → f p ≡ g p) → given preds nums b f j ≡ given preds nums b g j
@@ -151,22 +155,53 @@ module _ (preds : List (List ℕ)) (nums : List ℕ) where
                 ];
               }
 
--- The loop of `sweep`: the list stands at bit a on, up to bit e, and bit q is next
+-- The words l, where the sweep began with l₀ and is before line k
 
 module _ (n r w : ℕ) (nums : List ℕ) where
+  abbrev Swept : List ℕ → List ℕ → ℕ → Bool → Type 0
+  Swept l₀ l k z = Sweeping (preds-of n r l₀) nums n (w * 64) (outs n r w l₀) (outs n r w l) k (todo n r l) (next n r l) z
+
+  -- no edge leads from k to j
+  no-edge : (l₀ l : List ℕ) (k j : ℕ) → n + 64 ≤ r * 64 → Agree n r l₀ → Kept n r w l₀ l → k < n → j < n → succs n r l k j ≡ false → member k (getD (preds-of n r l₀) j []) ≡ false
+  no-edge l₀ l k j wide A K hk hj e =
+      ap (λ (ps : List (List ℕ)). member k (getD ps j [])) (sym (kept-preds n r w l₀ l wide K)) ∙ ap (member k) (preds-of-at n r l j hj)
+      ∙ member-filter (λ i. edges n r l i j) (up-to n) k ∙ ap (member k (up-to n) &&_) (sym (kept-both n r w l₀ l wide K A .both k j hk hj) ∙ e) ∙ and-false (member k (up-to n))
+
+  swept-visit : (l₀ l l′ : List ℕ) (k : ℕ) (t y z : Bool) → n + 64 ≤ r * 64 → Agree n r l₀ → Kept n r w l₀ l → k < n → Step n r w k nums l l′ y → z ≡ (y || t)
+      → Swept l₀ l k t → Swept l₀ l′ (suc k) z
+  swept-visit l₀ l l′ k t y z wide A K hk P ez W =
+      sweep-visit (preds-of n r l₀) nums n (w * 64) (outs n r w l₀) (outs n r w l) (outs n r w l′) k (todo n r l) (next n r l) (todo n r l′) (next n r l′) t y z hk
+      (λ b h. P .updated .cols b h ∙ ap (λ (ps : List (List ℕ)). visit ps nums b (outs n r w l b) k) (kept-preds n r w l₀ l wide K))
+      (P .updated .same) (P .updated .other) (P .todo-old) (P .next-old)
+      (λ e j x h f. no-edge l₀ l k j wide A K hk h (P .todo-new e j x h f)) (λ e j h f. no-edge l₀ l k j wide A K hk (omega (arith, hk)) (P .next-new e j h f))
+      ez W
+
+  swept-end : (l₀ l : List ℕ) (k : ℕ) (z : Bool) → n + 64 ≤ r * 64 → Kept n r w l₀ l → k ≡ n → Swept l₀ l k z → Sweep n r w nums l₀ l z
+  unfolding Listed
+  swept-end l₀ l k z wide K e W =
+      let D = subst (λ (x : ℕ). Swept l₀ l x z) e W in
+      record {
+        cols = D .cols;
+        kept = K;
+        same = D .same;
+        other = λ f. (let s = D .other f in (s .0, s .1, λ x. s .4 (ap (λ (g : ℕ → Bool). g (s .2)) x)));
+        listed = λ j x f b g. rw (kept-preds n r w l₀ l wide K) (D .behind j x f b g);
+      }
+
+  -- The loop of `sweep`: the list stands at bit a on, up to bit e, and bit q is next
+
   pub record Working (l₀ l : List ℕ) (a e q : ℕ) (z : Bool) : Type 0 where
     pub low : a ≤ q
     pub high : q ≤ e
     pub kept : Kept n r w l₀ l
-    pub sweeping : Sweeping (preds-of n r l₀) nums n (w * 64) (outs n r w l₀) (outs n r w l) (q - a) (todo n r l) (next n r l) z
+    pub sweeping : Swept l₀ l (q - a) z
 
   skip-to : (l₀ l : List ℕ) (a k q : ℕ) (z : Bool) → a ≡ (n * r + n * r) * 64 → k ≤ q → q ≤ n → ((j : ℕ) → a + k ≤ j → j < a + q → bit l j ≡ false)
-      → Sweeping (preds-of n r l₀) nums n (w * 64) (outs n r w l₀) (outs n r w l) k (todo n r l) (next n r l) z
-      → Sweeping (preds-of n r l₀) nums n (w * 64) (outs n r w l₀) (outs n r w l) q (todo n r l) (next n r l) z
+      → Swept l₀ l k z → Swept l₀ l q z
   unfolding todo
   skip-to l₀ l a k q z ea h g none W =
       let e : k + (q - k) ≡ q = omega arith in
-      subst (λ (x : ℕ). Sweeping (preds-of n r l₀) nums n (w * 64) (outs n r w l₀) (outs n r w l) x (todo n r l) (next n r l) z) e
+      subst (λ (x : ℕ). Swept l₀ l x z) e
       (sweep-skip (preds-of n r l₀) nums n (w * 64) (outs n r w l₀) (outs n r w l) k (q - k) (todo n r l) (next n r l) z (omega arith)
       (λ j x y. ap (bit l) (omega arith) ∙ none (a + j) (omega arith) (omega arith)) W)
 
@@ -181,12 +216,6 @@ module _ (n r w : ℕ) (nums : List ℕ) where
         (sweep-none (preds-of n r l) nums n (w * 64) (outs n r w l) (todo n r l) (next n r l) L);
   }
 
-  -- no edge leads from k to j
-  no-edge : (l₀ l : List ℕ) (k j : ℕ) → n + 64 ≤ r * 64 → Agree n r l₀ → Kept n r w l₀ l → k < n → j < n → succs n r l k j ≡ false → member k (getD (preds-of n r l₀) j []) ≡ false
-  no-edge l₀ l k j wide A K hk hj e =
-      ap (λ (ps : List (List ℕ)). member k (getD ps j [])) (sym (kept-preds n r w l₀ l wide K)) ∙ ap (member k) (preds-of-at n r l j hj)
-      ∙ member-filter (λ i. edges n r l i j) (up-to n) k ∙ ap (member k (up-to n) &&_) (sym (kept-both n r w l₀ l wide K A .both k j hk hj) ∙ e) ∙ and-false (member k (up-to n))
-
   pub work-next : (l₀ l l′ : List ℕ) (q q′ : ℕ) (t y z : Bool) → n + 64 ≤ r * 64 → Agree n r l₀
       → Working l₀ l ((n * r + n * r) * 64) ((n * r + n * r) * 64 + n) q t → q < (n * r + n * r) * 64 + n
       → Step n r w (q - (n * r + n * r) * 64) nums l l′ y → z ≡ (y || t) → First l′ (q + 1) ((n * r + n * r) * 64 + n) q′
@@ -194,31 +223,47 @@ module _ (n r w : ℕ) (nums : List ℕ) where
   work-next l₀ l l′ q q′ t y z wide A W hq P ez F =
       let a = (n * r + n * r) * 64 in
       let k = q - a in
-      let hk : k < n = omega (arith, W .low) in
-      let one = sweep-visit (preds-of n r l₀) nums n (w * 64) (outs n r w l₀) (outs n r w l) (outs n r w l′) k (todo n r l) (next n r l) (todo n r l′) (next n r l′) t y z hk
-      (λ b h. P .updated .cols b h ∙ ap (λ (ps : List (List ℕ)). visit ps nums b (outs n r w l b) k) (kept-preds n r w l₀ l wide (W .kept)))
-      (P .updated .same) (P .updated .other) (P .todo-old) (P .next-old)
-      (λ e j x h f. no-edge l₀ l k j wide A (W .kept) hk h (P .todo-new e j x h f)) (λ e j h f. no-edge l₀ l k j wide A (W .kept) hk (omega (arith, hk)) (P .next-new e j h f))
-      ez (W .sweeping) in
       record {
         low = omega (arith, F .from, W .low);
         high = F .upto;
         kept = kept-then n r w l₀ l l′ (W .kept) (P .kept);
-        sweeping = skip-to l₀ l′ a (suc k) (q′ - a) z refl (omega (arith, F .from, W .low)) (omega (arith, F .upto)) (λ j x y. F .none j (omega (arith, W .low)) (omega (arith, F .from, W .low))) one;
+        sweeping = skip-to l₀ l′ a (suc k) (q′ - a) z refl (omega (arith, F .from, W .low)) (omega (arith, F .upto)) (λ j x y. F .none j (omega (arith, W .low)) (omega (arith, F .from, W .low)))
+            (swept-visit l₀ l l′ k t y z wide A (W .kept) (omega (arith, W .low)) P ez (W .sweeping));
       }
 
   pub work-agree : (l₀ l : List ℕ) (a e q : ℕ) (z : Bool) → n + 64 ≤ r * 64 → Working l₀ l a e q z → Agree n r l₀ → Agree n r l
   work-agree l₀ l a e q z wide W A = kept-both n r w l₀ l wide (W .kept) A
 
   pub work-end : (l₀ l : List ℕ) (a q : ℕ) (z : Bool) → n + 64 ≤ r * 64 → Working l₀ l a (a + n) q z → a + n ≤ q → Sweep n r w nums l₀ l z
-  unfolding Listed
-  work-end l₀ l a q z wide W h =
-      let e : q - a ≡ n = omega (arith, W .high) in
-      let D = subst (λ (x : ℕ). Sweeping (preds-of n r l₀) nums n (w * 64) (outs n r w l₀) (outs n r w l) x (todo n r l) (next n r l) z) e (W .sweeping) in
-      record {
-        cols = D .cols;
-        kept = W .kept;
-        same = D .same;
-        other = λ f. (let s = D .other f in (s .0, s .1, λ x. s .4 (ap (λ (g : ℕ → Bool). g (s .2)) x)));
-        listed = λ j x f b g. rw (kept-preds n r w l₀ l wide (W .kept)) (D .behind j x f b g);
-      }
+  work-end l₀ l a q z wide W h = swept-end l₀ l (q - a) z wide (W .kept) (omega (arith, W .high)) (W .sweeping)
+
+  -- The loop of `first_sweep`: line k is next, and every line is on the list
+
+  pub record Walking (l₀ l : List ℕ) (k : ℕ) (z : Bool) : Type 0 where
+    pub upto : k ≤ n
+    pub kept : Kept n r w l₀ l
+    pub full : Full n r l
+    pub sweeping : Swept l₀ l k z
+
+  pub first-start : (l : List ℕ) → Full n r l → Walking l l 0 false
+  first-start l F = record {
+    upto = omega arith;
+    kept = kept-none n r w l;
+    full = F;
+    sweeping = sweep-none (preds-of n r l) nums n (w * 64) (outs n r w l) (todo n r l) (next n r l) (λ j h e. clash (F j h) e);
+  }
+
+  pub first-next : (l₀ l l′ : List ℕ) (k : ℕ) (t y z : Bool) → n + 64 ≤ r * 64 → Agree n r l₀ → Walking l₀ l k t → k < n → Step n r w k nums l l′ y → z ≡ (y || t)
+      → Walking l₀ l′ (k + 1) z
+  first-next l₀ l l′ k t y z wide A W hk P ez = rw (add-one k) (record {
+    upto = hk;
+    kept = kept-then n r w l₀ l l′ (W .kept) (P .kept);
+    full = step-full n r w k nums l l′ y P (W .full);
+    sweeping = swept-visit l₀ l l′ k t y z wide A (W .kept) hk P ez (W .sweeping);
+  })
+
+  pub first-agree : (l₀ l : List ℕ) (k : ℕ) (z : Bool) → n + 64 ≤ r * 64 → Walking l₀ l k z → Agree n r l₀ → Agree n r l
+  first-agree l₀ l k z wide W A = kept-both n r w l₀ l wide (W .kept) A
+
+  pub first-end : (l₀ l : List ℕ) (k : ℕ) (z : Bool) → n + 64 ≤ r * 64 → Walking l₀ l k z → n ≤ k → Sweep n r w nums l₀ l z
+  first-end l₀ l k z wide W h = swept-end l₀ l k z wide (W .kept) (omega (arith, W .upto)) (W .sweeping)

@@ -1,19 +1,20 @@
 // Reaching definitions of one register family, by sweeps over bit rows: the inner loop of `recover` of pseudo_ssa.rs. Crate `visit` has
 // the layout of the working space.
 //
-// A sweep visits, in order, only the lines of which a predecessor changed since their last visit: any other line would not change, so the
-// outgoing rows after each sweep, and the number of sweeps, are those of `sweeps` of Rattle.definitions.specs.Sweeps, which the contracts
-// cite. A sweep takes 3 r steps besides its visits; the start takes n w + 2 r. By `budget-enough` of proofs/Counting n + 1 sweeps are
-// always enough.
+// The first sweep visits every line. Any other visits, in order, only the lines of which a predecessor changed since their last visit: a
+// line that it passes over would not change, so the outgoing rows after each sweep, and the number of sweeps, are those of `sweeps` of
+// Rattle.definitions.specs.Sweeps, which the contracts cite. Besides its visits the first sweep takes 2 r steps, any other 3 r; the start
+// takes n w + 2 r. By `budget-enough` of proofs/Counting n + 1 sweeps are always enough.
 ghost use mathlib.Core.Path.{_≡_};
 ghost use Prim.Native.Nat.{_+_, _*_, _<_, _≤_};
 ghost use lib.ListN.{length};
 ghost use Rattle.bits.specs.Edges.{Agree};
 ghost use Rattle.visit.specs.Layout.{making, Room, todo};
 ghost use Rattle.visit.specs.Numbers.{Numbered, Numbering, Counted};
-ghost use Rattle.visit.specs.Steps.{Listed, Sweep, Started, Turned};
+ghost use Rattle.visit.specs.Steps.{Full, Listed, Sweep, Started, Turned};
 ghost use Rattle.sweep.specs.Solved.{Solved, Incoming};
 use visit::coming_row;
+use visit::first_step;
 use visit::step_line;
 use words::narrow;
 
@@ -31,6 +32,21 @@ pub fn incoming_row(space: &mut [u64], n: usize, r: usize, w: usize, i: usize) -
 {
     coming_row(space, n, r, w, i);
     (n * r + n * r + r + r + n * w) * 64
+}
+
+// The first sweep: every line is on the list, so none is looked for. Answers whether an outgoing row changed.
+fn first_sweep(space: &mut [u64], defs: &[u16], n: usize, r: usize, w: usize) -> bool
+    requires { ⌜ Room n r w (now space) × Numbered n w (now defs) × Agree n r (now space) × Full n r (now space) ⌝ }
+    ensures { λ z. ⌜ Sweep n r w (now (defs .entry)) (now (space .entry)) (now (space .exit)) z ⌝ }
+{
+    let mut changed = false;
+    let mut i = 0;
+    while i < n {
+        let c = first_step(space, defs, n, r, w, i);
+        changed = bits::either(c, changed);
+        i += 1;
+    }
+    changed
 }
 
 // One sweep over the lines to visit; answers whether an outgoing row changed.
@@ -77,7 +93,15 @@ pub fn solve(space: &mut [u64], defs: &[u16], n: usize, r: usize, w: usize, budg
     ensures { λ a. ⌜ Solved n r w (now (defs .entry)) budget (now (space .entry)) (now (space .exit)) a ⌝ }
 {
     start(space, n, r, w);
-    let mut count = 0;
+    if budget == 0 {
+        return Sweeps::OverBudget;
+    }
+    if first_sweep(space, defs, n, r, w) {
+        turn(space, n, r, w);
+    } else {
+        return Sweeps::Done(1);
+    }
+    let mut count = 1;
     while count < budget {
         count += 1;
         if sweep(space, defs, n, r, w) {

@@ -5,11 +5,15 @@
 --   make-own, make-coming              a line that defines, and one that does not
 --   row-ready, row-next                the loop of `coming_row`
 --   visiting-*, visit-made             the loop of `visit_line`
+--   visit-word                         where a row is one word
 --   ahead-by, back-none, back-by       the successors on one list
 --   mark-both                          on both
 --   preds-row, succs-row               the span of a row
---   visit-agree, ahead-agree           the graph stays
+--   succs-between, ahead-between       of the successors, before and after the first list is written
+--   visit-agree                        the graph stays
 --   step-changed, step-same            a visit with its marks
+--   first-changed                      where every line is on this sweep's list, the marks on the next sweep's are enough
+--   step-full                          a step leaves every line on it
 --   start-lists, turn-lists            the lists before and between sweeps
 -- Assumes nothing.
 use Prim.Native.Nat.{ℕ, zero, suc, _+_, _-_, _*_, _/_, _%_, _^_, _<_, _≤_}
@@ -26,7 +30,7 @@ use lib.Pow.{pow-lt}
 use lib.Bits.{bitOr}
 use borrow.Author.Tests.{eq-eqb, ne-eqb, eqb-true, eqb-false, le-leb}
 use Rattle.definitions.specs.Lists.{any, filter, range}
-use Rattle.theory.proofs.Bools.{clash, not-so, or-left, or-right, lt-or-ge}
+use Rattle.theory.proofs.Bools.{decided, clash, not-so, or-left, or-right, lt-or-ge}
 use Rattle.bits.specs.Rows.{word-bit, bit, Away, Filled, joined, joined-low, copied, Put, Differs, First}
 use Rattle.bits.specs.Edges.{edges, succs, Spanned, Agree, preds-of, Between}
 use Rattle.bits.specs.declared.Span.{Span}
@@ -35,7 +39,7 @@ use Rattle.bits.proofs.RowLaws.{bit-in-word, same-bit, filled-off, fill-none, f
 use Rattle.bits.proofs.EdgeLaws.{row-in, rows-apart, kept-succs, kept-agree, preds-of-at}
 use Rattle.visit.specs.Layout.{base, making, Room, outs, todo, next, Kept}
 use Rattle.visit.specs.Numbers.{Numbered}
-use Rattle.visit.specs.Steps.{Word, coming, given, Visit, Ahead, Back, Marked, Step, Started, Turned}
+use Rattle.visit.specs.Steps.{Word, coming, given, Visit, Full, Ahead, Back, Marked, Step, Started, Turned}
 use Rattle.visit.proofs.LayoutLaws.{room-same, outs-at, outs-past, outs-word, same-outs, same-preds}
 
 -- One word of a row
@@ -252,18 +256,28 @@ module _ (n r w i : ℕ) (nums l₀ l : List ℕ) (z : Bool) (hi : i < n) (G : V
 pub visit-made : (n r w i k : ℕ) (nums l₀ l : List ℕ) (z : Bool) → i < n → k ≤ w → w ≤ k → Visiting n r w i k nums l₀ l z → Visit n r w i nums l₀ l z
 visit-made n r w i k nums l₀ l z hi h g G = let e : k ≡ w = omega arith in visit-all n r w i nums l₀ l z hi (rw e at G)
 
+pub visit-word : (n r i x : ℕ) (nums l₀ l : List ℕ) (z : Bool) → i < n → Room n r 1 l₀ → Word 0 x (λ b. given (preds-of n r l₀) nums b (outs n r 1 l₀ b) i)
+    → Put l₀ l (base n r + i) x z → Visit n r 1 i nums l₀ l z
+visit-word n r i x nums l₀ l z hi R W Q =
+    let p : base n r + i ≡ base n r + i + 0 = omega arith in
+    visit-all n r 1 i nums l₀ l z hi
+    (visiting-next n r 1 i 0 nums l₀ l₀ false R (visiting-start n r 1 i nums l₀) hi x i l z z refl (omega arith) (omega arith) W (rw p at Q) (sym (or-false z)))
+
 -- The lists of lines
 
 or-none : (a b : Bool) → (a || b) ≡ false → (a ≡ false) × (b ≡ false)
 or-none a b e = (not-so a (λ q. clash (or-left a b q) e), not-so b (λ q. clash (or-right a b q) e))
 
 -- u is row i of the successors, and x has its bits
-module _ (n r i u : ℕ) (l₀ l : List ℕ) (x : Span) (wide : n + 64 ≤ r * 64) (hi : i < n) (eu : u ≡ i * r) (B : Between n l₀ (n * r + u) x) where
+module _ (n r i u : ℕ) (l₀ l : List ℕ) (x : Span) (wide : n + 64 ≤ r * 64) (hi : i < n) (eu : u ≡ i * r) (S : Between n l₀ (n * r + i * r) x) where
   abbrev row : ℕ
   row = n * r + u
 
   abbrev word : ℕ
   word = x .from / 64
+
+  B : Between n l₀ row x
+  B = rw eu S
 
   succ-bit : (j : ℕ) → succs n r l₀ i j ≡ bit l₀ (row * 64 + j)
   unfolding succs
@@ -335,8 +349,18 @@ module _ (n r i u : ℕ) (l₀ l : List ℕ) (x : Span) (wide : n + 64 ≤ r * 6
       ]
 
 module _ (n r i : ℕ) (l₀ l₁ : List ℕ) (wide : n + 64 ≤ r * 64) (hi : i < n) (P : Ahead n r i l₀ l₁) where
-  pub ahead-agree : Agree n r l₀ → Agree n r l₁
-  ahead-agree A = kept-agree n r l₀ l₁ wide (λ v h. P .kept v (λ x y. omega arith)) A
+  pub ahead-between : (x : Span) → Between n l₀ (n * r + i * r) x → Between n l₁ (n * r + i * r) x
+  ahead-between x B = record {
+    low = B .low;
+    order = B .order;
+    high = B .high;
+    first = λ h. same (x .from) (omega (arith, B .high)) ∙ B .first h;
+    below = λ p h g. same ((n * r + i * r) * 64 + p) (omega arith) ∙ B .below p h g;
+    above = λ p h g. same ((n * r + i * r) * 64 + p) (omega arith) ∙ B .above p h g;
+  }
+    where
+      same : (a : ℕ) → a < (n * r + i * r) * 64 + n → bit l₁ a ≡ bit l₀ a
+      same a h = same-bit l₁ l₀ a (P .kept (a / 64) (λ y z. omega (arith, row-in i n r hi)))
 
   pub mark-both : (l : List ℕ) → Back n r i l₁ l → Marked n r i l₀ l
   unfolding todo next
@@ -359,6 +383,9 @@ preds-row n r i u l A hi e = rw e (A .preds-in i hi)
 
 pub succs-row : (n r i u : ℕ) (l : List ℕ) → Agree n r l → i < n → u ≡ i * r → Spanned n r l (n * r + u)
 succs-row n r i u l A hi e = rw e (A .succs-in i hi)
+
+pub succs-between : (n r i u : ℕ) (l : List ℕ) (x : Span) → u ≡ i * r → Between n l (n * r + u) x → Between n l (n * r + i * r) x
+succs-between n r i u l x e B = rw (← e) B
 
 -- the lists are not where a visit writes
 module _ (n r w i : ℕ) (nums l₀ l : List ℕ) (z : Bool) (wide : n + 64 ≤ r * 64) (Q : Visit n r w i nums l₀ l z) where
@@ -404,6 +431,15 @@ module _ (n r w i : ℕ) (nums l₀ l : List ℕ) (z : Bool) (wide : n + 64 ≤ 
 
       succs-kept : (j : ℕ) → j < n → succs n r l i j ≡ succs n r l₀ i j
       succs-kept j h = kept-succs n r l₀ l wide (λ v x. Q .kept v (λ a b. omega arith)) i j hi h
+
+  pub first-changed : (l′ : List ℕ) → i < n → z ≡ true → Full n r l₀ → Back n r i l l′ → Step n r w i nums l₀ l′ true
+  first-changed l′ hi e F B = step-changed l′ hi e (mark-both n r i l l wide hi ahead l′ B)
+    where
+      ahead : Ahead n r i l l
+      ahead = record { kept = λ v h. refl; old = λ j h f. f; new = λ j h f. clash (visit-todo j h ∙ F j h) f }
+
+pub step-full : (n r w i : ℕ) (nums l₀ l : List ℕ) (z : Bool) → Step n r w i nums l₀ l z → Full n r l₀ → Full n r l
+step-full n r w i nums l₀ l z P F j h = elim (decided (todo n r l j)) [ inl e ↦ e | inr e ↦ clash (F j h) (P .todo-old j h e) ]
 
 -- Before the first sweep, and between sweeps
 

@@ -5,10 +5,11 @@
 --   visit, visited k           the column f after a visit of line i; of the lines below k in order
 --   Stable                     a visit of line j would change nothing
 --   Updated                    line i is visited, and z says whether its outgoing row changed
---   Visit, Marked, Step        what `visit_line`, `mark` and `step_line` do
+--   Visit, Marked, Step        what `visit_line`, `mark`, and `step_line` and `first_step` do
 --   Ahead, Back                what `mark_ahead` and `mark_back` do
+--   Full                       every line is on this sweep's list
 --   Listed                     a line that is not on the list would not change
---   Sweep                      what `sweep` does
+--   Sweep                      what `sweep` and `first_sweep` do
 --   Started, Turned            the lists of lines before the first sweep, and between sweeps
 -- Assumes nothing.
 use Prim.Native.Nat.{ℕ, zero, suc, _+_, _*_, _<_, _≤_}
@@ -52,6 +53,9 @@ pub record Updated (n r w i : ℕ) (nums l₀ l : List ℕ) (z : Bool) : Type 0 
 pub record Visit (n r w i : ℕ) (nums l₀ l : List ℕ) (z : Bool) : Type 0 where
   pub updated : Updated n r w i nums l₀ l z
   pub kept : (v : ℕ) → Away v (base n r) (n * w + w) → getD l v 0 ≡ getD l₀ v 0
+
+abbrev pub Full : ℕ → ℕ → List ℕ → Type 0
+Full n r l = (j : ℕ) → j < n → todo n r l j ≡ true
 
 -- the successors of line i are on this sweep's list
 pub record Ahead (n r i : ℕ) (l₀ l : List ℕ) : Type 0 where

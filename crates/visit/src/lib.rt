@@ -22,10 +22,11 @@ ghost use lib.ListN.{getD};
 ghost use lib.Dec.{eqb};
 ghost use Rattle.definitions.specs.Lists.{any};
 ghost use Rattle.bits.specs.Rows.{Filled};
-ghost use Rattle.bits.specs.Edges.{Agree, preds-of};
+ghost use Rattle.bits.specs.Edges.{Agree, preds-of, Between};
 ghost use Rattle.visit.specs.Layout.{making, Room, outs};
 ghost use Rattle.visit.specs.Numbers.{Numbered};
-ghost use Rattle.visit.specs.Steps.{Word, coming, given, Visit, Ahead, Back, Marked, Step};
+ghost use Rattle.visit.specs.Steps.{Word, coming, given, Visit, Full, Ahead, Back, Marked, Step};
+use bits::Span;
 use words::wide;
 
 // Word k of a row in which bit d alone is set.
@@ -92,12 +93,24 @@ fn given_word(space: &[u64], defs: &[u16], n: usize, r: usize, w: usize, i: usiz
     bit_word(k, wide(d))
 }
 
+// Visits line i where a row is one word, without a loop; answers whether its outgoing row changed.
+fn visit_word(space: &mut [u64], defs: &[u16], n: usize, r: usize, i: usize) -> bool
+    requires { ⌜ Room n r 1 (now space) × (i < n) × Numbered n 1 (now defs) × Agree n r (now space) ⌝ }
+    ensures { λ z. ⌜ Visit n r 1 i (now (defs .entry)) (now (space .entry)) (now (space .exit)) z ⌝ }
+{
+    let x = given_word(space, defs, n, r, 1, i, 0);
+    bits::put(space, n * r + n * r + r + r + i, x)
+}
+
 // Visits line i; answers whether its outgoing row changed. A word of a row depends only on that word of the others, so each is written as
 // soon as it is known.
 fn visit_line(space: &mut [u64], defs: &[u16], n: usize, r: usize, w: usize, i: usize) -> bool
     requires { ⌜ Room n r w (now space) × (i < n) × Numbered n w (now defs) × Agree n r (now space) ⌝ }
     ensures { λ z. ⌜ Visit n r w i (now (defs .entry)) (now (space .entry)) (now (space .exit)) z ⌝ }
 {
+    if w == 1 {
+        return visit_word(space, defs, n, r, i);
+    }
     let u = n * r + n * r + r + r + bits::row(n, w, i);
     let mut changed = false;
     let mut k = 0;
@@ -110,25 +123,32 @@ fn visit_line(space: &mut [u64], defs: &[u16], n: usize, r: usize, w: usize, i: 
     changed
 }
 
-// Puts the successors of line i on this sweep's list. Those at or below i are passed already.
-fn mark_ahead(space: &mut [u64], n: usize, r: usize, w: usize, i: usize)
+// Where the successors of line i lie.
+fn succs_span(space: &[u64], n: usize, r: usize, w: usize, i: usize) -> Span
     requires { ⌜ Room n r w (now space) × (i < n) × Agree n r (now space) ⌝ }
+    ensures { λ x. ⌜ Between n (now (space .entry)) (n * r + i * r) x ⌝ }
+{
+    let s = n * r + bits::row(n, r, i);
+    bits::row_span(space, n, r, s)
+}
+
+// Puts the successors of line i, which lie in x, on this sweep's list. Those at or below i are passed already.
+fn mark_ahead(space: &mut [u64], n: usize, r: usize, w: usize, i: usize, x: Span)
+    requires { ⌜ Room n r w (now space) × (i < n) × Between n (now space) (n * r + i * r) x ⌝ }
     ensures { λ z. ⌜ Ahead n r i (now (space .entry)) (now (space .exit)) ⌝ }
 {
     let s = n * r + bits::row(n, r, i);
-    let x = bits::row_span(space, n, r, s);
     let f = x.from / 64;
     let todo = n * r + n * r;
     bits::or_row(space, todo + (f - s), f, (x.end + 63) / 64 - f);
 }
 
-// Puts the successors of line i that are at or below it on the next sweep's list.
-fn mark_back(space: &mut [u64], n: usize, r: usize, w: usize, i: usize)
-    requires { ⌜ Room n r w (now space) × (i < n) × Agree n r (now space) ⌝ }
+// Puts those that are at or below it on the next sweep's list.
+fn mark_back(space: &mut [u64], n: usize, r: usize, w: usize, i: usize, x: Span)
+    requires { ⌜ Room n r w (now space) × (i < n) × Between n (now space) (n * r + i * r) x ⌝ }
     ensures { λ z. ⌜ Back n r i (now (space .entry)) (now (space .exit)) ⌝ }
 {
     let s = n * r + bits::row(n, r, i);
-    let x = bits::row_span(space, n, r, s);
     let own = s * 64 + i;
     if own < x.from {
         return;
@@ -143,8 +163,9 @@ fn mark(space: &mut [u64], n: usize, r: usize, w: usize, i: usize)
     requires { ⌜ Room n r w (now space) × (i < n) × Agree n r (now space) ⌝ }
     ensures { λ z. ⌜ Marked n r i (now (space .entry)) (now (space .exit)) ⌝ }
 {
-    mark_ahead(space, n, r, w, i);
-    mark_back(space, n, r, w, i);
+    let x = succs_span(space, n, r, w, i);
+    mark_ahead(space, n, r, w, i, x);
+    mark_back(space, n, r, w, i, x);
 }
 
 // Visits line i, and puts its successors on the lists where it changed; answers whether it did.
@@ -154,6 +175,19 @@ pub fn step_line(space: &mut [u64], defs: &[u16], n: usize, r: usize, w: usize, 
 {
     if visit_line(space, defs, n, r, w, i) {
         mark(space, n, r, w, i);
+        return true;
+    }
+    false
+}
+
+// The same where every line is on this sweep's list: only the next sweep's list is written.
+pub fn first_step(space: &mut [u64], defs: &[u16], n: usize, r: usize, w: usize, i: usize) -> bool
+    requires { ⌜ Room n r w (now space) × (i < n) × Numbered n w (now defs) × Agree n r (now space) × Full n r (now space) ⌝ }
+    ensures { λ z. ⌜ Step n r w i (now (defs .entry)) (now (space .entry)) (now (space .exit)) z ⌝ }
+{
+    if visit_line(space, defs, n, r, w, i) {
+        let x = succs_span(space, n, r, w, i);
+        mark_back(space, n, r, w, i, x);
         return true;
     }
     false

@@ -1,6 +1,5 @@
 -- `visit::mark_ahead` meets its contract. Assumes nothing.
-use native.Mathlib.Omega.{arith}
-use Rattle.visit.proofs.StepLaws.{ahead-by, succs-row}
+use Rattle.visit.proofs.StepLaws.{ahead-by}
 use borrow.Author.Needs.{needs}
 use Rattle.visit.proofs.mark_ahead.Statement.{statement}
 use Rattle.visit.proofs.mark_ahead.Tie as tie
@@ -13,9 +12,6 @@ row-requires c κs = search needs
 
 add-s : tie.Need-add-s
 add-s c = search needs
-
-row-span-requires : tie.Need-row-span-requires
-row-span-requires c κs = (search needs, omega arith, omega arith, search (succs-row, needs))
 
 mul-todo : tie.Need-mul-todo
 mul-todo c = search needs
@@ -54,7 +50,6 @@ mark-ahead-spec =
     mul-s
     row-requires
     add-s
-    row-span-requires
     mul-todo
     mul-todo-2
     add-todo

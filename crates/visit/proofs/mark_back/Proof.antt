@@ -1,6 +1,5 @@
 -- `visit::mark_back` meets its contract. Assumes nothing.
-use native.Mathlib.Omega.{arith}
-use Rattle.visit.proofs.StepLaws.{back-none, back-by, succs-row}
+use Rattle.visit.proofs.StepLaws.{back-none, back-by}
 use borrow.Author.Needs.{needs}
 use Rattle.visit.proofs.mark_back.Statement.{statement}
 use Rattle.visit.proofs.mark_back.Tie as tie
@@ -14,17 +13,11 @@ row-requires c κs = search needs
 add-s : tie.Need-add-s
 add-s c = search needs
 
-row-span-requires : tie.Need-row-span-requires
-row-span-requires c κs = (search needs, omega arith, omega arith, search (succs-row, needs))
-
 mul-own : tie.Need-mul-own
 mul-own c = search needs
 
 add-own : tie.Need-add-own
 add-own c = search needs
-
-same-length : tie.Need-same-length
-same-length c = search needs
 
 returns : tie.Need-returns
 returns c = search (back-none, needs)
@@ -56,8 +49,8 @@ sub-or-low-2 c = search needs
 or-low-requires : tie.Need-or-low-requires
 or-low-requires c κs = search needs
 
-same-length-2 : tie.Need-same-length-2
-same-length-2 c = search needs
+same-length : tie.Need-same-length
+same-length c = search needs
 
 returns-2 : tie.Need-returns-2
 returns-2 c = search (back-by, needs)
@@ -69,10 +62,8 @@ mark-back-spec =
     mul-s
     row-requires
     add-s
-    row-span-requires
     mul-own
     add-own
-    same-length
     returns
     mul-next
     mul-next-2
@@ -83,5 +74,5 @@ mark-back-spec =
     mul-or-low
     sub-or-low-2
     or-low-requires
-    same-length-2
+    same-length
     returns-2)

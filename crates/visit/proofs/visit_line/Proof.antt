@@ -13,6 +13,18 @@ Inv-loop space₀ defs n r w i u changed₀ k₀ space changed k = (k ≤ w) × 
 abbrev μ-loop : tie.MeasureT-loop
 μ-loop space₀ defs n r w i u changed₀ k₀ space changed k = w - k
 
+visit-word-requires : tie.Need-visit-word-requires Inv-loop μ-loop
+visit-word-requires c κs =
+    let pre = c .before .before .before .before .pre in
+    let one = c .before .if1 .taken in
+    (rw one at (pre .0), pre .1, rw one at (pre .2), pre .3)
+
+same-length : tie.Need-same-length Inv-loop μ-loop
+same-length c = search needs
+
+returns : tie.Need-returns Inv-loop μ-loop
+returns c = rw (c .before .before .before .before .if1 .taken) (c .before .before .visit-word .ensures)
+
 mul-u : tie.Need-mul-u Inv-loop μ-loop
 mul-u c = search needs
 
@@ -38,7 +50,7 @@ loop-holds : tie.Need-loop-holds Inv-loop μ-loop
 loop-holds c = search (visiting-start, needs)
 
 given-word-requires : tie.Need-given-word-requires Inv-loop μ-loop
-given-word-requires c κs = visiting-ready _ _ _ _ _ _ _ _ _ (c .before .before .before .before .before .before .pre .0) (c .before .before .loop .inv .2) (c .before .before .before .before .before .before .pre .1) (c .before .before .loop .inv .1) (c .before .loop-test .taken) (c .before .before .before .before .before .before .pre .2) (c .before .before .before .before .before .before .pre .3)
+given-word-requires c κs = visiting-ready _ _ _ _ _ _ _ _ _ (c .before .before .before .before .before .before .before .pre .0) (c .before .before .loop .inv .2) (c .before .before .before .before .before .before .before .pre .1) (c .before .before .loop .inv .1) (c .before .loop-test .taken) (c .before .before .before .before .before .before .before .pre .2) (c .before .before .before .before .before .before .before .pre .3)
 
 add-put : tie.Need-add-put Inv-loop μ-loop
 add-put c = search needs
@@ -56,13 +68,13 @@ loop-less : tie.Need-loop-less Inv-loop μ-loop
 loop-less c = search needs
 
 loop-again : tie.Need-loop-again Inv-loop μ-loop
-loop-again c = (search needs, c .before .before .before .put .kept .0 ∙ c .before .before .before .before .before .before .before .before .loop .inv .1, visiting-next _ _ _ _ _ _ _ _ _ (c .before .before .before .before .before .before .before .before .before .before .before .before .pre .0) (c .before .before .before .before .before .before .before .before .loop .inv .2) (c .before .before .before .before .before .before .before .before .before .before .before .before .pre .1) _ _ _ _ _ (c .before .before .before .before .before .before .before .before .loop .inv .1) (c .before .before .before .before .before .before .before .loop-test .taken) (c .before .before .before .before .before .before .before .before .before .row .ensures .0) (c .before .before .before .before .before .given-word .ensures) (c .before .before .before .put .ensures) (c .either .ensures))
+loop-again c = (search needs, c .before .before .before .put .kept .0 ∙ c .before .before .before .before .before .before .before .before .loop .inv .1, visiting-next _ _ _ _ _ _ _ _ _ (c .before .before .before .before .before .before .before .before .before .before .before .before .before .pre .0) (c .before .before .before .before .before .before .before .before .loop .inv .2) (c .before .before .before .before .before .before .before .before .before .before .before .before .before .pre .1) _ _ _ _ _ (c .before .before .before .before .before .before .before .before .loop .inv .1) (c .before .before .before .before .before .before .before .loop-test .taken) (c .before .before .before .before .before .before .before .before .before .row .ensures .0) (c .before .before .before .before .before .given-word .ensures) (c .before .before .before .put .ensures) (c .either .ensures))
 
-same-length : tie.Need-same-length Inv-loop μ-loop
-same-length c = search needs
+same-length-2 : tie.Need-same-length-2 Inv-loop μ-loop
+same-length-2 c = search needs
 
-returns : tie.Need-returns Inv-loop μ-loop
-returns c = search (visit-made, needs)
+returns-2 : tie.Need-returns-2 Inv-loop μ-loop
+returns-2 c = search (visit-made, needs)
 
 pub visit-line-spec : {M : Type 1} → statement M
 visit-line-spec =
@@ -70,6 +82,9 @@ visit-line-spec =
     (tie.spec
     Inv-loop
     μ-loop
+    visit-word-requires
+    same-length
+    returns
     mul-u
     mul-u-2
     add-u
@@ -85,5 +100,5 @@ visit-line-spec =
     add-k
     loop-less
     loop-again
-    same-length
-    returns)
+    same-length-2
+    returns-2)
