@@ -37,7 +37,10 @@ fn four(s: &[u8], i: usize) -> usize
     requires { ⌜ i + 4 ≤ length (now s) ⌝ }
     ensures { λ r. ⌜ (let l = now (s .entry) in r ≡ packed (getD l i 0) (getD l (i + 1) 0) (getD l (i + 2) 0) (getD l (i + 3) 0)) × (r < 4294967296) ⌝ }
 {
-    wide_byte(s[i]) + 256 * wide_byte(s[i + 1]) + 65536 * wide_byte(s[i + 2]) + 16777216 * wide_byte(s[i + 3])
+    wide_byte(s[i])
+        + 256 * wide_byte(s[i + 1])
+        + 65536 * wide_byte(s[i + 2])
+        + 16777216 * wide_byte(s[i + 3])
 }
 
 // The first three bytes as one number.
@@ -83,7 +86,11 @@ pub fn hash(m: u16, s: &[u8]) -> usize
 pub fn short_hash(m: u16, a: u8, b: u8, c: u8) -> usize
     ensures { λ r. ⌜ r ≡ hash m (a ∷ b ∷ c ∷ []) ⌝ }
 {
-    spread(mix(factor(m), 1, wide_byte(a) + 256 * wide_byte(b) + 65536 * wide_byte(c)))
+    spread(mix(
+        factor(m),
+        1,
+        wide_byte(a) + 256 * wide_byte(b) + 65536 * wide_byte(c),
+    ))
 }
 
 // The multiplier after m: drawn from the text, so that whoever chooses names against it has to know the whole text. No contract depends on it.
