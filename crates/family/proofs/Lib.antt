@@ -1,4 +1,3 @@
 pub mod Places
 pub mod Digits
 pub mod FamilyNames
-pub mod Rsp

@@ -6,6 +6,7 @@
 --   cell-is              the cell at place p holds the name at place p
 --   byte-past            no byte past the end
 --   place-start, place-least, place-only   an entry of the hashes is a place, that of the name with this hash
+--   own-place            the place of each name among the names is its own
 --   place-found, place-none   the text is the name at that place; it is not, so it is no name
 --   first-row            the name of a family stands in the first column
 -- Assumes nothing.
@@ -157,7 +158,7 @@ unfolding is-some-of
 some-of none k e = let z : _≡_ {A = ℕ} 0 1 = cc in absurd (omega arith)
 some-of (some j) k e = ap some (sym (eqb-true j k e))
 
-own-place : (p : ℕ) → p < 36 → some p ≡ position (name-at p ==_) all-names
+pub own-place : (p : ℕ) → p < 36 → some p ≡ position (name-at p ==_) all-names
 unfolding all range _==_ concat legacy all-names position is-some-of
 own-place p h = some-of (position (name-at p ==_) all-names) p (below (λ p. is-some-of (position (name-at p ==_) all-names) p) 36 p refl h)
 
