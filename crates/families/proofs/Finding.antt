@@ -3,7 +3,8 @@
 --   latest-le, latest-hash, latest-above    the chain of one hash: it falls, has that hash, and leaves out no family of that hash
 --   Searching m fs count o c       the family o is at no place from c on, and the family at place c - 1 has its hash
 --   searching-start, searching-next, searching-found, searching-end       rules for the loop of `search_chain`
---   row-of, row-behind, row-numbered, row-var, row-nothing                rules for `row_word`
+--   place-taken, place-more                                               the place of a family among the first, and among one more
+--   row-of, row-behind                                                    rules for `row_word`
 --   found-row                                                             what stands for a row of the legacy names is its family's place
 --   family-at                                                             the hash of a family by its first definition
 --   last-inside, found-text                                               a register written as the first definition of the last family of its hash
@@ -28,7 +29,7 @@ use Rattle.theory.proofs.Bools.{not-so, lt-or-ge}
 use Rattle.theory.proofs.ListLaws.{==-true, ==-self}
 use Rattle.theory.proofs.Lines.{defines-first}
 use Rattle.family.specs.declared.Register.{Register}
-use Rattle.family.specs.declared.Register.the-variants.{Legacy, Numbered, Var, Nothing}
+use Rattle.family.specs.declared.Register.the-variants.{Legacy}
 use Rattle.legacy.specs.Table.{row-name}
 use Rattle.family.specs.Register.{family-of, names-family}
 use Rattle.families.specs.Families.{hash, hash-of, latest, place, place-of, row-word, multiplier, Linked, Table}
@@ -186,21 +187,34 @@ from-latest m fs count n o b a = record {
 }
 
 -- the place of a family among the first
-module _ (L : List Line) (count : ℕ) (t : List ℕ) (T : Table L count t) where
-  place-taken : (f : List ℕ) (k : ℕ) → k < count → getD (defined-families L) k [] ≡ f → place (take count (defined-families L)) f ≡ suc k
-  place-taken f k h e = place-here (take count (defined-families L)) f k unique (omega (arith, size)) (here k h ∙ e)
-    where
-      size : length (take count (defined-families L)) ≡ count
-      size = length-take-le count (defined-families L) (T .size)
+pub place-taken : (L : List Line) (count : ℕ) → count ≤ length (defined-families L) → (f : List ℕ) (k : ℕ) → k < count → getD (defined-families L) k [] ≡ f
+    → place (take count (defined-families L)) f ≡ suc k
+place-taken L count few f k h e = place-here (take count (defined-families L)) f k unique (omega (arith, size)) (here k h ∙ e)
+  where
+    size : length (take count (defined-families L)) ≡ count
+    size = length-take-le count (defined-families L) few
 
-      here : (k : ℕ) → k < count → getD (take count (defined-families L)) k [] ≡ getD (defined-families L) k []
-      here k l = getD-take count (defined-families L) k [] l
+    here : (k : ℕ) → k < count → getD (take count (defined-families L)) k [] ≡ getD (defined-families L) k []
+    here k l = getD-take count (defined-families L) k [] l
 
-      unique : Unique (take count (defined-families L))
-      unique j k hj hk e =
-          let a : j < count = omega (arith, size) in
-          let b : k < count = omega (arith, size) in
-          unique-families L j k (omega (arith, T .size)) (omega (arith, T .size)) (sym (here j a) ∙ e ∙ here k b)
+    unique : Unique (take count (defined-families L))
+    unique j k hj hk e =
+        let a : j < count = omega (arith, size) in
+        let b : k < count = omega (arith, size) in
+        unique-families L j k (omega arith) (omega arith) (sym (here j a) ∙ e ∙ here k b)
+
+position-more : (fs : List (List ℕ)) (f : List ℕ) (k : ℕ) → (getD fs k [] == f) ≡ false
+    → position (λ g. g == f) (take (suc k) fs) ≡ position (λ g. g == f) (take k fs)
+unfolding position
+position-more [] f zero e = refl
+position-more [] f (suc k) e = refl
+position-more (g ∷ gs) f zero e = rw e
+position-more (g ∷ gs) f (suc k) e = rw (position-more gs f k e)
+
+-- one more, that is another
+pub place-more : (fs : List (List ℕ)) (f : List ℕ) (k : ℕ) → (getD fs k [] == f) ≡ false → place (take (suc k) fs) f ≡ place (take k fs) f
+unfolding place place-at
+place-more fs f k e = ap place-at (position-more fs f k e)
 
 module _ (L : List Line) (count : ℕ) (t : List ℕ) (T : Table L count t) (o : Option Family) where
   pub searching-start : (c h : ℕ) → h ≡ hash-of (multiplier t) o → h < 247 → c ≡ getD t h 0 → Searching (multiplier t) (defined-families L) count o c
@@ -217,7 +231,7 @@ module _ (L : List Line) (count : ℕ) (t : List ℕ) (T : Table L count t) (o :
       where
         go : (o : Option Family) → matches o (getD (defined-families L) (c - 1) []) ≡ true → c ≡ place-of (take count (defined-families L)) o
         go none m = absurd (false≢true m)
-        go (some x) m = omega (arith, place-taken L count t T (x .name) (c - 1) (omega (arith, s .bound)) (==-true _ (x .name) m))
+        go (some x) m = omega (arith, place-taken L count (T .size) (x .name) (c - 1) (omega (arith, s .bound)) (==-true _ (x .name) m))
 
     pub searching-next : (y : Bool) (next : ℕ) → y ≡ names-family o (token (line L (getD t (257 + 2 * (c - 1)) 0)) 0) → y ≡ false
         → next ≡ getD t (256 + 2 * (c - 1)) 0 → Searching (multiplier t) (defined-families L) count o next
@@ -242,44 +256,25 @@ module _ (L : List Line) (count : ℕ) (t : List ℕ) (T : Table L count t) (o :
 
 -- The row of a legacy name
 
-module _ (t : List ℕ) (r : Register) where
-  pub row-of : (i w c : ℕ) → r ≡ Legacy i w → i < 8 → c ≡ getD t (248 + i) 0 → c ≡ row-word t r
+module _ (t : List ℕ) (i : ℕ) where
+  pub row-of : (c : ℕ) → i < 8 → c ≡ getD t (248 + i) 0 → c ≡ row-word t i
   unfolding row-word
-  row-of i w c e h q = rw (e, lt-ltb i 8 h, lt-ltb i 8 h) q
+  row-of c h q = rw (lt-ltb i 8 h) q
 
-  pub row-behind : (i w : ℕ) → r ≡ Legacy i w → 8 ≤ i → 0 ≡ row-word t r
+  pub row-behind : 8 ≤ i → 0 ≡ row-word t i
   unfolding row-word
-  row-behind i w e h = rw (e, le-ltb i 8 h)
-
-  pub row-numbered : (n w : ℕ) → r ≡ Numbered n w → 0 ≡ row-word t r
-  unfolding row-word
-  row-numbered n w e = rw e
-
-  pub row-var : r ≡ Var → 0 ≡ row-word t r
-  unfolding row-word
-  row-var e = rw e
-
-  pub row-nothing : r ≡ Nothing → 0 ≡ row-word t r
-  unfolding row-word
-  row-nothing e = rw e
+  row-behind h = rw (le-ltb i 8 h)
 
 -- what is there for a row is the place of its family
-pub found-row : (L : List Line) (count : ℕ) (t s : List ℕ) (r : Register) (c : ℕ) → Table L count t → c ≡ row-word t r → (c ≡ 0 → ⊥)
+pub found-row : (L : List Line) (count : ℕ) (t s : List ℕ) (r : Register) (i w c : ℕ) → Table L count t → r ≡ Legacy i w → c ≡ row-word t i
     → c ≡ place-of (take count (defined-families L)) (family-of s r)
 unfolding row-word
-found-row L count t s (Legacy i w) c T q z = go (ltb i 8) refl q
+found-row L count t s r i w c T e q = rw e (go (ltb i 8) refl q)
   where
-    go : (b : Bool) → ltb i 8 ≡ b → c ≡ cond (ltb (cond b i 9) 8) (getD t (248 + cond b i 9) 0) 0
+    go : (b : Bool) → ltb i 8 ≡ b → c ≡ cond b (getD t (248 + i) 0) 0
         → c ≡ place-of (take count (defined-families L)) (cond b (some (record { name = row-name i; width = w })) none)
-    go false e f = absurd (z f)
-    go true e f =
-        let g : c ≡ getD t (248 + i) 0 = f ∙ rw e in
-        let k : getD t (248 + i) 0 ≡ suc (c - 1) = sym g ∙ omega arith in
-        let h = T .rows i (c - 1) (ltb-true i 8 e) k in
-        omega (arith, place-taken L count t T (row-name i) (c - 1) (h .0) (h .1))
-found-row L count t s (Numbered n w) c T q z = absurd (z q)
-found-row L count t s Var c T q z = absurd (z q)
-found-row L count t s Nothing c T q z = absurd (z q)
+    go true f g = g ∙ T .rows i (ltb-true i 8 f)
+    go false f g = g
 
 -- The text of the first definition
 
@@ -313,8 +308,8 @@ module _ (L : List Line) (count : ℕ) (t s : List ℕ) (r : Register) (T : Tabl
       let w = defines-first l (getD (defined-families L) (c - 1) []) (T .first (c - 1) (omega (arith, last-few))) in
       let same : token l 0 .text ≡ s = ==-true (token l 0 .text) s (sym e ∙ f) in
       let is : family-of s r ≡ some (w .0) = answer ∙ ap family (sym same) ∙ family-some (token l 0) (w .0) (w .1) in
-      rw is (omega (arith, place-taken L count t T (w .0 .name) (c - 1) (omega (arith, last-few)) (sym (w .2))))
+      rw is (omega (arith, place-taken L count (T .size) (w .0 .name) (c - 1) (omega (arith, last-few)) (sym (w .2))))
 
-pub ruleset row-rules = (last-inside, found-text, row-of, row-behind, row-numbered, row-var, row-nothing, found-row)
+pub ruleset row-rules = (last-inside, found-text, row-of, row-behind, found-row)
 
 pub ruleset search-rules = (searching-start, searching-found, searching-next, searching-less, searching-end)

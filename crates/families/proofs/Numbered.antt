@@ -4,10 +4,10 @@
 --   families-few        they are at most as many as the lines before
 --   defined-known       the family that a line defines is among all
 --   linked-more         one family more in its chain
---   table-added         one family more in the table
+--   kept-other, kept-same    the word of a row written
+--   table-added         one family more in the table, and its place at the row of its name
 --   linked-none         no family in a chain
---   table-kept          and its place at the row of a legacy name
---   kept-row, kept-behind, kept-numbered, kept-var, kept-neither    rules for `keep_row`
+--   kept-row, kept-behind    rules for `keep_row`
 --   emptied-by, linked-by, added-by, added-line, search-by    rules for `empty`, `link`, `add`, `add_line` and `search_line`
 --   rehash-start, rehash-next, rehash-end    rules for `rehash`
 --   placed-none, placed-by, placed-other, placed-known, placed-new, placed-table, placed-again    rules for `place_register` and `place_line`
@@ -37,15 +37,14 @@ use Rattle.text.specs.Zeroed.{zeroed}
 use Rattle.definitions.specs.Columns.{listing}
 use Rattle.model.proofs.Decode.{length-listing}
 use Rattle.family.specs.declared.Register.{Register}
-use Rattle.family.specs.declared.Register.the-variants.{Legacy, Numbered as Digits, Var, Nothing as Neither}
 use Rattle.legacy.specs.Table.{row-name}
-use Rattle.family.specs.Register.{family-of}
+use Rattle.family.specs.Register.{family-of, named}
 use Rattle.assignment.specs.declared.definition.Defined.{Defined}
 use Rattle.assignment.specs.declared.definition.Defined.the-variants.{Family as Of, Nothing}
 use Rattle.assignment.specs.Definitions.{defined}
 use Rattle.families.specs.Families.{hash, hash-of, latest, place, place-of, multiplier, Linked, Table, families-before, kept, linked, added, emptied, of-register, Ready, Added, Placed, place-defined, defined-at, Numbered}
 use Rattle.families.proofs.Lists.{any-snoc, range-snoc}
-use Rattle.families.proofs.Finding.{unique-families, place-here, family-at}
+use Rattle.families.proofs.Finding.{unique-families, place-here, place-taken, place-more, family-at}
 
 -- Each once, with one more at the end
 
@@ -256,37 +255,72 @@ module _ (L : List Line) (count k : ℕ) (t : List ℕ) (T : Linked L count k t)
   linked-more = record {
     size = T .size;
     heads = λ g l. rw same-multiplier (head g l (eqb h g) refl);
-    rows = λ i j l e. T .rows i j l (sym (other (248 + i) (λ q. omega arith) (λ q. omega arith)) ∙ e);
+    rows = λ i l. other (248 + i) (λ q. omega arith) (λ q. omega arith) ∙ T .rows i l;
     next = λ j l. rw same-multiplier (elim (eq-or-lt l) [ inl e ↦ own j e | inr m ↦ other (256 + 2 * j) (λ e. omega arith) (λ e. omega arith) ∙ T .next j m ]);
     first = λ j l. rw (other (257 + 2 * j) (λ e. omega arith) (λ e. omega arith)) (T .first j l);
   }
 
--- the line of one family more is written
-module _ (L : List Line) (count : ℕ) (t : List ℕ) (T : Table L count t) (f : List ℕ) (i : ℕ) (room : 256 + 2 * suc count ≤ length t)
-    (at-count : getD (defined-families L) count [] ≡ f) (inside : count < length (defined-families L)) (defines-f : defines (line L i) ≡ some f) where
-  beside : (j : ℕ) → (j ≡ 257 + 2 * count → ⊥) → getD (set t (257 + 2 * count) i) j 0 ≡ getD t j 0
-  beside j n = getD-set-other t (257 + 2 * count) j i 0 n
+-- the word of a row is written
+module _ (t : List ℕ) (k c : ℕ) where
+  kept-other : (j : ℕ) → (k < 8 → j ≡ 248 + k → ⊥) → getD (kept t k c) j 0 ≡ getD t j 0
+  unfolding kept
+  kept-other j n = go (ltb k 8) refl
+    where
+      go : (b : Bool) → ltb k 8 ≡ b → getD (cond b (set t (248 + k) c) t) j 0 ≡ getD t j 0
+      go true e = getD-set-other t (248 + k) j c 0 (n (ltb-true k 8 e))
+      go false e = refl
 
-  first-at : (j : ℕ) → j ≡ count → defines (line L (getD (set t (257 + 2 * count) i) (257 + 2 * j) 0)) ≡ some (getD (defined-families L) j [])
-  first-at j e = rw (e, getD-set-same t (257 + 2 * count) i 0 (omega arith)) (defines-f ∙ ap some (sym at-count))
+  kept-same : k < 8 → 256 ≤ length t → getD (kept t k c) (248 + k) 0 ≡ c
+  unfolding kept
+  kept-same h room = rw (lt-ltb k 8 h) (getD-set-same t (248 + k) c 0 (omega arith))
 
-  line-set : Linked L (suc count) count (set t (257 + 2 * count) i)
+  length-kept : length (kept t k c) ≡ length t
+  unfolding kept
+  length-kept = go (ltb k 8)
+    where
+      go : (b : Bool) → length (cond b (set t (248 + k) c) t) ≡ length t
+      go true = simp length-set
+      go false = refl
+
+-- the row and the line of one family more are written
+module _ (L : List Line) (count : ℕ) (t : List ℕ) (T : Table L count t) (f : List ℕ) (i row : ℕ) (room : 256 + 2 * suc count ≤ length t)
+    (at-count : getD (defined-families L) count [] ≡ f) (inside : count < length (defined-families L)) (defines-f : defines (line L i) ≡ some f)
+    (row-is : (j : ℕ) → j < 8 → (f == row-name j) ≡ eqb row j) where
+  abbrev with-row : List ℕ
+  with-row = kept t row (count + 1)
+
+  abbrev with-line : List ℕ
+  with-line = set with-row (257 + 2 * count) i
+
+  beside : (j : ℕ) → (row < 8 → j ≡ 248 + row → ⊥) → (j ≡ 257 + 2 * count → ⊥) → getD with-line j 0 ≡ getD t j 0
+  beside j m n = getD-set-other with-row (257 + 2 * count) j i 0 n ∙ kept-other t row (count + 1) j m
+
+  first-at : (j : ℕ) → j ≡ count → defines (line L (getD with-line (257 + 2 * j) 0)) ≡ some (getD (defined-families L) j [])
+  first-at j e = rw (e, getD-set-same with-row (257 + 2 * count) i 0 (rw (length-kept t row (count + 1)) (omega arith))) (defines-f ∙ ap some (sym at-count))
+
+  row-at : (j : ℕ) → j < 8 → (b : Bool) → eqb row j ≡ b → getD with-row (248 + j) 0 ≡ place (take (suc count) (defined-families L)) (row-name j)
+  row-at j l true e =
+      let z : row ≡ j = eqb-true row j e in
+      let named : f ≡ row-name j = ==-true f (row-name j) (row-is j l ∙ e) in
+      rw (← z) (kept-same t row (count + 1) (omega arith) (omega arith))
+      ∙ add-one count ∙ sym (place-taken L (suc count) inside (row-name j) count (omega arith) (at-count ∙ named))
+  row-at j l false e =
+      kept-other t row (count + 1) (248 + j) (λ h q. clash (eq-eqb row j (omega arith)) e) ∙ T .rows j l
+      ∙ sym (place-more (defined-families L) (row-name j) count (rw at-count (row-is j l ∙ e)))
+
+  line-set : Linked L (suc count) count with-line
   line-set = record {
     size = inside;
-    heads = λ g l. rw (beside 247 (λ q. omega arith), beside g (λ q. omega arith)) (T .heads g l);
-    rows = λ j k l e. let u = T .rows j k l (sym (beside (248 + j) (λ q. omega arith)) ∙ e) in (omega (arith, u .0), u .1);
-    next = λ k l. rw (beside 247 (λ q. omega arith), beside (256 + 2 * k) (λ q. omega arith)) (T .next k l);
-    first = λ k l. elim (eq-or-lt l) [ inl e ↦ first-at k e | inr m ↦ rw (beside (257 + 2 * k) (λ e. omega arith)) (T .first k m) ];
+    heads = λ g l. rw (beside 247 (λ h q. omega arith) (λ q. omega arith), beside g (λ h q. omega arith) (λ q. omega arith)) (T .heads g l);
+    rows = λ j l. getD-set-other with-row (257 + 2 * count) (248 + j) i 0 (λ q. omega arith) ∙ row-at j l (eqb row j) refl;
+    next = λ k l. rw (beside 247 (λ h q. omega arith) (λ q. omega arith), beside (256 + 2 * k) (λ h q. omega arith) (λ q. omega arith)) (T .next k l);
+    first = λ k l. elim (eq-or-lt l) [ inl e ↦ first-at k e | inr m ↦ rw (beside (257 + 2 * k) (λ h q. omega arith) (λ e. omega arith)) (T .first k m) ];
   }
 
-  pub table-added : (h : ℕ) → h < 247 → h ≡ hash (multiplier t) f → Table L (suc count) (added t count i h)
+  pub table-added : (h : ℕ) → h < 247 → h ≡ hash (multiplier t) f → Table L (suc count) (added with-row count i h)
   unfolding added
-  table-added h low is-hash = linked-more L (suc count) count (set t (257 + 2 * count) i) line-set h (rw length-set room) (omega arith) low
-      (rw (beside 247 (λ q. omega arith), at-count) is-hash)
-
-length-added : (t : List ℕ) (count i h : ℕ) → length (added t count i h) ≡ length t
-unfolding added linked
-length-added t count i h = simp length-set
+  table-added h low is-hash = linked-more L (suc count) count with-line line-set h (rw (length-set, length-kept t row (count + 1)) room) (omega arith) low
+      (rw (beside 247 (λ h q. omega arith) (λ q. omega arith), at-count) is-hash)
 
 -- The chains emptied
 
@@ -309,7 +343,7 @@ module _ (L : List Line) (count k m : ℕ) (t : List ℕ) (T : Linked L count k 
   linked-none = record {
     size = T .size;
     heads = λ g l. front-empty g l;
-    rows = λ i j l e. T .rows i j l (sym (behind (248 + i) (omega arith)) ∙ e);
+    rows = λ i l. behind (248 + i) (omega arith) ∙ T .rows i l;
     next = λ j l. absurd (omega arith);
     first = λ j l. rw (behind (257 + 2 * j) (omega arith)) (T .first j l);
   }
@@ -328,47 +362,6 @@ module _ (L : List Line) (count : ℕ) where
 
     pub rehash-end : k ≤ count → count ≤ k → Table L count t
     rehash-end a b = let z : k ≡ count = omega arith in rw z at T
-
--- The row of a legacy name
-
--- the word of one row is written
-module _ (L : List Line) (count c : ℕ) (t : List ℕ) (T : Table L count t) (i : ℕ) (low : i < 8) (room : 256 ≤ length t)
-    (k : ℕ) (is-place : c ≡ suc k) (inside : k < count) (named : getD (defined-families L) k [] ≡ row-name i) where
-  aside : (j : ℕ) → (j ≡ 248 + i → ⊥) → getD (set t (248 + i) c) j 0 ≡ getD t j 0
-  aside j n = getD-set-other t (248 + i) j c 0 n
-
-  rows-set : (j m : ℕ) → j < 8 → (b : Bool) → eqb j i ≡ b → getD (set t (248 + i) c) (248 + j) 0 ≡ suc m → (m < count) × (getD (defined-families L) m [] ≡ row-name j)
-  rows-set j m l true e q =
-      let z : j ≡ i = eqb-true j i e in
-      let y : c ≡ suc m = sym (getD-set-same t (248 + i) c 0 (omega arith)) ∙ rw z at q in
-      let w : k ≡ m = omega arith in
-      (omega arith, rw (← w, z) named)
-  rows-set j m l false e q = T .rows j m l (sym (aside (248 + j) (λ n. clash (eq-eqb j i (omega arith)) e)) ∙ q)
-
-  row-set : Table L count (set t (248 + i) c)
-  row-set = record {
-    size = T .size;
-    heads = λ h l. rw (aside 247 (λ n. omega arith), aside h (λ n. omega arith)) (T .heads h l);
-    rows = λ j m l q. rows-set j m l (eqb j i) refl q;
-    next = λ m l. rw (aside 247 (λ n. omega arith), aside (256 + 2 * m) (λ n. omega arith)) (T .next m l);
-    first = λ m l. rw (aside (257 + 2 * m) (λ n. omega arith)) (T .first m l);
-  }
-
--- of the family x of the answer r, which is the last
-table-kept : (L : List Line) (count : ℕ) (t s : List ℕ) (r : Register) (x : Family) → Table L (suc count) t → family-of s r ≡ some x
-    → getD (defined-families L) count [] ≡ x .name → 256 ≤ length t → Table L (suc count) (kept t r (count + 1))
-unfolding kept
-table-kept L count t s (Legacy i w) x T e q room = go (ltb i 8) refl e
-  where
-    go : (b : Bool) → ltb i 8 ≡ b → cond b (some (record { name = row-name i; width = w })) none ≡ some x
-        → Table L (suc count) (cond (ltb (cond b i 9) 8) (set t (248 + cond b i 9) (count + 1)) t)
-    go true f g =
-        let n : row-name i ≡ x .name = cc in
-        rw f (row-set L (suc count) (count + 1) t T i (ltb-true i 8 f) room count (add-one count) (omega arith) (q ∙ sym n))
-    go false f g = T
-table-kept L count t s (Digits n w) x T e q room = T
-table-kept L count t s Var x T e q room = T
-table-kept L count t s Neither x T e q room = T
 
 -- `place_register` and `place_line`
 
@@ -446,9 +439,8 @@ module _ (L : List Line) (i count : ℕ) (t : List ℕ) (R : Ready L i count t) 
                 record {
                   place = rw n (add-one count ∙ sym (place-here (defined-families L) (x .name) count (unique-families L) inside at-count));
                   families = v ∙ sym size;
-                  table = rw (v, A .table) (table-kept L count (added t count i (A .hash)) (token (line L i) 0 .text) r x
-                      (table-added L count t (R .table) (x .name) i (omega (arith, R .room, R .small, R .inside)) at-count inside n (A .hash) (A .hash-low) vh) k at-count
-                      (rw (length-added t count i (A .hash)) (omega (arith, R .room))));
+                  table = rw (v, A .table) (table-added L count t (R .table) (x .name) i (A .row) (omega (arith, R .room, R .small, R .inside)) at-count inside n
+                      (λ j l. sym (ap (named (_== row-name j)) k) ∙ A .row-is j l) (A .hash) (A .hash-low) vh);
                   small = omega (arith, R .small);
                 })
           ]
@@ -510,7 +502,7 @@ module _ (l t x : List ℕ) (i count : ℕ) (table ds : List ℕ) (N : Numbered 
 
 pub numbered-start : (l t x table₀ zs ds : List ℕ) (m : ℕ) → 0 < length l → length l ≤ 1024 → 256 + 2 * length l ≤ length table₀ → length l ≤ length ds → zs ≡ zeroed 0 (take 256 table₀)
     → Numbered (listing l t x) 1 0 (set (zs ++ drop 256 table₀) 247 m) (set ds 0 0)
-unfolding families-before range concat distinct latest defined-at
+unfolding families-before range concat distinct latest defined-at place position
 numbered-start l t x table₀ zs ds m a b c d z = record {
   above = omega arith;
   upto = omega (arith, length-listing l t x);
@@ -522,7 +514,7 @@ numbered-start l t x table₀ zs ds m a b c d z = record {
   table = record {
     size = omega arith;
     heads = λ h l. zero-at h (omega arith) (λ q. omega arith);
-    rows = λ i k l e. absurd (omega (arith, zero-at (248 + i) (omega arith) (λ q. omega arith)));
+    rows = λ i l. zero-at (248 + i) (omega arith) (λ q. omega arith);
     next = λ k l. absurd (omega arith);
     first = λ k l. absurd (omega arith);
   };
@@ -554,35 +546,29 @@ module _ (t : List ℕ) (count h : ℕ) where
   unfolding added
   added-by i b t′ q e = rw q at e
 
-module _ (t : List ℕ) (r : Register) (c : ℕ) where
-  pub kept-row : (i w v : ℕ) → r ≡ Legacy i w → i < 8 → v ≡ c → set t (248 + i) v ≡ kept t r c
+module _ (t : List ℕ) (i c : ℕ) where
+  pub kept-row : (v : ℕ) → i < 8 → v ≡ c → set t (248 + i) v ≡ kept t i c
   unfolding kept
-  kept-row i w v e h q = rw (e, lt-ltb i 8 h, lt-ltb i 8 h, q)
+  kept-row v h q = rw (lt-ltb i 8 h, q)
 
-  pub kept-behind : (i w : ℕ) → r ≡ Legacy i w → 8 ≤ i → t ≡ kept t r c
+  pub kept-behind : 8 ≤ i → t ≡ kept t i c
   unfolding kept
-  kept-behind i w e h = rw (e, le-ltb i 8 h)
+  kept-behind h = rw (le-ltb i 8 h)
 
-  pub kept-numbered : (n w : ℕ) → r ≡ Digits n w → t ≡ kept t r c
-  unfolding kept
-  kept-numbered n w e = rw e
-
-  pub kept-var : r ≡ Var → t ≡ kept t r c
-  unfolding kept
-  kept-var e = rw e
-
-  pub kept-neither : r ≡ Neither → t ≡ kept t r c
-  unfolding kept
-  kept-neither e = rw e
-
-pub added-line : (l : Line) (count i h : ℕ) (r : Register) (s t₀ t₁ t : List ℕ) → s ≡ token l 0 .text → h ≡ hash-of (multiplier t₀) (family-of s r) → h < 247
-    → t₁ ≡ added t₀ count i h → t ≡ kept t₁ r (count + 1) → Added l count i r t₀ t
-added-line l count i h r s t₀ t₁ t w a b c d =
-    record { hash = h; hash-is = a ∙ ap (λ (s : List ℕ). hash-of (multiplier t₀) (family-of s r)) w; hash-low = b; table = rw c at d }
+pub added-line : (l : Line) (count i h k : ℕ) (r : Register) (s t₀ t₁ t : List ℕ) → s ≡ token l 0 .text → h ≡ hash-of (multiplier t₀) (family-of s r) → h < 247
+    → ((j : ℕ) → j < 8 → named (_== row-name j) (family-of s r) ≡ eqb k j) → t₁ ≡ kept t₀ k (count + 1) → t ≡ added t₁ count i h → Added l count i r t₀ t
+added-line l count i h k r s t₀ t₁ t w a b n c d = record {
+  hash = h;
+  hash-is = a ∙ ap (λ (s : List ℕ). hash-of (multiplier t₀) (family-of s r)) w;
+  hash-low = b;
+  row = k;
+  row-is = rw w at n;
+  table = rw c at d;
+}
 
 pub search-by : (fs : List (List ℕ)) (r : Register) (s x : List ℕ) (c : ℕ) → s ≡ x → c ≡ place-of fs (family-of s r) → c ≡ place-of fs (family-of x r)
 search-by fs r s x c w e = rw w at e
 
 pub ruleset rehash-rules = (rehash-start, rehash-next, rehash-end)
 
-pub ruleset place-rules = (placed-none, placed-by, placed-other, placed-known, placed-new, placed-table, placed-again, emptied-by, linked-by, added-by, added-line, kept-row, kept-behind, kept-numbered, kept-var, kept-neither, search-by, ready, defs-inside, place-fits, numbered-next, numbered-end, numbered-start)
+pub ruleset place-rules = (placed-none, placed-by, placed-other, placed-known, placed-new, placed-table, placed-again, emptied-by, linked-by, added-by, added-line, kept-row, kept-behind, search-by, ready, defs-inside, place-fits, numbered-next, numbered-end, numbered-start)

@@ -7,12 +7,12 @@
 --   place-defined fs o  the same of a family's name
 --   multiplier t        the multiplier of the table t: its word 247
 --   Linked L count k t  the table t has the first `count` families of the listing L, the first k of them in chains: its words 0 .. 246 have
---                       `latest` for each hash; the words 248 .. 255, for each row of the legacy names, 0 or 1 + the
---                       place of its family; the words from 256 on, in pairs, for each of the k `latest` before it of its own hash, and for each family
---                       the line of its first definition
+--                       `latest` for each hash; the words 248 .. 255, for each row of the legacy names, the `place` of its name; the words
+--                       from 256 on, in pairs, for each of the k `latest` before it of its own hash, and for each family the line of its
+--                       first definition
 --   Table L count t     the same, all in chains: the table t finds the first `count` families of the listing L
---   row-word t r        what the table t has for the row of the answer r, 0 where that is no row
---   kept t r c          the table t with c for that row
+--   row-word t i        what the table t has for row i, 0 where that is no row
+--   kept t i c          the table t with c for row i, if that is a row
 --   defined-at L i      the family that line i defines, none on line 0
 --   families-before L i the families that lines before line i define
 --   Defs L ds           ds has the place of the family that each line defines, 0 where it defines none
@@ -31,7 +31,7 @@ use mathlib.Core.Path.{_≡_}
 use mathlib.Core.List.{List, [], _++_, map}
 use mathlib.Core.Option.{Option, none, some, Option·map}
 use lib.Dec.{eqb, ltb}
-use lib.ListN.{length, getD, set, drop, replicate}
+use lib.ListN.{length, getD, set, take, drop, replicate}
 use Rattle.definitions.specs.Lists.{if_then_else_, position, concat, range, to-list, _==_}
 use Rattle.definitions.specs.Model.{Line, token, line}
 use Rattle.definitions.specs.Family.{Family}
@@ -39,7 +39,7 @@ use Rattle.definitions.specs.Statements.{defines}
 use Rattle.family.specs.declared.Register.{Register}
 use Rattle.legacy.specs.Table.{row-name}
 use Rattle.names.specs.Hash as names
-use Rattle.family.specs.Register.{family-of, row}
+use Rattle.family.specs.Register.{family-of, named}
 use Rattle.definitions.specs.Recover.{distinct, defined-families}
 
 unfoldable pub hash : ℕ → List ℕ → ℕ
@@ -66,7 +66,7 @@ multiplier t = getD t 247 0
 pub record Linked (L : List Line) (count k : ℕ) (t : List ℕ) : Type 0 where
   pub size : count ≤ length (defined-families L)
   pub heads : (h : ℕ) → h < 247 → getD t h 0 ≡ latest (multiplier t) (defined-families L) h k
-  pub rows : (i j : ℕ) → i < 8 → getD t (248 + i) 0 ≡ suc j → (j < count) × (getD (defined-families L) j [] ≡ row-name i)
+  pub rows : (i : ℕ) → i < 8 → getD t (248 + i) 0 ≡ place (take count (defined-families L)) (row-name i)
   pub next : (j : ℕ) → j < k → getD t (256 + 2 * j) 0 ≡ latest (multiplier t) (defined-families L) (hash (multiplier t) (getD (defined-families L) j [])) j
   pub first : (j : ℕ) → j < count → defines (line L (getD t (257 + 2 * j) 0)) ≡ some (getD (defined-families L) j [])
 
@@ -84,11 +84,11 @@ place-defined fs (some f) = place fs f
 unfoldable pub families-before : List Line → ℕ → List (List ℕ)
 families-before L i = distinct (concat (map (λ j. to-list (defines (line L j))) (range 1 (i - 1))))
 
-unfoldable pub row-word : List ℕ → Register → ℕ
-row-word t r = if ltb (row r) 8 then getD t (248 + row r) 0 else 0
+unfoldable pub row-word : List ℕ → ℕ → ℕ
+row-word t i = if ltb i 8 then getD t (248 + i) 0 else 0
 
-unfoldable pub kept : List ℕ → Register → ℕ → List ℕ
-kept t r c = if ltb (row r) 8 then set t (248 + row r) c else t
+unfoldable pub kept : List ℕ → ℕ → ℕ → List ℕ
+kept t i c = if ltb i 8 then set t (248 + i) c else t
 
 -- the table t with family k, of hash h, in front of its chain
 unfoldable pub linked : List ℕ → ℕ → ℕ → List ℕ
@@ -102,12 +102,14 @@ added t count i h = linked (set t (257 + 2 * count) i) count h
 unfoldable pub emptied : List ℕ → ℕ → List ℕ
 emptied t m = set (replicate 247 0 ++ drop 247 t) 247 m
 
--- t is t₀ with the family of token 0 of line l, whose answer is r
+-- t is t₀ with the family of token 0 of line l, whose answer is r; `row` is the row that has its name
 pub record Added (l : Line) (count i : ℕ) (r : Register) (t₀ t : List ℕ) : Type 0 where
   pub hash : ℕ
   pub hash-is : hash ≡ hash-of (multiplier t₀) (family-of (token l 0 .text) r)
   pub hash-low : hash < 247
-  pub table : t ≡ kept (added t₀ count i hash) r (count + 1)
+  pub row : ℕ
+  pub row-is : (j : ℕ) → j < 8 → named (_== row-name j) (family-of (token l 0 .text) r) ≡ eqb row j
+  pub table : t ≡ added (kept t₀ row (count + 1)) count i hash
 
 -- the name of the family that line l defines if its token 0 is the register r
 abbrev pub of-register : Line → Register → Option (List ℕ)

@@ -1,6 +1,6 @@
-// The families that have a definition, numbered in the order of their first definition. The family of a legacy name is one word of the table
-// once it is there; any other is found through the chain of those with its hash, 247 chains for all: one look-up compares the families of one
-// chain. All lines together take one look-up a line.
+// The families that have a definition, numbered in the order of their first definition. The family of a legacy name, or that there is none,
+// is one word of the table; any other is found through the chain of those with its hash, 247 chains for all: one look-up compares the families
+// of one chain. All lines together take one look-up a line.
 //
 // The hash is that of crate names, modulo 247. Where a family joins a chain of 16 or more, all chains are made anew by a multiplier drawn from
 // the text: that hashes each family once more and passes over the text once. That the chains are short is measured, not proved: by the first
@@ -9,7 +9,7 @@
 // The table, one lent slice:
 //   words [0, 247)         1 + the last family of each hash, 0 for none
 //   word 247               the multiplier
-//   words [248, 256)       for each row of the legacy names 1 + its family, 0 for none
+//   words [248, 256)       for each row of the legacy names 1 + the family of its name, 0 where that is not there
 //   word 256 + 2 k         for family k 1 + the one before it of the same hash, 0 for none
 //   word 257 + 2 k         the line of its first definition
 // Contracts cite `defined-families` of Rattle.definitions.specs.Recover and `defines` of Rattle.definitions.specs.Statements.
@@ -94,16 +94,11 @@ fn is_family(
     pseudo_opt::registers::token_names(lines, tokens, text, number(table, 257 + 2 * k), 0, s, r)
 }
 
-// What the table has for the row of the answer r, 0 where that is no row.
-fn row_word(table: &[u16], r: Register) -> usize
-    ensures { λ c. ⌜ c ≡ row-word (now (table .entry)) r ⌝ }
+// What the table has for row i, 0 where that is no row.
+fn row_word(table: &[u16], i: usize) -> usize
+    ensures { λ c. ⌜ c ≡ row-word (now (table .entry)) i ⌝ }
 {
-    match r {
-        Register::Legacy(i, _) => if i < 8 { number(table, 248 + i) } else { 0 },
-        Register::Numbered(_, _) => 0,
-        Register::Var => 0,
-        Register::Nothing => 0,
-    }
+    if i < 8 { number(table, 248 + i) } else { 0 }
 }
 
 // The same as `search`, by the chain of the hash h.
@@ -140,8 +135,31 @@ fn has_text(lines: &[u32], tokens: &[u32], text: &[u8], table: &[u16], k: usize,
     text::equal(text_at(lines, tokens, text, i, 0), s)
 }
 
-// 1 + the place among the first `count` families of the one that the answer r of the register s is, 0 where it is none of them. A text that is
-// written as where its family is first defined is looked up no second time.
+// The same as `search`, by the hash. A text that is written as where its family is first defined is looked up no second time.
+fn search_text(
+    lines: &[u32],
+    tokens: &[u32],
+    text: &[u8],
+    table: &[u16],
+    count: usize,
+    s: &[u8],
+    r: Register,
+) -> usize
+    requires { ⌜ Table (listing (now lines) (now tokens) (now text)) count (now table) × (count ≤ 1024) × (family-of (now s) r ≡ family (now s)) ⌝ }
+    ensures { λ c. ⌜ c ≡ place-of (take count (defined-families (listing (now (lines .entry)) (now (tokens .entry)) (now (text .entry))))) (family-of (now (s .entry)) r) ⌝ }
+{
+    let h = hash_of(table, s, r);
+    let last = number(table, h);
+    if 0 < last {
+        if has_text(lines, tokens, text, table, last - 1, s) {
+            return last;
+        }
+    }
+    search_chain(lines, tokens, text, table, count, h, s, r)
+}
+
+// 1 + the place among the first `count` families of the one that the answer r of the register s is, 0 where it is none of them. For a legacy
+// name that is the word of its row.
 pub fn search(
     lines: &[u32],
     tokens: &[u32],
@@ -154,18 +172,10 @@ pub fn search(
     requires { ⌜ Table (listing (now lines) (now tokens) (now text)) count (now table) × (count ≤ 1024) × (family-of (now s) r ≡ family (now s)) ⌝ }
     ensures { λ c. ⌜ c ≡ place-of (take count (defined-families (listing (now (lines .entry)) (now (tokens .entry)) (now (text .entry))))) (family-of (now (s .entry)) r) ⌝ }
 {
-    let c = row_word(table, r);
-    if c != 0 {
-        return c;
-    }
-    let h = hash_of(table, s, r);
-    let last = number(table, h);
-    if 0 < last {
-        if has_text(lines, tokens, text, table, last - 1, s) {
-            return last;
-        }
-    }
-    search_chain(lines, tokens, text, table, count, h, s, r)
+    let Register::Legacy(i, _) = r else {
+        return search_text(lines, tokens, text, table, count, s, r);
+    };
+    row_word(table, i)
 }
 
 // One family more in the chains: its number is `count`, its hash h.
@@ -189,25 +199,18 @@ fn add(table: &mut [u16], count: usize, i: usize, h: usize)
     link(table, count, h);
 }
 
-// The table gets c for the row of the answer r, if that is a row.
-fn keep_row(table: &mut [u16], r: Register, c: usize)
+// The table gets c for row i, if that is a row.
+fn keep_row(table: &mut [u16], i: usize, c: usize)
     requires { ⌜ (c < 65536) × (256 ≤ length (now table)) ⌝ }
-    ensures { λ _. ⌜ now (table .exit) ≡ kept (now (table .entry)) r c ⌝ }
+    ensures { λ _. ⌜ now (table .exit) ≡ kept (now (table .entry)) i c ⌝ }
 {
-    match r {
-        Register::Legacy(i, _) => {
-            if i < 8 {
-                let v = narrow(c);
-                table[248 + i] = v;
-            }
-        }
-        Register::Numbered(_, _) => {}
-        Register::Var => {}
-        Register::Nothing => {}
+    if i < 8 {
+        let v = narrow(c);
+        table[248 + i] = v;
     }
 }
 
-// The same as `search`, of token 0 of line i, whose answer is r: its text is read only where the table has no row for it.
+// The same as `search`, of token 0 of line i, whose answer is r: the text of a legacy name is not read.
 fn search_line(
     lines: &[u32],
     tokens: &[u32],
@@ -220,16 +223,15 @@ fn search_line(
     requires { ⌜ Ready (listing (now lines) (now tokens) (now text)) i count (now table) ⌝ }
     ensures { λ c. ⌜ (let L = listing (now (lines .entry)) (now (tokens .entry)) (now (text .entry)) in c ≡ place-of (take count (defined-families L)) (family-of (token (line L i) 0 .text) r)) ⌝ }
 {
-    let c = row_word(table, r);
-    if c == 0 {
+    let Register::Legacy(row, _) = r else {
         let s = text_at(lines, tokens, text, i, 0);
         let h = hash_of(table, s, r);
         return search_chain(lines, tokens, text, table, count, h, s, r);
-    }
-    c
+    };
+    row_word(table, row)
 }
 
-// The family of token 0 of line i, whose answer is r, put into the table.
+// The family of token 0 of line i, whose answer is r, put into the table. Its row is that of its name, whatever the kind of the answer.
 fn add_line(
     lines: &[u32],
     tokens: &[u32],
@@ -242,9 +244,10 @@ fn add_line(
     requires { ⌜ Ready (listing (now lines) (now tokens) (now text)) i count (now table) ⌝ }
     ensures { λ _. ⌜ Added (line (listing (now (lines .entry)) (now (tokens .entry)) (now (text .entry))) i) count i r (now (table .entry)) (now (table .exit)) ⌝ }
 {
-    let h = hash_of(table, text_at(lines, tokens, text, i, 0), r);
+    let s = text_at(lines, tokens, text, i, 0);
+    let h = hash_of(table, s, r);
+    keep_row(table, family::row_of(s, r), count + 1);
     add(table, count, i, h);
-    keep_row(table, r, count + 1);
 }
 
 // The chain has more than 16 families from family c - 1 on. No contract depends on the answer.

@@ -2,30 +2,33 @@
 --   row-table, row-behind, own-part        the functions `row` and `own_name`
 --   in-table, in-text, nowhere             the family's name, by its row
 --   register-token, kind-token, other-token    a token's family, by its kind
---   rows-differ, rows-rsp, rows-var        computed of every row: its name is no other row's; rsp is row 7; none is a `var_`
+--   rows-differ, rows-var                  computed of every row: its name is no other row's; none is a `var_`
+--   place-row                              the place of a row's name among all names
+--   named-here, named-elsewhere, named-behind    the function `row_named`
+--   row-is, row-text, row-none             the function `row_of`
 --   same-rows, same-row-text, same-text-row, same-texts, same-none-left, same-none-right    two families have one name
 --   names-same                             a token names a family
---   rsp-row, rsp-text, rsp-none, var-text, var-not, wide-table, wide-behind, wide-numbered   tests on one family
+--   var-text, var-not, wide-table, wide-behind, wide-numbered   tests on one family
 -- Assumes nothing.
 use mathlib.Core.Path.{_≡_, refl, sym, ap, _∙_}
-use mathlib.Core.Bool.{Bool, true, false, not, cond}
+use mathlib.Core.Bool.{Bool, true, false, not, cond, true≢false}
 use mathlib.Core.List.{List}
 use mathlib.Core.Option.{Option, none, some}
-use Prim.Native.Nat.{ℕ, _≤_, _<_}
+use Prim.Native.Nat.{ℕ, _*_, _/_, _≤_, _<_}
 use native.Mathlib.Decide.{decLt}
 use native.Mathlib.Omega.{arith}
 use borrow.Author.Tests.{lt-ltb, le-ltb, ltb-true, eq-eqb, ne-eqb}
 use lib.Dec.{eqb, leb, ltb}
-use Rattle.definitions.specs.Lists.{_==_, all, range, up-to, part, starts-with, ascii}
+use Rattle.definitions.specs.Lists.{_==_, all, range, up-to, part, position, concat, starts-with, ascii}
 use Rattle.definitions.specs.Model.{Token, tok}
 use Rattle.definitions.specs.Family.{Family, legacy, family, fam-of, names}
 use Rattle.definitions.specs.Statements.{is-var}
-use Rattle.text.proofs.Texts.{==-sym}
-use Rattle.legacy.proofs.Table.{below}
+use Rattle.text.proofs.Texts.{==-eq, ==-sym}
+use Rattle.legacy.proofs.Table.{below, own-place}
 use Rattle.family.specs.declared.Register.{Register}
 use Rattle.family.specs.declared.Register.the-variants.{Legacy, Numbered, Var, Nothing}
-use Rattle.legacy.specs.Table.{row-name}
-use Rattle.family.specs.Register.{family-of, row, own-name, same-name, names-family, named, is-rsp, is-var-family, is-wide}
+use Rattle.legacy.specs.Table.{all-names, name-at, found, row-name}
+use Rattle.family.specs.Register.{family-of, row, own-name, same-name, names-family, named, is-var-family, is-wide}
 
 -- `row`, `own_name` and `is_wide`
 
@@ -129,10 +132,6 @@ module _ (i : ℕ) (h : i < 8) where
       agreed (row-name i == row-name j) (eqb i j)
       (below (λ j. agree (row-name i == row-name j) (eqb i j)) 8 j (below (λ i. all (λ j. agree (row-name i == row-name j) (eqb i j)) (up-to 8)) 8 i refl h) g)
 
-  rows-rsp : (row-name i == ascii "rsp") ≡ eqb i 7
-  unfolding all range _==_ legacy agree
-  rows-rsp = agreed (row-name i == ascii "rsp") (eqb i 7) (below (λ i. agree (row-name i == ascii "rsp") (eqb i 7)) 8 i refl h)
-
   rows-var : starts-with (ascii "var_") (row-name i) ≡ false
   unfolding all range starts-with legacy agree
   rows-var = agreed (starts-with (ascii "var_") (row-name i)) false (below (λ i. agree (starts-with (ascii "var_") (row-name i)) false) 8 i refl h)
@@ -202,19 +201,56 @@ named-by : (p : List ℕ → Bool) (o : Option Family) (x : List ℕ) → name-o
 named-by p none x q = cc
 named-by p (some f) x q = let e : f .name ≡ x = cc in ap p e
 
+-- `row_named`
+
+place-row : (x : List ℕ) (p i : ℕ) → found 36 p ≡ position (x ==_) all-names → i < 8 → x ≡ row-name i → p ≡ 4 * i
+unfolding all range _==_ concat legacy all-names
+place-row x p i e h q =
+    let at : row-name i ≡ name-at (4 * i) = ==-eq (row-name i) (name-at (4 * i)) (below (λ i. row-name i == name-at (4 * i)) 8 i refl h) in
+    go (ltb p 36) (e ∙ ap (λ (x : List ℕ). position (x ==_) all-names) (q ∙ at) ∙ sym (own-place (4 * i) (omega arith)))
+  where
+    go : (b : Bool) → cond b (some p) none ≡ some (4 * i) → p ≡ 4 * i
+    go true f = cc
+    go false f = cc
+
+module _ (x : List ℕ) (p : ℕ) (e : found 36 p ≡ position (x ==_) all-names) (i : ℕ) (h : i < 8) where
+  no-row : ((x == row-name i) ≡ true → ⊥) → (x == row-name i) ≡ eqb 8 i
+  no-row n = go (x == row-name i) refl ∙ sym (ne-eqb 8 i (λ q. omega arith))
+    where
+      go : (b : Bool) → (x == row-name i) ≡ b → b ≡ false
+      go true q = absurd (n q)
+      go false q = refl
+
+  pub named-behind : 8 ≤ p / 4 → (x == row-name i) ≡ eqb 8 i
+  named-behind g = no-row (λ q. omega (arith, place-row x p i e h (==-eq x (row-name i) q)))
+
+  module _ (y : Bool) (f : y ≡ (x == row-name (p / 4))) where
+    pub named-here : p / 4 < 8 → y ≡ true → (x == row-name i) ≡ eqb (p / 4) i
+    named-here g q = rw (==-eq x (row-name (p / 4)) (sym f ∙ q)) (rows-differ (p / 4) g i h)
+
+    pub named-elsewhere : y ≡ false → (x == row-name i) ≡ eqb 8 i
+    named-elsewhere g = no-row (λ q.
+        let z : p / 4 ≡ i = omega (arith, place-row x p i e h (==-eq x (row-name i) q)) in
+        true≢false (sym (rw (← z) at q) ∙ sym f ∙ g))
+
+-- `row_of`
+
 module _ (s : List ℕ) (r : Register) (k : ℕ) (e : k ≡ row r) where
-  pub rsp-row : k < 8 → eqb k 7 ≡ is-rsp (family-of s r)
-  rsp-row h = sym (named-by (_== ascii "rsp") (family-of s r) (row-name k) (at-row s r k e h) ∙ rows-rsp k h)
+  module _ (i : ℕ) (g : i < 8) where
+    pub row-is : k < 8 → named (_== row-name i) (family-of s r) ≡ eqb k i
+    row-is h = named-by (_== row-name i) (family-of s r) (row-name k) (at-row s r k e h) ∙ rows-differ k h i g
 
-  pub rsp-none : 8 ≤ k → (k ≡ 8 → ⊥) → false ≡ is-rsp (family-of s r)
-  rsp-none h g = rw (at-none s r k e h g)
+    pub row-text : (x : List ℕ) (j : ℕ) → k ≡ 8 → x ≡ own-name s r → ((i : ℕ) → i < 8 → (x == row-name i) ≡ eqb j i) → named (_== row-name i) (family-of s r) ≡ eqb j i
+    row-text x j h q f = named-by (_== row-name i) (family-of s r) x (at-text s r k e x h q) ∙ f i g
 
-  module _ (x : List ℕ) (y : Bool) (h : k ≡ 8) (q : x ≡ own-name s r) where
-    pub rsp-text : y ≡ (x == ascii "rsp") → y ≡ is-rsp (family-of s r)
-    rsp-text f = f ∙ sym (named-by (_== ascii "rsp") (family-of s r) x (at-text s r k e x h q))
+    pub row-none : 8 ≤ k → (k ≡ 8 → ⊥) → named (_== row-name i) (family-of s r) ≡ eqb 8 i
+    row-none h n = rw (at-none s r k e h n) (sym (ne-eqb 8 i (λ q. omega arith)))
 
-    pub var-text : y ≡ starts-with (ascii "var_") x → y ≡ is-var-family (family-of s r)
-    var-text f = f ∙ sym (named-by is-var (family-of s r) x (at-text s r k e x h q))
+-- `is_var`
+
+module _ (s : List ℕ) (r : Register) (k : ℕ) (e : k ≡ row r) where
+  pub var-text : (x : List ℕ) (y : Bool) → k ≡ 8 → x ≡ own-name s r → y ≡ starts-with (ascii "var_") x → y ≡ is-var-family (family-of s r)
+  var-text x y h q f = f ∙ sym (named-by is-var (family-of s r) x (at-text s r k e x h q))
 
   pub var-not : (k ≡ 8 → ⊥) → false ≡ is-var-family (family-of s r)
   var-not g = go (decLt k 8)
@@ -223,4 +259,4 @@ module _ (s : List ℕ) (r : Register) (k : ℕ) (e : k ≡ row r) where
       go (yes h) = sym (named-by is-var (family-of s r) (row-name k) (at-row s r k e h) ∙ rows-var k h)
       go (no h) = rw (at-none s r k e (omega arith) g)
 
-pub ruleset name-rules = (row-table, row-behind, own-part, register-token, kind-token, other-token, same-rows, same-row-text, same-text-row, same-texts, same-none-left, same-none-right, names-same, rsp-row, rsp-text, rsp-none, var-text, var-not, wide-table, wide-behind, wide-numbered)
+pub ruleset name-rules = (row-table, row-behind, own-part, register-token, kind-token, other-token, same-rows, same-row-text, same-text-row, same-texts, same-none-left, same-none-right, names-same, named-here, named-elsewhere, named-behind, row-is, row-text, row-none, var-text, var-not, wide-table, wide-behind, wide-numbered)

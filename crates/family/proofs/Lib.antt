@@ -2,4 +2,3 @@ pub mod Places
 pub mod Codes
 pub mod Digits
 pub mod FamilyNames
-pub mod Rsp

@@ -11,7 +11,7 @@
 --   same-name o p        both are families, of one name
 --   names-family o t     o is a family, and the token t names it
 --   named p o            o is a family, and p holds of its name
---   is-rsp o, is-var-family o, is-wide o    o is the family rsp; a `var_`; a family, of width 32 or more
+--   is-var-family o, is-wide o    o is a `var_`; a family, of width 32 or more
 -- Assumes nothing.
 use Prim.Native.Nat.{ℕ, _+_, _-_, _/_, _%_}
 use mathlib.Core.Bool.{Bool, false}
@@ -82,9 +82,6 @@ names-family (some f) t = names (f .name) t
 abbrev pub named : (List ℕ → Bool) → Option Family → Bool
 named p none = false
 named p (some f) = p (f .name)
-
-abbrev pub is-rsp : Option Family → Bool
-is-rsp o = named (_== ascii "rsp") o
 
 abbrev pub is-var-family : Option Family → Bool
 is-var-family o = named is-var o

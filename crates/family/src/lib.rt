@@ -2,20 +2,21 @@
 // stand, in the table or in the text that was looked up.
 //
 // A look-up compares the text with one name, which its hash gives, and scans no byte behind the token's text; a test on an answer compares
-// at most one name. A look-up answers by one number, `decoded` of specs/Register.antt, so that answers are not handed on through memory. Contracts cite `family`, `fam-of` and `names` of Rattle.definitions.specs.Family; `family-of` of this crate's specs/ says which family
-// an answer gives a text.
+// at most one name. A look-up answers by one number, `decoded` of specs/Register.antt, so that answers are not handed on through memory.
+// Contracts cite `family`, `fam-of` and `names` of Rattle.definitions.specs.Family; `family-of` of this crate's specs/ says which family an
+// answer gives a text.
 ghost use mathlib.Core.Path.{_≡_};
 ghost use mathlib.Core.Bool.{false};
-ghost use mathlib.Core.List.{[], _∷_};
 ghost use Prim.Native.Nat.{ℕ, _+_, _<_};
-ghost use lib.ListN.{length, getD, drop};
-ghost use Rattle.definitions.specs.Lists.{_==_, position};
+ghost use lib.Dec.{eqb};
+ghost use lib.ListN.{length, drop};
+ghost use Rattle.definitions.specs.Lists.{_==_};
 ghost use Rattle.definitions.specs.Model.{tok};
 ghost use Rattle.definitions.specs.Family.{suffix-width, is-numbered, numbered-family, family, fam-of};
-ghost use Rattle.family.specs.Register.{digit-count, number-end, above-zero, family-of, rest-family, number-length, decoded, row, own-name, same-name, names-family, is-rsp, is-var-family, is-wide};
+ghost use Rattle.legacy.specs.Table.{row-name};
+ghost use Rattle.family.specs.Register.{digit-count, number-end, above-zero, family-of, rest-family, number-length, decoded, row, own-name, same-name, names-family, named, is-var-family, is-wide};
 use legacy::is_row;
 use legacy::place;
-use text::byte;
 use text::wide_byte;
 
 pub enum Register {
@@ -232,29 +233,31 @@ pub fn names(kind: usize, s: &[u8], a: &[u8], r: Register) -> bool
     same_family(s, fam_of(kind, s), a, r)
 }
 
-// Whether the text may be a name of rsp, by its second byte: where the answer is no, it is none.
-pub fn may_be_rsp(s: &[u8]) -> bool
-    ensures { λ y. ⌜ (y ≡ false → is-rsp (family (now (s .entry))) ≡ false) ⌝ }
+// The row of the table that has this name of a family, 8 where none has it.
+fn row_named(name: &[u8]) -> usize
+    ensures { λ k. ⌜ ((i : ℕ) → i < 8 → (now (name .entry) == row-name i) ≡ eqb k i) ⌝ }
 {
-    let b = byte(s, 1);
-    if b == 115 {
-        return true;
+    let i = place(name) / 4;
+    if i < 8 {
+        if is_row(i, name) {
+            return i;
+        }
     }
-    b == 112
+    8
 }
 
-// The family is rsp.
-pub fn is_rsp(s: &[u8], r: Register) -> bool
-    ensures { λ y. ⌜ y ≡ is-rsp (family-of (now (s .entry)) r) ⌝ }
+// The row that has the name of the family, 8 where none has it.
+pub fn row_of(s: &[u8], r: Register) -> usize
+    ensures { λ k. ⌜ ((i : ℕ) → i < 8 → named (_== row-name i) (family-of (now (s .entry)) r) ≡ eqb k i) ⌝ }
 {
     let i = row(r);
     if i < 8 {
-        return i == 7;
+        return i;
     }
     if i == 8 {
-        return text::equal(own_name(s, r), b"rsp");
+        return row_named(own_name(s, r));
     }
-    false
+    8
 }
 
 // The family is a `var_`.

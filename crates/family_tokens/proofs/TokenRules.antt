@@ -2,17 +2,17 @@
 --   reads-rsp, reads-other                  `family_reads`
 --   zeros-by                                `write_zeros`
 -- Assumes nothing.
-use Prim.Native.Nat.{ℕ, _+_, _*_, _-_, _<_}
+use Prim.Native.Nat.{ℕ, _+_, _-_, _<_}
 use mathlib.Core.Path.{_≡_, refl, sym, _∙_}
 use mathlib.Core.Bool.{Bool, true, false}
 use mathlib.Core.List.{List, [], _∷_}
+use lib.Dec.{eqb}
 use lib.ListN.{length, getD, take}
 use Rattle.definitions.specs.Lists.{any, filter, range}
-use Rattle.definitions.specs.Model.{Line, token, line}
-use Rattle.definitions.specs.Family.{fam-of, names}
+use Rattle.definitions.specs.Model.{Line, line}
+use Rattle.definitions.specs.Family.{names}
 use Rattle.definitions.specs.Recover.{read-lines, read-tokens}
 use Rattle.text.specs.Zeroed.{zeroed}
-use Rattle.family.specs.Register.{is-rsp}
 use Rattle.families.specs.Families.{Table}
 use Rattle.families.specs.Tokens.{family-name}
 use Rattle.walks.specs.Lines.{Written}
@@ -25,7 +25,7 @@ unfolding filter
 filter-none [] = refl
 filter-none (x ∷ xs) = filter-none xs
 
-module _ (L : List Line) (count k : ℕ) (t : List ℕ) (T : Table L count t) (h : k < count) (y : Bool) (e : y ≡ is-rsp (fam-of (token (line L (getD t (257 + 2 * k) 0)) 0))) where
+module _ (L : List Line) (count k : ℕ) (t : List ℕ) (T : Table L count t) (h : k < count) (y : Bool) (e : y ≡ eqb (getD t 255 0) (k + 1)) where
   pub reads-rsp : y ≡ true → (s : List ℕ) → take 0 s ≡ read-lines L (family-name L k)
   reads-rsp q s = sym (rw (family-read L count k t T h y e, q) (filter-none (range 1 (length L - 1))))
 

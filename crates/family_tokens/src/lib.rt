@@ -36,7 +36,7 @@ pub fn family_reads(
     requires { ⌜ (0 < length (now lines)) × (length (now lines) ≤ length (now seen)) × (length (now lines) ≤ length (now reads)) × (length (now lines) ≤ 65536) ⌝ }
     ensures { λ m. ⌜ (m ≤ length (now (lines .entry))) × (let L = listing (now (lines .entry)) (now (tokens .entry)) (now (text .entry)) in take m (now (reads .exit)) ≡ read-lines L (family-name L k)) ⌝ }
 {
-    if is_rsp(lines, tokens, text, table, k) {
+    if is_rsp(table, k) {
         return 0;
     }
     read_lines(lines, tokens, text, numbers, first, defs, k, seen, reads)

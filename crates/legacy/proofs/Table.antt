@@ -5,6 +5,7 @@
 --   below                what a test finds of every number below n
 --   cell-is              the cell at place p holds the name at place p
 --   place-start, place-least, place-only   an entry of the hashes is a place, that of the name with this hash
+--   own-place            the place of each name among the names is its own
 --   place-found, place-none   the text is the name at that place; it is not, so it is no name
 --   first-row            the name of a family stands in the first column
 -- Assumes nothing.
@@ -151,7 +152,7 @@ unfolding is-some-of
 some-of none k e = let z : _≡_ {A = ℕ} 0 1 = cc in absurd (omega arith)
 some-of (some j) k e = ap some (sym (eqb-true j k e))
 
-own-place : (p : ℕ) → p < 36 → some p ≡ position (name-at p ==_) all-names
+pub own-place : (p : ℕ) → p < 36 → some p ≡ position (name-at p ==_) all-names
 unfolding all range _==_ concat legacy all-names position is-some-of
 own-place p h = some-of (position (name-at p ==_) all-names) p (below (λ p. is-some-of (position (name-at p ==_) all-names) p) 36 p refl h)
 

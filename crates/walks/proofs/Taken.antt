@@ -1,6 +1,7 @@
--- Rules for `is_rsp` and for whether an address is taken.
+-- Whether a family is rsp, and rules for whether an address is taken.
 --   defines-plain               a family that a line defines is no `var_`
---   rsp-by, rsp-not             `is_rsp`
+--   rsp-by                      `is_rsp`
+--   place-test, rsp-is          the table's word for the row of rsp says whether a family is rsp
 --   family-read                 a family that has a definition is read, but rsp
 --   taken-some, taken-none      `address_taken`
 --   takes-line, takes-first, takes-text      `takes_at`
@@ -14,24 +15,25 @@ use mathlib.Core.Bool.{Bool, true, false, cond, _&&_, not, and-true, and-false}
 use mathlib.Core.List.{List, [], _∷_}
 use mathlib.Core.Option.{Option, none, some, Option·none-ne-some, Option·some-injective}
 use native.Mathlib.Omega.{arith}
+use native.Mathlib.Numerals.{add-one}
 use lib.Dec.{eqb, leb}
-use borrow.Author.Tests.{lt-ltb, le-ltb, ltb-true}
-use lib.ListN.{length, getD}
+use borrow.Author.Tests.{eq-eqb, eqb-true, lt-ltb, le-ltb, ltb-true}
+use lib.ListN.{length, getD, take}
+use lib.Seq.{getD-take}
 use Rattle.definitions.specs.Lists.{_>>=_, require, any, range, _==_, ends-with, ascii}
 use Rattle.definitions.specs.Model.{Token, Line, no-token, token, line}
-use Rattle.definitions.specs.Family.{Family, family, fam-of, names}
+use Rattle.definitions.specs.Family.{Family, legacy, fam-of, names}
 use Rattle.definitions.specs.Columns.{token-list, listing}
 use Rattle.definitions.specs.Statements.{Assignment, assignment, defines, is-var}
-use Rattle.definitions.specs.Recover.{takes-address, address-taken, is-read-family}
-use Rattle.theory.proofs.Bools.{and-both, and-split, or-left, or-right, or-cases, clash, not-so, lt-or-ge}
-use Rattle.theory.proofs.ListLaws.{any-found, any-here, member-range, range-member}
-use Rattle.theory.proofs.Lines.{defines-first}
-use Rattle.family.specs.declared.Register.{Register}
-use Rattle.family.specs.Register.{family-of, is-rsp}
+use Rattle.definitions.specs.Recover.{defined-families, takes-address, address-taken, is-read-family}
+use Rattle.theory.proofs.Bools.{and-both, and-split, or-left, or-right, or-cases, clash, same-test, not-so, lt-or-ge}
+use Rattle.theory.proofs.ListLaws.{any-found, any-here, member-range, range-member, ==-true, ==-self}
 use Rattle.model.specs.Places.{line-start}
 use Rattle.model.proofs.Decode.{length-listing}
-use Rattle.families.specs.Families.{Table}
+use Rattle.families.specs.Families.{place, Table}
 use Rattle.families.specs.Tokens.{family-name}
+use Rattle.families.proofs.Finding.{place-taken}
+use Rattle.families.proofs.Numbered.{place-cases}
 use Rattle.chains.specs.Chains.{place-line, Bounds, Chain}
 use Rattle.walks.specs.Lines.{takes, Untaken}
 use Rattle.chains.proofs.Places.{token-place, place-token, place-inside, place-line-is}
@@ -59,27 +61,30 @@ defines-plain l f e = go (assignment l) e
     go none e = absurd (Option·none-ne-some _ e)
     go (some a) e = with-family a (fam-of (a .lhs)) e
 
-pub rsp-by : (L : List Line) (t : List ℕ) (k i : ℕ) (r : Register) (s : List ℕ) (y : Bool) → i ≡ getD t (257 + 2 * k) 0 → s ≡ token (line L i) 0 .text
-    → family-of (token (line L i) 0 .text) r ≡ fam-of (token (line L i) 0) → y ≡ is-rsp (family-of s r) → y ≡ is-rsp (fam-of (token (line L (getD t (257 + 2 * k) 0)) 0))
-rsp-by L t k i r s y e p q z = z ∙ ap (λ (s : List ℕ). is-rsp (family-of s r)) p ∙ ap is-rsp q ∙ ap (λ (i : ℕ). is-rsp (fam-of (token (line L i) 0))) e
+-- `is_rsp`
 
--- a register token of which the text is no name of rsp
-no-rsp : (u : Token) → is-rsp (family (u .text)) ≡ false → is-rsp (fam-of u) ≡ false
-unfolding fam-of
-no-rsp u e = go (eqb (u .kind) 1)
+pub rsp-by : (t : List ℕ) (c k : ℕ) → c ≡ getD t 255 0 → eqb c (k + 1) ≡ eqb (getD t 255 0) (k + 1)
+rsp-by t c k e = rw e
+
+place-test : (L : List Line) (count k : ℕ) (f : List ℕ) → count ≤ length (defined-families L) → k < count
+    → eqb (place (take count (defined-families L)) f) (k + 1) ≡ (family-name L k == f)
+place-test L count k f few h = same-test _ _ there back
   where
-    go : (b : Bool) → is-rsp (cond b (family (u .text)) none) ≡ false
-    go true = e
-    go false = refl
+    there : eqb (place (take count (defined-families L)) f) (k + 1) ≡ true → (family-name L k == f) ≡ true
+    there e = elim (place-cases (take count (defined-families L)) f) [
+      | inl g ↦ absurd (omega (arith, eqb-true _ (k + 1) e, g .0))
+      | inr g ↦ (
+          let z : g .0 ≡ k = omega (arith, eqb-true _ (k + 1) e, g .1) in
+          rw (sym (getD-take count (defined-families L) k [] h), ← z, g .3) (==-self f))
+    ]
 
-pub rsp-not : (L : List Line) (t : List ℕ) (k i : ℕ) (s : List ℕ) (b : Bool) → i ≡ getD t (257 + 2 * k) 0 → s ≡ token (line L i) 0 .text
-    → (b ≡ false → is-rsp (family s) ≡ false) → b ≡ false → false ≡ is-rsp (fam-of (token (line L (getD t (257 + 2 * k) 0)) 0))
-rsp-not L t k i s b e p f q =
-    sym (ap (λ (i : ℕ). is-rsp (fam-of (token (line L i) 0))) (sym e) ∙ no-rsp (token (line L i) 0) (ap (λ (s : List ℕ). is-rsp (family s)) (sym p) ∙ f q))
+    back : (family-name L k == f) ≡ true → eqb (place (take count (defined-families L)) f) (k + 1) ≡ true
+    back e = eq-eqb _ (k + 1) (place-taken L count few f k h (==-true _ f e) ∙ sym (add-one k))
 
-module _ (L : List Line) (count k : ℕ) (t : List ℕ) (T : Table L count t) (h : k < count) (y : Bool) (e : y ≡ is-rsp (fam-of (token (line L (getD t (257 + 2 * k) 0)) 0))) where
+module _ (L : List Line) (count k : ℕ) (t : List ℕ) (T : Table L count t) (h : k < count) (y : Bool) (e : y ≡ eqb (getD t 255 0) (k + 1)) where
   rsp-is : y ≡ (family-name L k == ascii "rsp")
-  rsp-is = let w = defines-first (line L (getD t (257 + 2 * k) 0)) (family-name L k) (T .first k h) in e ∙ ap is-rsp (w .1) ∙ ap (_== ascii "rsp") (w .2)
+  unfolding legacy
+  rsp-is = e ∙ ap (λ (c : ℕ). eqb c (k + 1)) (T .rows 7 (omega arith)) ∙ place-test L count k (ascii "rsp") (T .size) h
 
   -- a family that has a definition is read, but rsp
   pub family-read : is-read-family (family-name L k) ≡ not y
@@ -94,7 +99,7 @@ module _ (L : List Line) (count k : ℕ) (t : List ℕ) (T : Table L count t) (h
 pub taken-none : (L : List Line) (count k : ℕ) (t : List ℕ) → Table L count t → k < count → (z : Bool)
     → z ≡ any (λ i. takes-address (family-name L k) (line L i .tokens)) (range 1 (length L - 1)) → z ≡ false → false ≡ address-taken L (family-name L k)
 taken-none L count k t T h z s q =
-    let y = is-rsp (fam-of (token (line L (getD t (257 + 2 * k) 0)) 0)) in
+    let y = eqb (getD t 255 0) (k + 1) in
     sym (taken-by L count k t T h y refl ∙ rw (sym s, q) (and-false (not y)))
 
 -- `takes_at`
@@ -223,4 +228,4 @@ module _ (l t x : List ℕ) (k : ℕ) (ns first : List ℕ) (C : Chain l t x k n
   pub untaken-end : (p : ℕ) → Untaken l t x k p → length t ≤ p → false ≡ any (λ i. takes-address (family-name (listing l t x) k) (line (listing l t x) i .tokens)) (range 1 (length (listing l t x) - 1))
   untaken-end p U h = sym (not-so _ (λ e. let w = taken-found l t x k (C .bounds) e in clash (w .3) (U .none (w .0) (omega (arith, w .1)) (w .1) (w .2))))
 
-pub ruleset taken-rules = (rsp-by, rsp-not, taken-some, taken-none, takes-line, takes-first, takes-text, untaken-start, untaken-next, untaken-found, untaken-end, walk-shorter)
+pub ruleset taken-rules = (rsp-by, taken-some, taken-none, takes-line, takes-first, takes-text, untaken-start, untaken-next, untaken-found, untaken-end, walk-shorter)

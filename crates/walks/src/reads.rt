@@ -4,15 +4,14 @@
 // Contracts cite `takes-address`, `address-taken` and `read-tokens` of Rattle.definitions.specs.Recover.
 ghost use mathlib.Core.Path.{_≡_};
 ghost use mathlib.Core.Bool.{cond};
-ghost use Prim.Native.Nat.{_+_, _*_, _-_, _<_, _≤_};
+ghost use Prim.Native.Nat.{_+_, _-_, _<_, _≤_};
 ghost use lib.Dec.{eqb};
 ghost use lib.ListN.{length, getD, set, take};
 ghost use Rattle.definitions.specs.Lists.{any, filter, range};
-ghost use Rattle.definitions.specs.Model.{token, line};
-ghost use Rattle.definitions.specs.Family.{fam-of, names};
+ghost use Rattle.definitions.specs.Model.{line};
+ghost use Rattle.definitions.specs.Family.{names};
 ghost use Rattle.definitions.specs.Columns.{token-list, listing};
 ghost use Rattle.definitions.specs.Recover.{takes-address, address-taken, read-tokens};
-ghost use Rattle.family.specs.Register.{is-rsp};
 ghost use Rattle.families.specs.Families.{Table, Defs};
 ghost use Rattle.families.specs.Tokens.{family-name};
 ghost use Rattle.chains.specs.Chains.{Chain};
@@ -59,18 +58,12 @@ fn lines_take(
     false
 }
 
-// Family k is rsp. Of most families only the second byte is read.
-pub fn is_rsp(lines: &[u32], tokens: &[u32], text: &[u8], table: &[u16], k: usize) -> bool
+// Family k is rsp: word 255 of the table is for its row.
+pub fn is_rsp(table: &[u16], k: usize) -> bool
     requires { ⌜ k < 1024 ⌝ }
-    ensures { λ y. ⌜ (let l = line (listing (now (lines .entry)) (now (tokens .entry)) (now (text .entry))) (getD (now (table .entry)) (257 + 2 * k) 0) in y ≡ is-rsp (fam-of (token l 0))) ⌝ }
+    ensures { λ y. ⌜ y ≡ eqb (getD (now (table .entry)) 255 0) (k + 1) ⌝ }
 {
-    let i = number(table, 257 + 2 * k);
-    let s = model::columns::text_at(lines, tokens, text, i, 0);
-    if family::may_be_rsp(s) {
-        let r = pseudo_opt::registers::register_at(lines, tokens, text, i, 0);
-        return family::is_rsp(s, r);
-    }
-    false
+    number(table, 255) == k + 1
 }
 
 // The address of family k is taken: never that of rsp.
@@ -88,7 +81,7 @@ pub fn address_taken(
     ensures { λ y. ⌜ (let L = listing (now (lines .entry)) (now (tokens .entry)) (now (text .entry)) in y ≡ address-taken L (family-name L k)) ⌝ }
 {
     if lines_take(lines, tokens, text, numbers, first, k) {
-        return !is_rsp(lines, tokens, text, table, k);
+        return !is_rsp(table, k);
     }
     false
 }

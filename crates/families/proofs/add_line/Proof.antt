@@ -6,22 +6,25 @@ use Rattle.families.proofs.add_line.Statement.{statement}
 use Rattle.families.proofs.add_line.Tie as tie
 
 text-at-requires : tie.Need-text-at-requires
-text-at-requires c κs = search (place-rules, needs)
+text-at-requires c κs = search needs
 
 hash-of-requires : tie.Need-hash-of-requires
-hash-of-requires c κs = search (place-rules, needs)
+hash-of-requires c κs = search needs
 
-add-requires : tie.Need-add-requires
-add-requires c κs = search (place-rules, needs)
+row-of-requires : tie.Need-row-of-requires
+row-of-requires c κs = search needs
 
 add-keep-row : tie.Need-add-keep-row
-add-keep-row c = search (place-rules, needs)
+add-keep-row c = search needs
 
 keep-row-requires : tie.Need-keep-row-requires
-keep-row-requires c κs = search (place-rules, needs)
+keep-row-requires c κs = search needs
+
+add-requires : tie.Need-add-requires
+add-requires c κs = search needs
 
 same-length : tie.Need-same-length
-same-length c = search (place-rules, needs)
+same-length c = search needs
 
 returns : tie.Need-returns
 returns c = search (place-rules, needs)
@@ -32,8 +35,9 @@ add-line-spec =
     (tie.spec
     text-at-requires
     hash-of-requires
-    add-requires
+    row-of-requires
     add-keep-row
     keep-row-requires
+    add-requires
     same-length
     returns)
