@@ -64,7 +64,7 @@ pub fn plausible(seed: u64, lines: usize) -> Vec<PseudoLine> {
     plausible::sized(&mut Random::new(seed, lines as u64), lines)
 }
 
-pub use full::{colliding_families, colliding_labels, creeping_back, uncrossed};
+pub use full::{colliding_families, colliding_labels, creeping_back, full_buckets, uncrossed};
 
 #[cfg(test)]
 mod tests {

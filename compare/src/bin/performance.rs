@@ -5,7 +5,7 @@ use std::time::Instant;
 
 use javrenzu::{working_space, Destination, Listing};
 use oracle::columns::{encode, Columns};
-use oracle::generate::{colliding_families, colliding_labels, creeping_back, listing, plausible, uncrossed, Kind};
+use oracle::generate::{colliding_families, colliding_labels, creeping_back, full_buckets, listing, plausible, uncrossed, Kind};
 use oracle::pseudo::PseudoLine;
 use oracle::passes::{run, Pass};
 use oracle::{answers, sweeps};
@@ -82,6 +82,7 @@ fn webs_listings() -> Vec<(&'static str, Vec<PseudoLine>)> {
         ("values creep back, 100 families", creeping_back(100)),
         ("values creep back, 1,022 families", creeping_back(1_022)),
         ("500 labels whose names collide, 2,500 gotos", colliding_labels()),
+        ("500 labels in full buckets, 2,500 gotos to the last", full_buckets()),
         ("300 families whose names collide", colliding_families()),
     ]
 }
@@ -174,6 +175,7 @@ fn splits_listings() -> Vec<(&'static str, Vec<PseudoLine>)> {
         ("hundreds of gotos and of definitions, none crossed", uncrossed()),
         ("hundreds of families", listing(Kind::Full, 1, 2)),
         ("500 labels whose names collide, 2,500 gotos", colliding_labels()),
+        ("500 labels in full buckets, 2,500 gotos to the last", full_buckets()),
         ("300 families whose names collide", colliding_families()),
     ]
 }

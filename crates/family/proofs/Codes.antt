@@ -5,20 +5,19 @@
 --   code-length                                                      the name of a numbered register is as long as its width says
 --   numbered-coded, legacy-coded                                     the family that a number says
 -- Assumes nothing.
-use mathlib.Core.Path.{_≡_, refl, sym, ap, ap₂, _∙_}
+use mathlib.Core.Path.{_≡_, refl, sym, ap, _∙_}
 use mathlib.Core.Bool.{Bool, true, false, _||_, cond}
 use mathlib.Core.List.{List, []}
 use mathlib.Core.Option.{Option, none, some}
 use Prim.Native.Nat.{ℕ, _+_, _*_, _-_, _/_, _%_, _≤_, _<_}
 use native.Mathlib.Omega.{arith}
-use borrow.Author.Tests.{eq-eqb, ne-eqb}
+use borrow.Author.Tests.{ne-eqb}
 use lib.Dec.{eqb}
 use lib.ListN.{length}
 use Rattle.definitions.specs.Lists.{_==_, ascii, part}
 use Rattle.definitions.specs.Family.{Family, suffix-width, numbered-family}
 use Rattle.text.proofs.Texts.{==-eq}
 use Rattle.text.proofs.Parts.{length-part}
-use Rattle.family.specs.declared.Register.{Register}
 use Rattle.family.specs.declared.Register.the-variants.{Legacy, Numbered, Var, Nothing}
 use Rattle.family.specs.Register.{number-end, above-zero, family-of, number-length, decoded}
 use Rattle.family.proofs.Digits.{number-inside, numbered-some}

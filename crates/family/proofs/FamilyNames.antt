@@ -3,31 +3,30 @@
 --   in-table, in-text, nowhere             the family's name, by its row
 --   register-token, kind-token, other-token    a token's family, by its kind
 --   rows-differ, rows-var                  computed of every row: its name is no other row's; none is a `var_`
---   place-row                              the place of a row's name among all names
---   named-here, named-elsewhere, named-behind    the function `row_named`
+--   named-here, named-next, named-nowhere  the function `row_named`
 --   row-is, row-text, row-none             the function `row_of`
 --   same-rows, same-row-text, same-text-row, same-texts, same-none-left, same-none-right    two families have one name
 --   names-same                             a token names a family
 --   var-text, var-not, wide-table, wide-behind, wide-numbered   tests on one family
 -- Assumes nothing.
 use mathlib.Core.Path.{_≡_, refl, sym, ap, _∙_}
-use mathlib.Core.Bool.{Bool, true, false, not, cond, true≢false}
+use mathlib.Core.Bool.{Bool, true, false, not, cond}
 use mathlib.Core.List.{List}
 use mathlib.Core.Option.{Option, none, some}
-use Prim.Native.Nat.{ℕ, _*_, _/_, _≤_, _<_}
+use Prim.Native.Nat.{ℕ, _+_, _≤_, _<_}
 use native.Mathlib.Decide.{decLt}
 use native.Mathlib.Omega.{arith}
 use borrow.Author.Tests.{lt-ltb, le-ltb, ltb-true, eq-eqb, ne-eqb}
 use lib.Dec.{eqb, leb, ltb}
-use Rattle.definitions.specs.Lists.{_==_, all, range, up-to, part, position, concat, starts-with, ascii}
+use Rattle.definitions.specs.Lists.{_==_, all, range, up-to, part, starts-with, ascii}
 use Rattle.definitions.specs.Model.{Token, tok}
 use Rattle.definitions.specs.Family.{Family, legacy, family, fam-of, names}
 use Rattle.definitions.specs.Statements.{is-var}
 use Rattle.text.proofs.Texts.{==-eq, ==-sym}
-use Rattle.legacy.proofs.Table.{below, own-place}
+use Rattle.legacy.proofs.Table.{below}
 use Rattle.family.specs.declared.Register.{Register}
 use Rattle.family.specs.declared.Register.the-variants.{Legacy, Numbered, Var, Nothing}
-use Rattle.legacy.specs.Table.{all-names, name-at, found, row-name}
+use Rattle.legacy.specs.Table.{row-name}
 use Rattle.family.specs.Register.{family-of, row, own-name, same-name, names-family, named, is-var-family, is-wide}
 
 -- `row`, `own_name` and `is_wide`
@@ -203,35 +202,19 @@ named-by p (some f) x q = let e : f .name ≡ x = cc in ap p e
 
 -- `row_named`
 
-place-row : (x : List ℕ) (p i : ℕ) → found 36 p ≡ position (x ==_) all-names → i < 8 → x ≡ row-name i → p ≡ 4 * i
-unfolding all range _==_ concat legacy all-names
-place-row x p i e h q =
-    let at : row-name i ≡ name-at (4 * i) = ==-eq (row-name i) (name-at (4 * i)) (below (λ i. row-name i == name-at (4 * i)) 8 i refl h) in
-    go (ltb p 36) (e ∙ ap (λ (x : List ℕ). position (x ==_) all-names) (q ∙ at) ∙ sym (own-place (4 * i) (omega arith)))
-  where
-    go : (b : Bool) → cond b (some p) none ≡ some (4 * i) → p ≡ 4 * i
-    go true f = cc
-    go false f = cc
+module _ (x : List ℕ) (k : ℕ) (y : Bool) (e : y ≡ (x == row-name k)) where
+  pub named-here : k < 8 → y ≡ true → (i : ℕ) → i < 8 → (x == row-name i) ≡ eqb k i
+  named-here h q i g = rw (==-eq x (row-name k) (sym e ∙ q)) (rows-differ k h i g)
 
-module _ (x : List ℕ) (p : ℕ) (e : found 36 p ≡ position (x ==_) all-names) (i : ℕ) (h : i < 8) where
-  no-row : ((x == row-name i) ≡ true → ⊥) → (x == row-name i) ≡ eqb 8 i
-  no-row n = go (x == row-name i) refl ∙ sym (ne-eqb 8 i (λ q. omega arith))
+  pub named-next : ((j : ℕ) → j < k → (x == row-name j) ≡ false) → y ≡ false → (j : ℕ) → j < k + 1 → (x == row-name j) ≡ false
+  named-next inv q j h = go (decLt j k)
     where
-      go : (b : Bool) → (x == row-name i) ≡ b → b ≡ false
-      go true q = absurd (n q)
-      go false q = refl
+      go : Dec (j < k) → (x == row-name j) ≡ false
+      go (yes g) = inv j g
+      go (no g) = let z : k ≡ j = omega arith in rw z at (sym e ∙ q)
 
-  pub named-behind : 8 ≤ p / 4 → (x == row-name i) ≡ eqb 8 i
-  named-behind g = no-row (λ q. omega (arith, place-row x p i e h (==-eq x (row-name i) q)))
-
-  module _ (y : Bool) (f : y ≡ (x == row-name (p / 4))) where
-    pub named-here : p / 4 < 8 → y ≡ true → (x == row-name i) ≡ eqb (p / 4) i
-    named-here g q = rw (==-eq x (row-name (p / 4)) (sym f ∙ q)) (rows-differ (p / 4) g i h)
-
-    pub named-elsewhere : y ≡ false → (x == row-name i) ≡ eqb 8 i
-    named-elsewhere g = no-row (λ q.
-        let z : p / 4 ≡ i = omega (arith, place-row x p i e h (==-eq x (row-name i) q)) in
-        true≢false (sym (rw (← z) at q) ∙ sym f ∙ g))
+pub named-nowhere : (x : List ℕ) (k : ℕ) → ((j : ℕ) → j < k → (x == row-name j) ≡ false) → 8 ≤ k → (i : ℕ) → i < 8 → (x == row-name i) ≡ eqb 8 i
+named-nowhere x k inv h i g = inv i (omega arith) ∙ sym (ne-eqb 8 i (λ q. omega arith))
 
 -- `row_of`
 
@@ -259,4 +242,4 @@ module _ (s : List ℕ) (r : Register) (k : ℕ) (e : k ≡ row r) where
       go (yes h) = sym (named-by is-var (family-of s r) (row-name k) (at-row s r k e h) ∙ rows-var k h)
       go (no h) = rw (at-none s r k e (omega arith) g)
 
-pub ruleset name-rules = (row-table, row-behind, own-part, register-token, kind-token, other-token, same-rows, same-row-text, same-text-row, same-texts, same-none-left, same-none-right, names-same, named-here, named-elsewhere, named-behind, row-is, row-text, row-none, var-text, var-not, wide-table, wide-behind, wide-numbered)
+pub ruleset name-rules = (row-table, row-behind, own-part, register-token, kind-token, other-token, same-rows, same-row-text, same-text-row, same-texts, same-none-left, same-none-right, names-same, row-is, row-text, row-none, var-text, var-not, wide-table, wide-behind, wide-numbered)

@@ -177,7 +177,7 @@ pub fn fam_of(kind: usize, s: &[u8]) -> Register
 {
     match kind {
         0 => Register::Nothing,
-        1 => family(s),
+        1 => decoded(s.len(), coded(s)),
         2 => Register::Nothing,
         3 => Register::Nothing,
         4 => Register::Nothing,
@@ -233,15 +233,16 @@ pub fn names(kind: usize, s: &[u8], a: &[u8], r: Register) -> bool
     same_family(s, fam_of(kind, s), a, r)
 }
 
-// The row of the table that has this name of a family, 8 where none has it.
+// The row of the table that has this name of a family, 8 where none has it. It is asked once a family, so row by row.
 fn row_named(name: &[u8]) -> usize
     ensures { λ k. ⌜ ((i : ℕ) → i < 8 → (now (name .entry) == row-name i) ≡ eqb k i) ⌝ }
 {
-    let i = place(name) / 4;
-    if i < 8 {
+    let mut i = 0;
+    while i < 8 {
         if is_row(i, name) {
             return i;
         }
+        i += 1;
     }
     8
 }

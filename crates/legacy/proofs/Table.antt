@@ -5,7 +5,6 @@
 --   below                what a test finds of every number below n
 --   cell-is              the cell at place p holds the name at place p
 --   place-start, place-least, place-only   an entry of the hashes is a place, that of the name with this hash
---   own-place            the place of each name among the names is its own
 --   place-found, place-none   the text is the name at that place; it is not, so it is no name
 --   first-row            the name of a family stands in the first column
 -- Assumes nothing.
@@ -106,9 +105,10 @@ pub cell-is : (t : List (List ℕ)) (d : List ℕ) (p : ℕ) (s : List ℕ) (r :
     → all (cell-right t d) (up-to 36) ≡ true → p < 36 → r ≡ (s == letters (getD t p d)) → r ≡ (s == name-at p)
 cell-is t d p s r right h q = q ∙ ap (s ==_) (==-eq (letters (getD t p d)) (name-at p) (below (cell-right t d) 36 p right h))
 
-pub first-row : (i : ℕ) (s : List ℕ) (r : Bool) → i < 8 → r ≡ (s == name-at (4 * i)) → r ≡ (s == row-name i)
-unfolding all range _==_ concat legacy all-names
-first-row i s r h q = q ∙ ap (s ==_) (==-eq (name-at (4 * i)) (row-name i) (below (λ i. name-at (4 * i) == row-name i) 8 i refl h))
+pub first-row : (t : List (List ℕ)) (d : List ℕ) (i : ℕ) (s : List ℕ) (r : Bool)
+    → all (λ i. letters (getD t (4 * i) d) == row-name i) (up-to 8) ≡ true → i < 8 → r ≡ (s == letters (getD t (4 * i) d)) → r ≡ (s == row-name i)
+first-row t d i s r right h q =
+    q ∙ ap (s ==_) (==-eq (letters (getD t (4 * i) d)) (row-name i) (below (λ i. letters (getD t (4 * i) d) == row-name i) 8 i right h))
 
 -- The hashes
 
@@ -152,7 +152,7 @@ unfolding is-some-of
 some-of none k e = let z : _≡_ {A = ℕ} 0 1 = cc in absurd (omega arith)
 some-of (some j) k e = ap some (sym (eqb-true j k e))
 
-pub own-place : (p : ℕ) → p < 36 → some p ≡ position (name-at p ==_) all-names
+own-place : (p : ℕ) → p < 36 → some p ≡ position (name-at p ==_) all-names
 unfolding all range _==_ concat legacy all-names position is-some-of
 own-place p h = some-of (position (name-at p ==_) all-names) p (below (λ p. is-some-of (position (name-at p ==_) all-names) p) 36 p refl h)
 

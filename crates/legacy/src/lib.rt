@@ -105,7 +105,8 @@ pub fn is_row(i: usize, name: &[u8]) -> bool
     requires { ⌜ i < 8 ⌝ }
     ensures { λ r. ⌜ r ≡ (now (name .entry) == row-name i) ⌝ }
 {
-    is_at(4 * i, name)
+    let table = NAMES;
+    is_name(table[4 * i], name)
 }
 
 fn hash(s: &[u8]) -> usize

@@ -136,7 +136,7 @@ fn name_hash(multiplier: u64, s: &str) -> u64 {
 
 /// The place of a label in the library's table, by its first multiplier.
 fn label_place(s: &str) -> u64 {
-    name_hash(633, s) % 1_023
+    name_hash(34_897, s) % 1_023
 }
 
 /// The place of a family in the library's table, by its first multiplier.
@@ -144,16 +144,34 @@ fn family_place(s: &str) -> u64 {
     name_hash(4_339, s) % 247
 }
 
+/// Labels of these names, and 500 lines with five gotos each, the j-th of which leads to the label at place `to(j)`.
+fn labels_and_gotos(names: &[String], to: impl Fn(usize) -> usize) -> Vec<PseudoLine> {
+    let token = |t: &str, k| Token { t: t.to_string(), k };
+    let labels = names.iter().map(|n| line(0, &format!("{n}:")));
+    let goto = |j| [token("goto", TokenKind::Keyword), token(&names[to(j)], TokenKind::Symbol)];
+    let gotos = (0..500).map(|i| PseudoLine { tokens: (5 * i..5 * i + 5).flat_map(goto).collect(), ..line(1, "return;") });
+    function(MAX_LINES, labels.chain(gotos))
+}
+
 /// 500 labels whose names collide in the library's table by its first multiplier, and 500 lines with five gotos each.
 pub fn colliding_labels() -> Vec<PseudoLine> {
-    let token = |t: &str, k| Token { t: t.to_string(), k };
-    let names = colliding("L", 500, label_place);
-    let labels = names.iter().map(|n| line(0, &format!("{n}:")));
-    let gotos = (0..500).map(|i| {
-        let goto = |j: usize| [token("goto", TokenKind::Keyword), token(&names[(i * 7 + j * 91) % 500], TokenKind::Symbol)];
-        PseudoLine { tokens: (0..5).flat_map(goto).collect(), ..line(1, "return;") }
-    });
-    function(MAX_LINES, labels.chain(gotos))
+    labels_and_gotos(&colliding("L", 500, label_place), |j| (j / 5 * 7 + j % 5 * 91) % 500)
+}
+
+/// 500 labels that fill 125 buckets of the library's table by its first multiplier, and 500 lines with five gotos each, all to the label that is
+/// met last in its bucket.
+pub fn full_buckets() -> Vec<PseudoLine> {
+    let mut buckets = vec![Vec::new(); 125];
+    for name in (0..).map(|n| format!("L{n}")) {
+        if let Some(bucket) = buckets.get_mut(label_place(&name) as usize).filter(|b| b.len() < 4) {
+            bucket.push(name);
+        }
+        if buckets.iter().all(|b| b.len() == 4) {
+            break;
+        }
+    }
+    let names: Vec<_> = (0..500).map(|i| buckets[i % 125][i / 125].clone()).collect();
+    labels_and_gotos(&names, |j| j % 125)
 }
 
 /// 300 families whose names collide in the library's table by its first multiplier, among hundreds of gotos.
