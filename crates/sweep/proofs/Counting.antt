@@ -206,6 +206,9 @@ module _ (n r w : ℕ) (nums : List ℕ) where
 
   -- The first sweep
 
+  pub first-listed : (lₑ l₀ : List ℕ) → Started n r w lₑ l₀ → Listed n r w nums l₀ (todo n r l₀)
+  first-listed lₑ l₀ S = solve-start lₑ l₀ S .listed
+
   pub first-turned : (lₑ l₀ l l′ : List ℕ) (z : Bool) → 0 < n → n + 64 ≤ r * 64 → Numbered n w nums → Started n r w lₑ l₀ → Sweep n r w nums l₀ l z → z ≡ true → Turned n r l l′
       → Solving l′ l′ 1
   first-turned lₑ l₀ l l′ z pos wide N S Q e T = solving-own l₀ l′ 1 wide (solve-next l₀ l₀ l 0 z pos wide N (solve-start lₑ l₀ S) Q l′ e T)

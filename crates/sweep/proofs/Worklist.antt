@@ -5,7 +5,6 @@
 --   sweep-visit               a line that is visited
 --   swept-visit, swept-end    the same of the words; all lines are passed
 --   work-start, work-next, work-end, work-agree        the loop of `sweep`
---   first-start, first-next, first-end, first-agree    the loop of `first_sweep`
 -- Assumes nothing.
 use Prim.Native.Nat.{ℕ, zero, suc, _+_, _-_, _*_, _<_, _≤_}
 use mathlib.Core.Path.{_≡_, refl, sym, ap, _∙_, fun-ext, subst}
@@ -13,7 +12,6 @@ use mathlib.Core.Logic.{_≢_, inl, inr}
 use mathlib.Core.Bool.{Bool, true, false, cond, _&&_, _||_, and-false, true≢false}
 use mathlib.Core.List.{List, []}
 use native.Mathlib.Omega.{arith}
-use native.Mathlib.Numerals.{add-one}
 use native.Mathlib.Decide.{ℕ-discrete}
 use lib.Dec.{eqb}
 use lib.ListN.{getD}
@@ -25,10 +23,9 @@ use Rattle.bits.specs.Rows.{bit, First}
 use Rattle.bits.specs.Edges.{edges, succs, Agree, preds-of}
 use Rattle.bits.proofs.EdgeLaws.{preds-of-at}
 use Rattle.visit.specs.Layout.{outs, todo, next, Kept}
-use Rattle.visit.specs.Steps.{coming, given, visit, visited, Stable, Full, Step, Listed, Sweep}
+use Rattle.visit.specs.Steps.{coming, given, visit, visited, Stable, Step, Listed, Sweep}
 use Rattle.visit.proofs.ListFacts.{any-alike}
 use Rattle.visit.proofs.LayoutLaws.{kept-none, kept-then, kept-preds, kept-both}
-use Rattle.visit.proofs.StepLaws.{step-full}
 
 module _ (preds : List (List ℕ)) (nums : List ℕ) where
   pub given-local : (b j : ℕ) (f g : ℕ → Bool) → ((p : ℕ) → member p (getD preds j []) ≡ true → f p ≡ g p) → given preds nums b f j ≡ given preds nums b g j
@@ -236,34 +233,3 @@ module _ (n r w : ℕ) (nums : List ℕ) where
 
   pub work-end : (l₀ l : List ℕ) (a q : ℕ) (z : Bool) → n + 64 ≤ r * 64 → Working l₀ l a (a + n) q z → a + n ≤ q → Sweep n r w nums l₀ l z
   work-end l₀ l a q z wide W h = swept-end l₀ l (q - a) z wide (W .kept) (omega (arith, W .high)) (W .sweeping)
-
-  -- The loop of `first_sweep`: line k is next, and every line is on the list
-
-  pub record Walking (l₀ l : List ℕ) (k : ℕ) (z : Bool) : Type 0 where
-    pub upto : k ≤ n
-    pub kept : Kept n r w l₀ l
-    pub full : Full n r l
-    pub sweeping : Swept l₀ l k z
-
-  pub first-start : (l : List ℕ) → Full n r l → Walking l l 0 false
-  first-start l F = record {
-    upto = omega arith;
-    kept = kept-none n r w l;
-    full = F;
-    sweeping = sweep-none (preds-of n r l) nums n (w * 64) (outs n r w l) (todo n r l) (next n r l) (λ j h e. clash (F j h) e);
-  }
-
-  pub first-next : (l₀ l l′ : List ℕ) (k : ℕ) (t y z : Bool) → n + 64 ≤ r * 64 → Agree n r l₀ → Walking l₀ l k t → k < n → Step n r w k nums l l′ y → z ≡ (y || t)
-      → Walking l₀ l′ (k + 1) z
-  first-next l₀ l l′ k t y z wide A W hk P ez = rw (add-one k) (record {
-    upto = hk;
-    kept = kept-then n r w l₀ l l′ (W .kept) (P .kept);
-    full = step-full n r w k nums l l′ y P (W .full);
-    sweeping = swept-visit l₀ l l′ k t y z wide A (W .kept) hk P ez (W .sweeping);
-  })
-
-  pub first-agree : (l₀ l : List ℕ) (k : ℕ) (z : Bool) → n + 64 ≤ r * 64 → Walking l₀ l k z → Agree n r l₀ → Agree n r l
-  first-agree l₀ l k z wide W A = kept-both n r w l₀ l wide (W .kept) A
-
-  pub first-end : (l₀ l : List ℕ) (k : ℕ) (z : Bool) → n + 64 ≤ r * 64 → Walking l₀ l k z → n ≤ k → Sweep n r w nums l₀ l z
-  first-end l₀ l k z wide W h = swept-end l₀ l k z wide (W .kept) (omega (arith, W .upto)) (W .sweeping)

@@ -3,9 +3,10 @@
 //
 // The first sweep visits every line. Any other visits, in order, only the lines of which a predecessor changed since their last visit: a
 // line that it passes over would not change, so the outgoing rows after each sweep, and the number of sweeps, are those of `sweeps` of
-// Rattle.definitions.specs.Sweeps, which the contracts cite. Besides its visits the first sweep takes 2 r steps, any other 3 r; the start
-// takes n w + 2 r. By `budget-enough` of proofs/Counting n + 1 sweeps are always enough.
+// Rattle.definitions.specs.Sweeps, which the contracts cite. A sweep takes 3 r steps besides its visits; the start takes n w + 2 r. By
+// `budget-enough` of proofs/Counting n + 1 sweeps are always enough.
 ghost use mathlib.Core.Path.{_≡_};
+ghost use mathlib.Core.Bool.{true};
 ghost use Prim.Native.Nat.{_+_, _*_, _<_, _≤_};
 ghost use lib.ListN.{length};
 ghost use Rattle.bits.specs.Edges.{Agree};
@@ -14,7 +15,6 @@ ghost use Rattle.visit.specs.Numbers.{Numbered, Numbering, Counted};
 ghost use Rattle.visit.specs.Steps.{Full, Listed, Sweep, Started, Turned};
 ghost use Rattle.sweep.specs.Solved.{Solved, Incoming};
 use visit::coming_row;
-use visit::first_step;
 use visit::step_line;
 use words::narrow;
 
@@ -34,24 +34,9 @@ pub fn incoming_row(space: &mut [u64], n: usize, r: usize, w: usize, i: usize) -
     (n * r + n * r + r + r + n * w) * 64
 }
 
-// The first sweep: every line is on the list, so none is looked for. Answers whether an outgoing row changed.
-fn first_sweep(space: &mut [u64], defs: &[u16], n: usize, r: usize, w: usize) -> bool
-    requires { ⌜ Room n r w (now space) × Numbered n w (now defs) × Agree n r (now space) × Full n r (now space) ⌝ }
-    ensures { λ z. ⌜ Sweep n r w (now (defs .entry)) (now (space .entry)) (now (space .exit)) z ⌝ }
-{
-    let mut changed = false;
-    let mut i = 0;
-    while i < n {
-        let c = first_step(space, defs, n, r, w, i);
-        changed = bits::either(c, changed);
-        i += 1;
-    }
-    changed
-}
-
-// One sweep over the lines to visit; answers whether an outgoing row changed.
-fn sweep(space: &mut [u64], defs: &[u16], n: usize, r: usize, w: usize) -> bool
-    requires { ⌜ Room n r w (now space) × Numbered n w (now defs) × Agree n r (now space) × Listed n r w (now defs) (now space) (todo n r (now space)) ⌝ }
+// One sweep over the lines to visit, in the first sweep all; answers whether an outgoing row changed.
+fn sweep(space: &mut [u64], defs: &[u16], n: usize, r: usize, w: usize, first: bool) -> bool
+    requires { ⌜ Room n r w (now space) × Numbered n w (now defs) × Agree n r (now space) × Listed n r w (now defs) (now space) (todo n r (now space)) × (first ≡ true → Full n r (now space)) ⌝ }
     ensures { λ z. ⌜ Sweep n r w (now (defs .entry)) (now (space .entry)) (now (space .exit)) z ⌝ }
 {
     let a = (n * r + n * r) * 64;
@@ -59,7 +44,7 @@ fn sweep(space: &mut [u64], defs: &[u16], n: usize, r: usize, w: usize) -> bool
     let mut changed = false;
     let mut q = bits::find_bit(space, a, e);
     while q < e {
-        let c = step_line(space, defs, n, r, w, q - a);
+        let c = step_line(space, defs, n, r, w, q - a, first);
         changed = bits::either(c, changed);
         q = bits::find_bit(space, q + 1, e);
     }
@@ -96,7 +81,7 @@ pub fn solve(space: &mut [u64], defs: &[u16], n: usize, r: usize, w: usize, budg
     if budget == 0 {
         return Sweeps::OverBudget;
     }
-    if first_sweep(space, defs, n, r, w) {
+    if sweep(space, defs, n, r, w, true) {
         turn(space, n, r, w);
     } else {
         return Sweeps::Done(1);
@@ -104,7 +89,7 @@ pub fn solve(space: &mut [u64], defs: &[u16], n: usize, r: usize, w: usize, budg
     let mut count = 1;
     while count < budget {
         count += 1;
-        if sweep(space, defs, n, r, w) {
+        if sweep(space, defs, n, r, w, false) {
             turn(space, n, r, w);
         } else {
             return Sweeps::Done(count);

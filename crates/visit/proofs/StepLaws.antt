@@ -12,8 +12,8 @@
 --   succs-between, ahead-between       of the successors, before and after the first list is written
 --   visit-agree                        the graph stays
 --   step-changed, step-same            a visit with its marks
---   first-changed                      where every line is on this sweep's list, the marks on the next sweep's are enough
---   step-full                          a step leaves every line on it
+--   ahead-full                         where every line is on this sweep's list, none has to be put there
+--   visit-full, step-full              a visit, a step leave every line on it
 --   start-lists, turn-lists            the lists before and between sweeps
 -- Assumes nothing.
 use Prim.Native.Nat.{ℕ, zero, suc, _+_, _-_, _*_, _/_, _%_, _^_, _<_, _≤_}
@@ -432,11 +432,11 @@ module _ (n r w i : ℕ) (nums l₀ l : List ℕ) (z : Bool) (wide : n + 64 ≤ 
       succs-kept : (j : ℕ) → j < n → succs n r l i j ≡ succs n r l₀ i j
       succs-kept j h = kept-succs n r l₀ l wide (λ v x. Q .kept v (λ a b. omega arith)) i j hi h
 
-  pub first-changed : (l′ : List ℕ) → i < n → z ≡ true → Full n r l₀ → Back n r i l l′ → Step n r w i nums l₀ l′ true
-  first-changed l′ hi e F B = step-changed l′ hi e (mark-both n r i l l wide hi ahead l′ B)
-    where
-      ahead : Ahead n r i l l
-      ahead = record { kept = λ v h. refl; old = λ j h f. f; new = λ j h f. clash (visit-todo j h ∙ F j h) f }
+  pub visit-full : Full n r l₀ → Full n r l
+  visit-full F j h = visit-todo j h ∙ F j h
+
+pub ahead-full : (n r i : ℕ) (l : List ℕ) → Full n r l → Ahead n r i l l
+ahead-full n r i l F = record { kept = λ v h. refl; old = λ j h f. f; new = λ j h f. clash (F j h) f }
 
 pub step-full : (n r w i : ℕ) (nums l₀ l : List ℕ) (z : Bool) → Step n r w i nums l₀ l z → Full n r l₀ → Full n r l
 step-full n r w i nums l₀ l z P F j h = elim (decided (todo n r l j)) [ inl e ↦ e | inr e ↦ clash (F j h) (P .todo-old j h e) ]

@@ -5,11 +5,11 @@
 --   visit, visited k           the column f after a visit of line i; of the lines below k in order
 --   Stable                     a visit of line j would change nothing
 --   Updated                    line i is visited, and z says whether its outgoing row changed
---   Visit, Marked, Step        what `visit_line`, `mark`, and `step_line` and `first_step` do
+--   Visit, Marked, Step        what `visit_line`, `mark` and `step_line` do
 --   Ahead, Back                what `mark_ahead` and `mark_back` do
 --   Full                       every line is on this sweep's list
 --   Listed                     a line that is not on the list would not change
---   Sweep                      what `sweep` and `first_sweep` do
+--   Sweep                      what `sweep` does
 --   Started, Turned            the lists of lines before the first sweep, and between sweeps
 -- Assumes nothing.
 use Prim.Native.Nat.{ℕ, zero, suc, _+_, _*_, _<_, _≤_}

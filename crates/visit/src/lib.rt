@@ -16,6 +16,7 @@
 // where the row changes: mostly one. By `room` of proofs/LayoutLaws the words of question 5 have room for every w below r. Contracts cite
 // specs/Steps.antt.
 ghost use mathlib.Core.Path.{_≡_};
+ghost use mathlib.Core.Bool.{true};
 ghost use mathlib.Core.List.{[]};
 ghost use Prim.Native.Nat.{_+_, _*_, _<_};
 ghost use lib.ListN.{getD};
@@ -132,11 +133,15 @@ fn succs_span(space: &[u64], n: usize, r: usize, w: usize, i: usize) -> Span
     bits::row_span(space, n, r, s)
 }
 
-// Puts the successors of line i, which lie in x, on this sweep's list. Those at or below i are passed already.
-fn mark_ahead(space: &mut [u64], n: usize, r: usize, w: usize, i: usize, x: Span)
-    requires { ⌜ Room n r w (now space) × (i < n) × Between n (now space) (n * r + i * r) x ⌝ }
+// Puts the successors of line i, which lie in x, on this sweep's list. Those at or below i are passed already. In the first sweep every line is
+// on it.
+fn mark_ahead(space: &mut [u64], n: usize, r: usize, w: usize, i: usize, x: Span, first: bool)
+    requires { ⌜ Room n r w (now space) × (i < n) × Between n (now space) (n * r + i * r) x × (first ≡ true → Full n r (now space)) ⌝ }
     ensures { λ z. ⌜ Ahead n r i (now (space .entry)) (now (space .exit)) ⌝ }
 {
+    if first {
+        return;
+    }
     let s = n * r + bits::row(n, r, i);
     let f = x.from / 64;
     let todo = n * r + n * r;
@@ -159,35 +164,30 @@ fn mark_back(space: &mut [u64], n: usize, r: usize, w: usize, i: usize, x: Span)
 }
 
 // Puts the successors of line i on the lists.
-fn mark(space: &mut [u64], n: usize, r: usize, w: usize, i: usize)
-    requires { ⌜ Room n r w (now space) × (i < n) × Agree n r (now space) ⌝ }
+fn mark(space: &mut [u64], n: usize, r: usize, w: usize, i: usize, first: bool)
+    requires { ⌜ Room n r w (now space) × (i < n) × Agree n r (now space) × (first ≡ true → Full n r (now space)) ⌝ }
     ensures { λ z. ⌜ Marked n r i (now (space .entry)) (now (space .exit)) ⌝ }
 {
     let x = succs_span(space, n, r, w, i);
-    mark_ahead(space, n, r, w, i, x);
+    mark_ahead(space, n, r, w, i, x, first);
     mark_back(space, n, r, w, i, x);
 }
 
 // Visits line i, and puts its successors on the lists where it changed; answers whether it did.
-pub fn step_line(space: &mut [u64], defs: &[u16], n: usize, r: usize, w: usize, i: usize) -> bool
-    requires { ⌜ Room n r w (now space) × (i < n) × Numbered n w (now defs) × Agree n r (now space) ⌝ }
+pub fn step_line(
+    space: &mut [u64],
+    defs: &[u16],
+    n: usize,
+    r: usize,
+    w: usize,
+    i: usize,
+    first: bool,
+) -> bool
+    requires { ⌜ Room n r w (now space) × (i < n) × Numbered n w (now defs) × Agree n r (now space) × (first ≡ true → Full n r (now space)) ⌝ }
     ensures { λ z. ⌜ Step n r w i (now (defs .entry)) (now (space .entry)) (now (space .exit)) z ⌝ }
 {
     if visit_line(space, defs, n, r, w, i) {
-        mark(space, n, r, w, i);
-        return true;
-    }
-    false
-}
-
-// The same where every line is on this sweep's list: only the next sweep's list is written.
-pub fn first_step(space: &mut [u64], defs: &[u16], n: usize, r: usize, w: usize, i: usize) -> bool
-    requires { ⌜ Room n r w (now space) × (i < n) × Numbered n w (now defs) × Agree n r (now space) × Full n r (now space) ⌝ }
-    ensures { λ z. ⌜ Step n r w i (now (defs .entry)) (now (space .entry)) (now (space .exit)) z ⌝ }
-{
-    if visit_line(space, defs, n, r, w, i) {
-        let x = succs_span(space, n, r, w, i);
-        mark_back(space, n, r, w, i, x);
+        mark(space, n, r, w, i, first);
         return true;
     }
     false

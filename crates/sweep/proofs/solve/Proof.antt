@@ -1,9 +1,10 @@
 -- `sweep::solve` meets its contract. The invariant: `count` sweeps are done, each of which changed something. Assumes nothing.
 use Prim.Native.Nat.{_-_, _≤_}
 use mathlib.Core.Path.{_≡_}
+use mathlib.Core.Bool.{false≢true}
 use lib.ListN.{length}
 use Rattle.visit.proofs.LayoutLaws.{room-same, kept-both}
-use Rattle.sweep.proofs.Counting.{Solving, solve-next, solve-done, solve-over, agree-still, first-turned, first-done, first-over, first-kept}
+use Rattle.sweep.proofs.Counting.{Solving, solve-next, solve-done, solve-over, agree-still, first-listed, first-turned, first-done, first-over, first-kept}
 use borrow.Author.Needs.{needs}
 use Rattle.sweep.proofs.solve.Statement.{statement}
 use Rattle.sweep.proofs.solve.Tie as tie
@@ -23,8 +24,10 @@ same-length c = search needs
 returns : tie.Need-returns Inv-loop μ-loop
 returns c = search (first-over, needs)
 
-first-sweep-requires : tie.Need-first-sweep-requires Inv-loop μ-loop
-first-sweep-requires c κs = search (room-same, kept-both, needs)
+sweep-requires : tie.Need-sweep-requires Inv-loop μ-loop
+sweep-requires c κs =
+    let began = c .before .before .before .before in
+    (search (room-same, needs), search needs, search (kept-both, needs), first-listed _ _ _ _ _ _ (began .start .ensures), λ e. began .start .ensures .all)
 
 turn-requires : tie.Need-turn-requires Inv-loop μ-loop
 turn-requires c κs = search (room-same, needs)
@@ -41,19 +44,19 @@ loop-holds c =
     let swept = turned .before .before .before .before .before in
     let began = swept .before .before .before .before .before in
     let pre = began .before .before .before .before .pre in
-    (search needs, search needs, first-turned _ _ _ _ _ _ _ _ _ (pre .0 .lines) (pre .0 .wide) (pre .1) (began .start .ensures) (swept .first-sweep .ensures) (turned .before .before .if2 .taken) (turned .turn .ensures))
+    (search needs, search needs, first-turned _ _ _ _ _ _ _ _ _ (pre .0 .lines) (pre .0 .wide) (pre .1) (began .start .ensures) (swept .sweep .ensures) (turned .before .before .if2 .taken) (turned .turn .ensures))
 
 add-count : tie.Need-add-count Inv-loop μ-loop
 add-count c = search needs
 
-sweep-requires : tie.Need-sweep-requires Inv-loop μ-loop
-sweep-requires c κs =
+sweep-requires-2 : tie.Need-sweep-requires-2 Inv-loop μ-loop
+sweep-requires-2 c κs =
     let turned = c .before .before .before .before .before in
     let swept = turned .before .before .before .before .before in
     let began = swept .before .before .before .before .before in
     let pre = began .before .before .before .before .pre in
-    let kept = first-kept _ _ _ _ _ _ _ _ _ (began .start .ensures) (swept .first-sweep .ensures) (turned .turn .ensures) in
-    (search (room-same, needs), search needs, agree-still _ _ _ _ _ _ _ _ (pre .0 .wide) kept (c .before .before .loop .inv .2) (pre .2), search needs)
+    let kept = first-kept _ _ _ _ _ _ _ _ _ (began .start .ensures) (swept .sweep .ensures) (turned .turn .ensures) in
+    (search (room-same, needs), search needs, agree-still _ _ _ _ _ _ _ _ (pre .0 .wide) kept (c .before .before .loop .inv .2) (pre .2), search needs, λ e. absurd (false≢true e))
 
 turn-requires-2 : tie.Need-turn-requires-2 Inv-loop μ-loop
 turn-requires-2 c κs = search (room-same, needs)
@@ -67,7 +70,7 @@ loop-again c =
     let swept = turned .before .before .before .before .before in
     let inv = swept .before .before .before .loop .inv in
     let pre = swept .before .before .before .before .before .before .before .before .before .before .before .before .before .before .before .before .before .before .before .before .pre in
-    (search needs, search needs, solve-next _ _ _ _ _ _ _ _ _ (pre .0 .lines) (pre .0 .wide) (pre .1) (inv .2) (swept .sweep .ensures) _ (turned .before .before .if3 .taken) (turned .turn2 .ensures))
+    (search needs, search needs, solve-next _ _ _ _ _ _ _ _ _ (pre .0 .lines) (pre .0 .wide) (pre .1) (inv .2) (swept .sweep2 .ensures) _ (turned .before .before .if3 .taken) (turned .turn2 .ensures))
 
 same-length-3 : tie.Need-same-length-3 Inv-loop μ-loop
 same-length-3 c = search needs
@@ -90,13 +93,13 @@ solve-spec =
     start-requires
     same-length
     returns
-    first-sweep-requires
+    sweep-requires
     turn-requires
     same-length-2
     returns-2
     loop-holds
     add-count
-    sweep-requires
+    sweep-requires-2
     turn-requires-2
     loop-less
     loop-again

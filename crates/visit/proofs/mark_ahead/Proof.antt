@@ -1,8 +1,11 @@
 -- `visit::mark_ahead` meets its contract. Assumes nothing.
-use Rattle.visit.proofs.StepLaws.{ahead-by}
+use Rattle.visit.proofs.StepLaws.{ahead-full, ahead-by}
 use borrow.Author.Needs.{needs}
 use Rattle.visit.proofs.mark_ahead.Statement.{statement}
 use Rattle.visit.proofs.mark_ahead.Tie as tie
+
+returns : tie.Need-returns
+returns c = ahead-full _ _ _ _ (c .before .before .pre .3 (c .if1 .taken))
 
 mul-s : tie.Need-mul-s
 mul-s c = search needs
@@ -40,13 +43,14 @@ or-row-requires c κs = search needs
 same-length : tie.Need-same-length
 same-length c = search needs
 
-returns : tie.Need-returns
-returns c = search (ahead-by, needs)
+returns-2 : tie.Need-returns-2
+returns-2 c = search (ahead-by, needs)
 
 pub mark-ahead-spec : {M : Type 1} → statement M
 mark-ahead-spec =
     tie.close
     (tie.spec
+    returns
     mul-s
     row-requires
     add-s
@@ -59,4 +63,4 @@ mark-ahead-spec =
     sub-or-row-2
     or-row-requires
     same-length
-    returns)
+    returns-2)

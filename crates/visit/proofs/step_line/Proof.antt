@@ -1,5 +1,5 @@
 -- `visit::step_line` meets its contract. Assumes nothing.
-use Rattle.visit.proofs.StepLaws.{visit-agree, step-changed, step-same}
+use Rattle.visit.proofs.StepLaws.{visit-agree, visit-full, step-changed, step-same}
 use borrow.Author.Needs.{needs}
 use Rattle.visit.proofs.step_line.Statement.{statement}
 use Rattle.visit.proofs.step_line.Tie as tie
@@ -8,7 +8,10 @@ visit-line-requires : tie.Need-visit-line-requires
 visit-line-requires c κs = search needs
 
 mark-requires : tie.Need-mark-requires
-mark-requires c κs = search (visit-agree, needs)
+mark-requires c κs =
+    let visited = c .before .before .before .before in
+    let pre = visited .before .before .before .before .pre in
+    (search needs, search needs, search (visit-agree, needs), λ e. visit-full _ _ _ _ _ _ _ _ (pre .0 .wide) (visited .visit-line .ensures) (pre .4 e))
 
 same-length : tie.Need-same-length
 same-length c = search needs
