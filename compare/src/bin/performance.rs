@@ -82,7 +82,7 @@ fn webs_listings() -> Vec<(&'static str, Vec<PseudoLine>)> {
         ("values creep back, 100 families", creeping_back(100)),
         ("values creep back, 1,022 families", creeping_back(1_022)),
         ("500 labels whose names collide, 2,500 gotos", colliding_labels()),
-        ("500 labels in full buckets, 2,500 gotos to the last", full_buckets()),
+        ("498 labels in full buckets, 2,500 gotos to the last", full_buckets()),
         ("300 families whose names collide", colliding_families()),
     ]
 }
@@ -175,7 +175,7 @@ fn splits_listings() -> Vec<(&'static str, Vec<PseudoLine>)> {
         ("hundreds of gotos and of definitions, none crossed", uncrossed()),
         ("hundreds of families", listing(Kind::Full, 1, 2)),
         ("500 labels whose names collide, 2,500 gotos", colliding_labels()),
-        ("500 labels in full buckets, 2,500 gotos to the last", full_buckets()),
+        ("498 labels in full buckets, 2,500 gotos to the last", full_buckets()),
         ("300 families whose names collide", colliding_families()),
     ]
 }

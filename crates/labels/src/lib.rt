@@ -3,7 +3,7 @@
 // Labels stand in buckets by the hashes of their names, each put in front in line order, so that of equal ones the last is met first. `heads`
 // has 255 buckets, or 1,023 where it has 1,024 words, and behind them the multiplier of the hash. In a full bucket a label takes the place of
 // one of its name in front; for any other label, all are put into their buckets anew, by a multiplier drawn from the text, at most 7 times. By
-// the first multiplier a bucket is full with 4 labels, so that names chosen against it cost little; by a drawn one with 10, which hardly any
+// the first multiplier a bucket is full with 3 labels, so that names chosen against it cost little; by a drawn one with 10, which hardly any
 // names come to. `index` takes time linear in the tokens and in the bytes of the labels, and each further time once more that and the bytes of
 // the text; `label_line` in the name and in the labels of its bucket. That few labels share a bucket is measured, not proved. Contracts cite
 // `label-line` of Rattle.definitions.specs.FlowGraph.
@@ -24,7 +24,7 @@ use model::columns::token_count;
 use pseudo_opt::labels::is_label;
 
 // The first multiplier.
-const FIRST: u16 = 34897;
+const FIRST: u16 = 19241;
 
 // The line of a label.
 pub enum Label {
@@ -215,8 +215,8 @@ fn empty(heads: &mut [u16], n: usize)
     }
 }
 
-// Puts every label into its bucket. The buckets are empty, and there is an entry for each line. By the first multiplier, 1,000 labels such as
-// label_12 or L7, and 500 such as loc_401a3c, are at most 4 to a bucket of 1,023, and 64 at most 2 to a bucket of 255.
+// Puts every label into its bucket. The buckets are empty, and there is an entry for each line. By the first multiplier, 500 labels such as
+// label_12, L7 or loc_401a3c are at most 3 to a bucket of 1,023, and 64 at most 2 to a bucket of 255.
 pub fn index(lines: &[u32], tokens: &[u32], text: &[u8], heads: &mut [u16], nexts: &mut [u16])
     requires { ⌜ (256 ≤ length (now heads)) × (length (now lines) ≤ length (now nexts)) × (length (now lines) ≤ 1024) ⌝ }
     requires { ⌜ ((b : ℕ) → getD (now heads) b 0 ≡ 0) ⌝ }
@@ -225,7 +225,7 @@ pub fn index(lines: &[u32], tokens: &[u32], text: &[u8], heads: &mut [u16], next
         Indexed L (now (heads .exit)) (now (nexts .exit)) (length (now (lines .entry)))) ⌝ }
 {
     let mut m = FIRST;
-    let mut most: usize = 4;
+    let mut most: usize = 3;
     let mut left: usize = 7;
     while 0 < left {
         if index_all(lines, tokens, text, heads, nexts, m, most, true) {

@@ -136,7 +136,7 @@ fn name_hash(multiplier: u64, s: &str) -> u64 {
 
 /// The place of a label in the library's table, by its first multiplier.
 fn label_place(s: &str) -> u64 {
-    name_hash(34_897, s) % 1_023
+    name_hash(19_241, s) % 1_023
 }
 
 /// The place of a family in the library's table, by its first multiplier.
@@ -158,20 +158,20 @@ pub fn colliding_labels() -> Vec<PseudoLine> {
     labels_and_gotos(&colliding("L", 500, label_place), |j| (j / 5 * 7 + j % 5 * 91) % 500)
 }
 
-/// 500 labels that fill 125 buckets of the library's table by its first multiplier, and 500 lines with five gotos each, all to the label that is
+/// 498 labels that fill 166 buckets of the library's table by its first multiplier, and 500 lines with five gotos each, all to the label that is
 /// met last in its bucket.
 pub fn full_buckets() -> Vec<PseudoLine> {
-    let mut buckets = vec![Vec::new(); 125];
+    let mut buckets = vec![Vec::new(); 166];
     for name in (0..).map(|n| format!("L{n}")) {
-        if let Some(bucket) = buckets.get_mut(label_place(&name) as usize).filter(|b| b.len() < 4) {
+        if let Some(bucket) = buckets.get_mut(label_place(&name) as usize).filter(|b| b.len() < 3) {
             bucket.push(name);
         }
-        if buckets.iter().all(|b| b.len() == 4) {
+        if buckets.iter().all(|b| b.len() == 3) {
             break;
         }
     }
-    let names: Vec<_> = (0..500).map(|i| buckets[i % 125][i / 125].clone()).collect();
-    labels_and_gotos(&names, |j| j % 125)
+    let names: Vec<_> = (0..498).map(|i| buckets[i % 166][i / 166].clone()).collect();
+    labels_and_gotos(&names, |j| j % 166)
 }
 
 /// 300 families whose names collide in the library's table by its first multiplier, among hundreds of gotos.
