@@ -4,27 +4,25 @@
 --   token-order, token-within                    a token likewise within the text
 --   tokens-before, all-tokens-listing            the tokens of the first lines, and of all, are the first tokens, and all
 --   run-text                                     the texts of a run of tokens, one after the other, are one part of the text
---   line-text                                    the texts of a line's tokens together are no longer than the text
 -- Assumes nothing.
 use mathlib.Core.Path.{_≡_, refl, sym, ap, _∙_}
 use mathlib.Core.Bool.{true, _&&_}
 use mathlib.Core.List.{List, [], _∷_, map}
 use Prim.Native.Nat.{ℕ, zero, suc, _+_, _-_, _/_, _%_, _≤_, _<_}
 use native.Mathlib.Nat.{le-of-suc-le-suc, not-suc-le-zero, zero-add, suc-add, sub-zero}
-use native.Mathlib.Decide.{decLe}
 use native.Mathlib.Omega.{arith}
 use borrow.Author.Tests.{leb-true, eqb-true}
 use lib.Dec.{leb}
 use lib.ListN.{length, getD, take, drop, length-drop}
 use lib.Seq.{take-all}
 use Rattle.definitions.specs.Lists.{part, all, concat}
-use Rattle.definitions.specs.Model.{Token, text, line}
+use Rattle.definitions.specs.Model.{Token, text}
 use Rattle.definitions.specs.Columns.{pieces, token-of, line-of, token-list, listing, all-tokens}
 use Rattle.definitions.specs.Questions.{covers, question-2}
-use Rattle.text.proofs.Parts.{part-join, part-none, part-clamp, length-part}
+use Rattle.text.proofs.Parts.{part-join}
 use Rattle.model.proofs.Ands.{both}
 use Rattle.model.specs.Places.{start-from, token-start, line-start}
-use Rattle.model.proofs.Decode.{start-next, start-zero, line-at, length-listing, length-tokens}
+use Rattle.model.proofs.Decode.{start-next, start-zero, length-listing, length-tokens}
 
 -- Ends that never fall
 
@@ -154,20 +152,3 @@ module _ (t x : List ℕ) (ok : covers 256 0 t (length x) ≡ true) where
       rw (drop-pieces 256 token-of 0 t x a g, text-concat)
       (run-from 256 token-of (λ k. k .text) (λ w s. refl) x (token-start t a) (drop a t) (drop-covers 256 0 (length x) t ok a g) (e - a)
       (rw length-drop (omega arith)) ∙ rw (start-drop 256 0 t a (e - a) g, z))
-
-  run-length : (a e : ℕ) → e ≤ length t → length (text (part a e (token-list t x))) ≤ length x
-  run-length a e k = go (decLe a e)
-    where
-      go : Dec (a ≤ e) → length (text (part a e (token-list t x))) ≤ length x
-      go (yes h) = rw (run-text a e h k) (omega (arith, length-part x (token-start t a) (token-start t e)))
-      go (no h) = rw (part-none (token-list t x) a e (omega arith)) (unfold text in omega arith)
-
-  pub line-text : (l : List ℕ) (i : ℕ) → length (text (line (listing l t x) i .tokens)) ≤ length x
-  line-text l i = rw (line-at l t x i) (go (decLe (getD l i 0 / 512) (length t)))
-    where
-      go : Dec (getD l i 0 / 512 ≤ length t) → length (text (part (line-start l i) (getD l i 0 / 512) (token-list t x))) ≤ length x
-      go (yes h) = run-length (line-start l i) (getD l i 0 / 512) h
-      go (no h) =
-          let g : length (token-list t x) ≤ getD l i 0 / 512 = omega (arith, length-tokens t x) in
-          rw (← part-clamp (token-list t x) (line-start l i) (getD l i 0 / 512) g)
-          (run-length (line-start l i) (length (token-list t x)) (omega (arith, length-tokens t x)))

@@ -45,10 +45,6 @@ module _ (l t : List ℕ) (ok : covers 512 0 l (length t) ≡ true) where
     pub line-upward : line-start l i ≤ line-end l t i
     line-upward = omega (arith, line-within l t ok i h, line-order l t ok i h)
 
-  start-within : (i : ℕ) → i ≤ length l → line-start l i ≤ length t
-  start-within zero h = rw (start-zero 512 0 l) (omega arith)
-  start-within (suc i) h = omega (arith, ap (line-start l) (add-one i), start-next l i, line-within l t ok i h)
-
   module _ {A : Type 0} (g : ℕ → A → ℕ) (ws : List A) (size : length t ≤ length ws) where
     by-line-more : (i : ℕ) → by-line l t g ws (i + 1) ≡ by-line l t g ws i ++ map (g i) (part (line-start l i) (line-end l t i) ws)
     unfolding by-line
