@@ -1,10 +1,10 @@
 -- What is asked of single words, as rules for `search`.
---   end-words        the end of a block, and the search for the first
---   continue-words   the keyword continue, and the search for it
---   init-places      an initialiser, a line that may stand behind it, and the search for the initialiser
---   test-names       the registers of a leading test
---   head-words       the condition of a header, by its leading test
---   for-words        the tests of a for header
+--   end_words        the end of a block, and the search for the first
+--   continue_words   the keyword continue, and the search for it
+--   init_places      an initialiser, a line that may stand behind it, and the search for the initialiser
+--   test_names       the registers of a leading test
+--   head_words       the condition of a header, by its leading test
+--   for_words        the tests of a for header
 -- Assumes nothing.
 use mathlib.Core.Path.{◌≡◌, refl, sym, ap, ◌∙◌}
 use mathlib.Core.Bool.{Bool, true, false, ◌&&◌, ◌||◌, cond}

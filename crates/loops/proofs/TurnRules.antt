@@ -1,5 +1,5 @@
 -- The turns of the pass at their returns and calls, as rules for `search`. ws is the lent plan at entry, of which n words count.
---   guard-words                        the tests of a guard and its close
+--   guard_words                        the tests of a guard and its close
 --   rebuild_calls, rebuilt_go, rebuilt_beyond    a guard rebuilt
 --   closed_far, close_other, close_rebuilt       the close is at w
 --   close_none, close_found            the close is looked for

@@ -1,9 +1,9 @@
 -- What is asked of single words, as rules for `search`.
---   end-words        the end of a block, and the search for the first
---   continue-words   the keyword continue, and the search for it
---   init-lines       an initialiser, and a line that may stand behind it
---   init-places      the same of a word, and the search for the initialiser
---   for-words        the tests of a for header
+--   end_words        the end of a block, and the search for the first
+--   continue_words   the keyword continue, and the search for it
+--   init_lines       an initialiser, and a line that may stand behind it
+--   init_places      the same of a word, and the search for the initialiser
+--   for_words        the tests of a for header
 -- Assumes nothing.
 use mathlib.Core.Path.{◌≡◌, refl, sym, ap, ◌∙◌}
 use mathlib.Core.Bool.{Bool, true, false, ◌&&◌, ◌||◌, cond}

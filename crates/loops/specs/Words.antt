@@ -5,7 +5,7 @@
 --   Ready i ws                 all words are plain, and from place i on kept
 --   ends_word C ind w          `ends` of a kept line
 --   continue_word C w          it has the keyword continue
---   closed_words, steps_words, counts_words, for-words    the tests of `for_tests`
+--   closed_words, steps_words, counts_words, for_words    the tests of `for_tests`
 --   is_init a, is_passing a    the answer a says that a line is an initialiser; that it may stand behind one
 --   init_words C p ws ind n k  `init_from` of the lines before place k
 --   counted_words C ws w e p   the same, where the header at w counts p

@@ -1,7 +1,7 @@
 -- Initialisers, as rules for `search`.
---   init-lines        a line as it is
---   cut-lines         a line that was cut at its first goto, by its tests
---   init-pieces       a piece, by its form
+--   init_lines        a line as it is
+--   cut_lines         a line that was cut at its first goto, by its tests
+--   init_pieces       a piece, by its form
 -- Assumes nothing.
 use mathlib.Core.Path.{◌≡◌, refl, sym, ap, ◌∙◌}
 use mathlib.Core.Bool.{Bool, true, false, ◌&&◌, ◌||◌, not, cond, and-false, and_assoc, or-false, or_assoc}

@@ -4,7 +4,7 @@
 --   filter_any                        what empty tokens do not pass, a condition passes as its run does
 --   empty_names                       an empty token names nothing
 --   cut_names_at                      what is looked up of a part, said of the token that has that text
---   cut-places                        where a token is cut
+--   cut_places                        where a token is cut
 --   run_found, run_next, run_over     the loop of `names_from`
 --   names_of                          the families that a condition names
 -- Assumes nothing.

@@ -1,7 +1,7 @@
 -- `families::add` meets its contract. By its store, and what `link` does.
 -- Assumes nothing.
 use lib.ListN.{length-set}
-use Rattle.families.proofs.Numbered.{place-rules}
+use Rattle.families.proofs.Numbered.{place_rules}
 use borrow.Author.Rules.{rules}
 use Rattle.families.proofs.add.Statement.{statement}
 use Rattle.families.proofs.add.Tie as tie
@@ -28,7 +28,7 @@ same_length : tie.Need-same-length
 same_length c = simp length-set at c.before.before.link.auto.0
 
 returns : tie.Need-returns
-returns c = search (place-rules, rules)
+returns c = search (place_rules, rules)
 
 pub add_spec : {M : Type 1} → statement M
 add_spec =

@@ -1,6 +1,6 @@
 -- `families::add_line` meets its contract.
 -- Assumes nothing.
-use Rattle.families.proofs.Numbered.{place-rules}
+use Rattle.families.proofs.Numbered.{place_rules}
 use borrow.Author.Rules.{rules}
 use Rattle.families.proofs.add_line.Statement.{statement}
 use Rattle.families.proofs.add_line.Tie as tie
@@ -27,7 +27,7 @@ same_length : tie.Need-same-length
 same_length c = search rules
 
 returns : tie.Need-returns
-returns c = search (place-rules, rules)
+returns c = search (place_rules, rules)
 
 pub add-line-spec : {M : Type 1} → statement M
 add-line-spec =

@@ -3,7 +3,7 @@
 use mathlib.Core.Path.{sym}
 use native.Mathlib.Omega.{arith}
 use lib.Seq.{length-take-le}
-use Rattle.families.proofs.Numbered.{place-rules}
+use Rattle.families.proofs.Numbered.{place_rules}
 use borrow.Author.Rules.{rules}
 use Rattle.families.proofs.empty.Statement.{statement}
 use Rattle.families.proofs.empty.Tie as tie
@@ -24,7 +24,7 @@ same_length : tie.Need-same-length
 same_length c = search rules
 
 returns : tie.Need-returns
-returns c = search (place-rules, rules)
+returns c = search (place_rules, rules)
 
 pub empty-spec : {M : Type 1} → statement M
 empty-spec =

@@ -7,7 +7,7 @@ use lib.ListN.{length, length-append, length-drop, length-set}
 use lib.Seq.{length-take-le}
 use Rattle.definitions.specs.Columns.{listing}
 use Rattle.families.specs.Families.{Numbered}
-use Rattle.families.proofs.Numbered.{place-rules}
+use Rattle.families.proofs.Numbered.{place_rules}
 use borrow.Author.Rules.{rules}
 use Rattle.families.proofs.families.Statement.{statement}
 use Rattle.families.proofs.families.Tie as tie
@@ -25,25 +25,25 @@ slice-aggregate-zero : tie.Need-slice-aggregate-zero invariant-loop decreases-lo
 slice-aggregate-zero c = sym (length-take-le 256 c.before.before.before.before.before.before.args.table.now (omega arith))
 
 zero-requires : tie.Need-zero-requires invariant-loop decreases-loop
-zero-requires c κs = search (place-rules, rules)
+zero-requires c κs = search (place_rules, rules)
 
 slice-write-table : tie.Need-slice-write-table invariant-loop decreases-loop
-slice-write-table c = search (place-rules, rules)
+slice-write-table c = search (place_rules, rules)
 
 slice-write-defs : tie.Need-slice-write-defs invariant-loop decreases-loop
-slice-write-defs c = search (place-rules, rules)
+slice-write-defs c = search (place_rules, rules)
 
 loop-holds : tie.Need-loop-init invariant-loop decreases-loop
-loop-holds c = search (place-rules, rules)
+loop-holds c = search (place_rules, rules)
 
 number-line-requires : tie.Need-number-line-requires invariant-loop decreases-loop
-number-line-requires c κs = search (place-rules, rules)
+number-line-requires c κs = search (place_rules, rules)
 
 add-i : tie.Need-overflow-add-i invariant-loop decreases-loop
-add-i c = search (place-rules, rules)
+add-i c = search (place_rules, rules)
 
 loop-less : tie.Need-loop-smaller invariant-loop decreases-loop
-loop-less c = search (place-rules, rules)
+loop-less c = search (place_rules, rules)
 
 loop-again : tie.Need-loop-preserved invariant-loop decreases-loop
 loop-again c = (c.before.before.before.before.number-line.auto.1.1.1.0 ∙ c.before.before.before.before.before.before.before.before.loop.invariant.0, c.before.before.before.before.number-line.auto.1.1.1.1.0 ∙ c.before.before.before.before.before.before.before.before.loop.invariant.1, c.before.before.before.before.number-line.ensures)
@@ -55,7 +55,7 @@ same-length-2 : tie.Need-same-length-2 invariant-loop decreases-loop
 same-length-2 c = simp length-set at c.before.loop.invariant.1
 
 returns : tie.Need-returns invariant-loop decreases-loop
-returns c = search (place-rules, rules)
+returns c = search (place_rules, rules)
 
 pub families-spec : {M : Type 1} → statement M
 families-spec =

@@ -1,6 +1,6 @@
 -- `families::hash_of` meets its contract. By the kind of the answer.
 -- Assumes nothing.
-use Rattle.families.proofs.Hashes.{hash-rules}
+use Rattle.families.proofs.Hashes.{hash_rules}
 use borrow.Author.Rules.{rules}
 use Rattle.families.proofs.hash_of.Statement.{statement}
 use Rattle.families.proofs.hash_of.Tie as tie
@@ -33,16 +33,16 @@ enum-told-2 : tie.Need-enum-told-2
 enum-told-2 c = search rules
 
 returns : tie.Need-returns
-returns c = search (hash-rules, rules)
+returns c = search (hash_rules, rules)
 
 returns-2 : tie.Need-returns-2
-returns-2 c = search (hash-rules, rules)
+returns-2 c = search (hash_rules, rules)
 
 returns-3 : tie.Need-returns-3
-returns-3 c = search (hash-rules, rules)
+returns-3 c = search (hash_rules, rules)
 
 returns-4 : tie.Need-returns-4
-returns-4 c = search (hash-rules, rules)
+returns-4 c = search (hash_rules, rules)
 
 returns-5 : tie.Need-returns-5
 returns-5 c = search rules

@@ -1,6 +1,6 @@
 -- `families::keep_row` meets its contract.
 -- Assumes nothing.
-use Rattle.families.proofs.Numbered.{place-rules}
+use Rattle.families.proofs.Numbered.{place_rules}
 use borrow.Author.Rules.{rules}
 use Rattle.families.proofs.keep_row.Statement.{statement}
 use Rattle.families.proofs.keep_row.Tie as tie
@@ -21,10 +21,10 @@ same_length : tie.Need-same-length
 same_length c = search rules
 
 returns : tie.Need-returns
-returns c = search (place-rules, rules)
+returns c = search (place_rules, rules)
 
 returns-2 : tie.Need-returns-2
-returns-2 c = search (place-rules, rules)
+returns-2 c = search (place_rules, rules)
 
 pub keep-row-spec : {M : Type 1} → statement M
 keep-row-spec =

@@ -2,7 +2,7 @@
 -- Assumes nothing.
 use native.Mathlib.Omega.{arith}
 use lib.ListN.{length-set}
-use Rattle.families.proofs.Numbered.{place-rules}
+use Rattle.families.proofs.Numbered.{place_rules}
 use borrow.Author.Rules.{rules}
 use Rattle.families.proofs.link.Statement.{statement}
 use Rattle.families.proofs.link.Tie as tie
@@ -41,7 +41,7 @@ same_length : tie.Need-same-length
 same_length c = search rules
 
 returns : tie.Need-returns
-returns c = search (place-rules, rules)
+returns c = search (place_rules, rules)
 
 pub link-spec : {M : Type 1} → statement M
 link-spec =

@@ -1,6 +1,6 @@
 -- `families::place_line` meets its contract. A line that defines nothing, and one that defines a family, known or new.
 -- Assumes nothing.
-use Rattle.families.proofs.Numbered.{place-rules}
+use Rattle.families.proofs.Numbered.{place_rules}
 use borrow.Author.Rules.{rules}
 use Rattle.families.proofs.place_line.Statement.{statement}
 use Rattle.families.proofs.place_line.Tie as tie
@@ -15,19 +15,19 @@ enum_told : tie.Need-enum-told
 enum_told c = search rules
 
 returns : tie.Need-returns
-returns c = search (place-rules, rules)
+returns c = search (place_rules, rules)
 
 place-register-requires : tie.Need-place-register-requires
-place-register-requires c κs = search (place-rules, rules)
+place-register-requires c κs = search (place_rules, rules)
 
 shorten-requires : tie.Need-shorten-requires
-shorten-requires c κs = search (place-rules, rules)
+shorten-requires c κs = search (place_rules, rules)
 
 same_length : tie.Need-same-length
 same_length c = search rules
 
 returns-2 : tie.Need-returns-2
-returns-2 c = search (place-rules, rules)
+returns-2 c = search (place_rules, rules)
 
 same-length-2 : tie.Need-same-length-2
 same-length-2 c = search rules

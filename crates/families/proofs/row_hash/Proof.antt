@@ -1,6 +1,6 @@
 -- `families::row_hash` meets its contract. By the three bytes of the name.
 -- Assumes nothing.
-use Rattle.families.proofs.Hashes.{hash-rules}
+use Rattle.families.proofs.Hashes.{hash_rules}
 use borrow.Author.Rules.{rules}
 use Rattle.families.proofs.row_hash.Statement.{statement}
 use Rattle.families.proofs.row_hash.Tie as tie
@@ -15,7 +15,7 @@ short-hash-requires : tie.Need-short-hash-requires
 short-hash-requires c κs = search rules
 
 returns : tie.Need-returns
-returns c = search (hash-rules, rules)
+returns c = search (hash_rules, rules)
 
 pub row-hash-spec : {M : Type 1} → statement M
 row-hash-spec =

@@ -1,25 +1,25 @@
 -- `family::coded` meets its contract.
 -- Assumes nothing.
-use Rattle.family.proofs.Digits.{digit-rules}
-use Rattle.family.proofs.Places.{place-rules}
+use Rattle.family.proofs.Digits.{digit_rules}
+use Rattle.family.proofs.Places.{place_rules}
 use borrow.Author.Rules.{rules}
 use Rattle.family.proofs.coded.Statement.{statement}
 use Rattle.family.proofs.coded.Tie as tie
 
 number-end-requires : tie.Need-number-end-requires
-number-end-requires c κs = search (digit-rules, place-rules, rules)
+number-end-requires c κs = search (digit_rules, place_rules, rules)
 
 numbered-requires : tie.Need-numbered-requires
-numbered-requires c κs = search (digit-rules, place-rules, rules)
+numbered-requires c κs = search (digit_rules, place_rules, rules)
 
 returns : tie.Need-returns
-returns c = search (digit-rules, place-rules, rules)
+returns c = search (digit_rules, place_rules, rules)
 
 named-requires : tie.Need-named-requires
-named-requires c κs = search (digit-rules, place-rules, rules)
+named-requires c κs = search (digit_rules, place_rules, rules)
 
 returns-2 : tie.Need-returns-2
-returns-2 c = search (digit-rules, place-rules, rules)
+returns-2 c = search (digit_rules, place_rules, rules)
 
 pub coded-spec : {M : Type 1} → statement M
 coded-spec =

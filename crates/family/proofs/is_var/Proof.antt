@@ -1,6 +1,6 @@
 -- `family::is_var` meets its contract.
 -- Assumes nothing.
-use Rattle.family.proofs.FamilyNames.{name-rules}
+use Rattle.family.proofs.FamilyNames.{name_rules}
 use borrow.Author.Rules.{rules}
 use Rattle.family.proofs.is_var.Statement.{statement}
 use Rattle.family.proofs.is_var.Tie as tie
@@ -18,10 +18,10 @@ starts-with-requires : tie.Need-starts-with-requires
 starts-with-requires c κs = search rules
 
 returns : tie.Need-returns
-returns c = search (name-rules, rules)
+returns c = search (name_rules, rules)
 
 returns-2 : tie.Need-returns-2
-returns-2 c = search (name-rules, rules)
+returns-2 c = search (name_rules, rules)
 
 pub is-var-spec : {M : Type 1} → statement M
 is-var-spec =

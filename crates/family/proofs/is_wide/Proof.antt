@@ -1,6 +1,6 @@
 -- `family::is_wide` meets its contract.
 -- Assumes nothing.
-use Rattle.family.proofs.FamilyNames.{name-rules}
+use Rattle.family.proofs.FamilyNames.{name_rules}
 use borrow.Author.Rules.{rules}
 use Rattle.family.proofs.is_wide.Statement.{statement}
 use Rattle.family.proofs.is_wide.Tie as tie
@@ -18,13 +18,13 @@ enum-told-2 : tie.Need-enum-told-2
 enum-told-2 c = search rules
 
 returns : tie.Need-returns
-returns c = search (name-rules, rules)
+returns c = search (name_rules, rules)
 
 returns-2 : tie.Need-returns-2
-returns-2 c = search (name-rules, rules)
+returns-2 c = search (name_rules, rules)
 
 returns-3 : tie.Need-returns-3
-returns-3 c = search (name-rules, rules)
+returns-3 c = search (name_rules, rules)
 
 returns-4 : tie.Need-returns-4
 returns-4 c = search rules

@@ -1,6 +1,6 @@
 -- `family::numbered` meets its contract.
 -- Assumes nothing.
-use Rattle.family.proofs.Digits.{digit-rules}
+use Rattle.family.proofs.Digits.{digit_rules}
 use Rattle.family.specs.Register.{decoded}
 use Rattle.family.proofs.Codes.{numbered_coded}
 use borrow.Author.Rules.{rules}
@@ -15,7 +15,7 @@ suffix-width-requires c κs = search rules
 
 returns : tie.Need-returns
 unfolding decoded
-returns c = search (digit-rules, rules)
+returns c = search (digit_rules, rules)
 
 mul-result : tie.Need-overflow-mul-result
 mul-result c = search rules

@@ -1,6 +1,6 @@
 -- `family::own_name` meets its contract.
 -- Assumes nothing.
-use Rattle.family.proofs.FamilyNames.{name-rules}
+use Rattle.family.proofs.FamilyNames.{name_rules}
 use borrow.Author.Rules.{rules}
 use Rattle.family.proofs.own_name.Statement.{statement}
 use Rattle.family.proofs.own_name.Tie as tie
@@ -30,7 +30,7 @@ returns : tie.Need-returns
 returns c = search rules
 
 returns-2 : tie.Need-returns-2
-returns-2 c = search (name-rules, rules)
+returns-2 c = search (name_rules, rules)
 
 returns-3 : tie.Need-returns-3
 returns-3 c = search rules

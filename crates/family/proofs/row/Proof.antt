@@ -1,6 +1,6 @@
 -- `family::row` meets its contract.
 -- Assumes nothing.
-use Rattle.family.proofs.FamilyNames.{name-rules}
+use Rattle.family.proofs.FamilyNames.{name_rules}
 use borrow.Author.Rules.{rules}
 use Rattle.family.proofs.row.Statement.{statement}
 use Rattle.family.proofs.row.Tie as tie
@@ -18,10 +18,10 @@ enum-told-3 : tie.Need-enum-told-3
 enum-told-3 c = search rules
 
 returns : tie.Need-returns
-returns c = search (name-rules, rules)
+returns c = search (name_rules, rules)
 
 returns-2 : tie.Need-returns-2
-returns-2 c = search (name-rules, rules)
+returns-2 c = search (name_rules, rules)
 
 returns-3 : tie.Need-returns-3
 returns-3 c = search rules

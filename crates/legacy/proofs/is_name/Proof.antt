@@ -1,7 +1,7 @@
 -- `legacy::is_name` meets its contract.
 -- Assumes nothing.
 use Rattle.text.proofs.Bools.{bools}
-use Rattle.legacy.proofs.Table.{table-rules}
+use Rattle.legacy.proofs.Table.{table_rules}
 use borrow.Author.Rules.{rules}
 use Rattle.legacy.proofs.is_name.Statement.{statement}
 use Rattle.legacy.proofs.is_name.Tie as tie
@@ -31,10 +31,10 @@ is-three-requires : tie.Need-is-three-requires
 is-three-requires c κs = search rules
 
 returns : tie.Need-returns
-returns c = search (table-rules, bools, rules)
+returns c = search (table_rules, bools, rules)
 
 returns-2 : tie.Need-returns-2
-returns-2 c = search (table-rules, bools, rules)
+returns-2 c = search (table_rules, bools, rules)
 
 pub is-name-spec : {M : Type 1} → statement M
 is-name-spec =

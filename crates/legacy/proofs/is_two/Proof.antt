@@ -1,25 +1,25 @@
 -- `legacy::is_two` meets its contract.
 -- Assumes nothing.
 use Rattle.text.proofs.Bools.{bools}
-use Rattle.legacy.proofs.Table.{table-rules}
+use Rattle.legacy.proofs.Table.{table_rules}
 use borrow.Author.Rules.{rules}
 use Rattle.legacy.proofs.is_two.Statement.{statement}
 use Rattle.legacy.proofs.is_two.Tie as tie
 
 returns : tie.Need-returns
-returns c = search (table-rules, bools, rules)
+returns c = search (table_rules, bools, rules)
 
 shared-slice-read-if2 : tie.Need-shared-slice-read-if2
 shared-slice-read-if2 c = search rules
 
 returns-2 : tie.Need-returns-2
-returns-2 c = search (table-rules, bools, rules)
+returns-2 c = search (table_rules, bools, rules)
 
 shared-slice-read-result : tie.Need-shared-slice-read-result
 shared-slice-read-result c = search rules
 
 returns-3 : tie.Need-returns-3
-returns-3 c = search (table-rules, bools, rules)
+returns-3 c = search (table_rules, bools, rules)
 
 pub is-two-spec : {M : Type 1} → statement M
 is-two-spec =

@@ -1,6 +1,6 @@
 -- `chains::tokens::chain_token` meets its contract. A token that is in no chain, and one that becomes the first of its chain.
 -- Assumes nothing.
-use Rattle.chains.proofs.TokenRules.{token-rules}
+use Rattle.chains.proofs.TokenRules.{token_rules}
 use borrow.Author.Rules.{rules}
 use Rattle.chains.proofs.tokens.chain_token.Statement.{statement}
 use Rattle.chains.proofs.tokens.chain_token.Tie as tie
@@ -24,13 +24,13 @@ same-length-2 : tie.Need-same-length-2
 same-length-2 c = search rules
 
 returns : tie.Need-returns
-returns c = (search (token-rules, rules), search rules)
+returns c = (search (token_rules, rules), search rules)
 
 sub-link : tie.Need-overflow-sub-link
 sub-link c = search rules
 
 link-requires : tie.Need-link-requires
-link-requires c κs = (search rules, search rules, search rules, search rules, search (token-rules, rules))
+link-requires c κs = (search rules, search rules, search rules, search rules, search (token_rules, rules))
 
 same-length-3 : tie.Need-same-length-3
 same-length-3 c = search rules
@@ -42,7 +42,7 @@ same-length-5 : tie.Need-same-length-5
 same-length-5 c = search rules
 
 returns-2 : tie.Need-returns-2
-returns-2 c = (search (token-rules, rules), search rules)
+returns-2 c = (search (token_rules, rules), search rules)
 
 pub chain-token-spec : {M : Type 1} → statement M
 chain-token-spec =

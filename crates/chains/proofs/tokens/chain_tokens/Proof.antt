@@ -2,7 +2,7 @@
 -- Assumes nothing.
 use Rattle.memo.proofs.Memos.{memo_empty}
 use Rattle.words.proofs.Zeros.{zeros}
-use Rattle.chains.proofs.TokenRules.{token-rules}
+use Rattle.chains.proofs.TokenRules.{token_rules}
 use borrow.Author.Rules.{rules}
 use Rattle.chains.proofs.tokens.chain_tokens.Statement.{statement}
 use Rattle.chains.proofs.tokens.chain_tokens.Tie as tie
@@ -14,7 +14,7 @@ slice-aggregate-chain-lines : tie.Need-slice-aggregate-chain-lines
 slice-aggregate-chain-lines c = search rules
 
 chain-lines-requires : tie.Need-chain-lines-requires
-chain-lines-requires c κs = ((search rules, search rules, search (token-rules, rules)), (memo_empty _ _ (zeros 128), search rules))
+chain-lines-requires c κs = ((search rules, search rules, search (token_rules, rules)), (memo_empty _ _ (zeros 128), search rules))
 
 same_length : tie.Need-same-length
 same_length c = search rules

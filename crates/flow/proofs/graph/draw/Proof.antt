@@ -11,7 +11,7 @@ use Rattle.definitions.specs.Columns.{listing}
 use Rattle.model.proofs.Decode.{length_listing}
 use Rattle.line_steps.specs.Drawing.{Drawing, rest, line_edges}
 use Rattle.blocks.specs.Structure.{blocks_of}
-use Rattle.flow.proofs.Graphs.{rest_next, rest_end, rest_all, lines_from, lines-leading}
+use Rattle.flow.proofs.Graphs.{rest_next, rest_end, rest_all, lines_from, lines_leading}
 use Rattle.line_steps.proofs.Drawings.{matrices_kept, drawn_as, drawing_start, drawing_next, drawing_end}
 use Rattle.flow.proofs.graph.draw.Statement.{statement}
 use Rattle.flow.proofs.graph.draw.Tie as tie
@@ -26,7 +26,7 @@ loop-holds : tie.Need-loop-init invariant-loop decreases-loop
 loop-holds c =
     let a = c.before.before.before.before.before.before.before.before.before.args in
     let L = listing a.lines.now a.tokens.now a.text.now in
-    (search rules, refl, search (lines-leading, rules), drawing_start (length a.lines.now) a.r a.space.now (rest L (blocks_of L) 0))
+    (search rules, refl, search (lines_leading, rules), drawing_start (length a.lines.now) a.r a.space.now (rest L (blocks_of L) 0))
 
 line-steps-requires : tie.Need-line-steps-requires invariant-loop decreases-loop
 line-steps-requires c κs =
@@ -47,7 +47,7 @@ loop-again c =
     let E = c.before.before.before.line-steps.ensures.1 c.if1.true in (
       search rules,
       c.before.before.before.line-steps.auto.1.1.1.1.1.1.1.1.0 ∙ l.invariant.1,
-      search (lines-leading, rules),
+      search (lines_leading, rules),
       drawing_next (length a.lines.now) a.r a.space.now (rest L (blocks_of L) 0) l.space (rest L (blocks_of L) l.i) l.invariant.3 _ (line_edges L (blocks_of L) l.i) (rest L (blocks_of L) (l.i + 1)) E
           (λ p q hp hq. rest_next L (blocks_of L) l.i p q),
     )
@@ -56,7 +56,7 @@ same_length : tie.Need-same-length invariant-loop decreases-loop
 same_length c = search rules
 
 returns : tie.Need-returns invariant-loop decreases-loop
-returns c = (search (lines-leading, rules), λ z. absurd (false≢true z))
+returns c = (search (lines_leading, rules), λ z. absurd (false≢true z))
 
 same-length-2 : tie.Need-same-length-2 invariant-loop decreases-loop
 same-length-2 c = search rules
@@ -67,7 +67,7 @@ returns-2 c =
     let l = c.before.loop in
     let L = listing a.lines.now a.tokens.now a.text.now in
     let n = length_listing a.lines.now a.tokens.now a.text.now in (
-      search (lines-leading, rules),
+      search (lines_leading, rules),
       λ z. drawn_as (length a.lines.now) a.r a.space.now l.space (rest L (blocks_of L) 0) (λ i j. member j (successors L (blocks_of L) i))
           (drawing_end (length a.lines.now) a.r a.space.now (rest L (blocks_of L) 0) l.space (rest L (blocks_of L) l.i) l.invariant.3 (λ p q hp hq. rest_end L (blocks_of L) (length a.lines.now) l.i p q (omega (arith, c.loop-test.false)) hp hq))
           (λ p q hp hq. rest_all L (blocks_of L) p q (omega arith)),

@@ -8,7 +8,7 @@ use Rattle.definitions.specs.Model.{line}
 use Rattle.definitions.specs.Columns.{listing}
 use Rattle.family.specs.Register.{family_of, names_family}
 use Rattle.negate.specs.Tests.{test_from, test_tokens}
-use Rattle.goto_for.proofs.WordRules.{test-names}
+use Rattle.goto_for.proofs.WordRules.{test_names}
 use Rattle.goto_for.proofs.conditions.test_names.Statement.{statement}
 use Rattle.goto_for.proofs.conditions.test_names.Tie as tie
 
@@ -19,25 +19,25 @@ abbrev decreases-loop : tie.decreases-loop
 decreases-loop lines tokens text i m s r k₀ k = m - k
 
 loop-holds : tie.Need-loop-init invariant-loop decreases-loop
-loop-holds c = search (test-names, rules)
+loop-holds c = search (test_names, rules)
 
 test-token-names-requires : tie.Need-test-token-names-requires invariant-loop decreases-loop
-test-token-names-requires c κs = search (test-names, rules)
+test-token-names-requires c κs = search (test_names, rules)
 
 returns : tie.Need-returns invariant-loop decreases-loop
-returns c = search (test-names, rules)
+returns c = search (test_names, rules)
 
 add-k : tie.Need-overflow-add-k invariant-loop decreases-loop
-add-k c = search (test-names, rules)
+add-k c = search (test_names, rules)
 
 loop-less : tie.Need-loop-smaller invariant-loop decreases-loop
-loop-less c = search (test-names, rules)
+loop-less c = search (test_names, rules)
 
 loop-again : tie.Need-loop-preserved invariant-loop decreases-loop
-loop-again c = search (test-names, rules)
+loop-again c = search (test_names, rules)
 
 returns-2 : tie.Need-returns-2 invariant-loop decreases-loop
-returns-2 c = search (test-names, rules)
+returns-2 c = search (test_names, rules)
 
 pub test-names-spec : {M : Type 1} → statement M
 test-names-spec =

@@ -1,6 +1,6 @@
 -- `json_append::values::put_kind` meets its contract.
 -- Assumes nothing.
-use Rattle.json_append.proofs.ValueRules.{kind-rules}
+use Rattle.json_append.proofs.ValueRules.{kind_rules}
 use borrow.Author.Rules.{rules}
 use Rattle.json_definitions.specs.Writer.{kind_text}
 use Rattle.json_append.proofs.values.put_kind.Statement.{statement}
@@ -65,63 +65,63 @@ same_length c = search rules
 
 returns : tie.Need-returns
 unfolding kind_text
-returns c = search (kind-rules, rules) depth 10
+returns c = search (kind_rules, rules) depth 10
 
 same-length-2 : tie.Need-same-length-2
 same-length-2 c = search rules
 
 returns-2 : tie.Need-returns-2
 unfolding kind_text
-returns-2 c = search (kind-rules, rules) depth 10
+returns-2 c = search (kind_rules, rules) depth 10
 
 same-length-3 : tie.Need-same-length-3
 same-length-3 c = search rules
 
 returns-3 : tie.Need-returns-3
 unfolding kind_text
-returns-3 c = search (kind-rules, rules) depth 10
+returns-3 c = search (kind_rules, rules) depth 10
 
 same-length-4 : tie.Need-same-length-4
 same-length-4 c = search rules
 
 returns-4 : tie.Need-returns-4
 unfolding kind_text
-returns-4 c = search (kind-rules, rules) depth 10
+returns-4 c = search (kind_rules, rules) depth 10
 
 same-length-5 : tie.Need-same-length-5
 same-length-5 c = search rules
 
 returns-5 : tie.Need-returns-5
 unfolding kind_text
-returns-5 c = search (kind-rules, rules) depth 10
+returns-5 c = search (kind_rules, rules) depth 10
 
 same-length-6 : tie.Need-same-length-6
 same-length-6 c = search rules
 
 returns-6 : tie.Need-returns-6
 unfolding kind_text
-returns-6 c = search (kind-rules, rules) depth 10
+returns-6 c = search (kind_rules, rules) depth 10
 
 same-length-7 : tie.Need-same-length-7
 same-length-7 c = search rules
 
 returns-7 : tie.Need-returns-7
 unfolding kind_text
-returns-7 c = search (kind-rules, rules) depth 10
+returns-7 c = search (kind_rules, rules) depth 10
 
 same-length-8 : tie.Need-same-length-8
 same-length-8 c = search rules
 
 returns-8 : tie.Need-returns-8
 unfolding kind_text
-returns-8 c = search (kind-rules, rules) depth 10
+returns-8 c = search (kind_rules, rules) depth 10
 
 same-length-9 : tie.Need-same-length-9
 same-length-9 c = search rules
 
 returns-9 : tie.Need-returns-9
 unfolding kind_text
-returns-9 c = search (kind-rules, rules) depth 10
+returns-9 c = search (kind_rules, rules) depth 10
 
 pub put-kind-spec : {M : Type 1} → statement M
 put-kind-spec =

@@ -1,27 +1,27 @@
 -- `loops::for_loops::ends` meets its contract. By its two tests.
 -- Assumes nothing.
-use Rattle.loops.proofs.WordRules.{end-words}
+use Rattle.loops.proofs.WordRules.{end_words}
 use borrow.Author.Rules.{rules}
 use Rattle.loops.proofs.for_loops.ends.Statement.{statement}
 use Rattle.loops.proofs.for_loops.ends.Tie as tie
 
 indent-requires : tie.Need-indent-requires
-indent-requires c κs = search (end-words, rules)
+indent-requires c κs = search (end_words, rules)
 
 source-requires : tie.Need-source-requires
-source-requires c κs = search (end-words, rules)
+source-requires c κs = search (end_words, rules)
 
 is-label-requires : tie.Need-is-label-requires
-is-label-requires c κs = search (end-words, rules)
+is-label-requires c κs = search (end_words, rules)
 
 returns : tie.Need-returns
-returns c = search (end-words, rules)
+returns c = search (end_words, rules)
 
 returns-2 : tie.Need-returns-2
-returns-2 c = search (end-words, rules)
+returns-2 c = search (end_words, rules)
 
 returns-3 : tie.Need-returns-3
-returns-3 c = search (end-words, rules)
+returns-3 c = search (end_words, rules)
 
 pub ends-spec : {M : Type 1} → statement M
 ends-spec =

@@ -6,7 +6,7 @@ use lib.ListN.{take}
 use Rattle.definitions.specs.Lists.{position_from}
 use Rattle.definitions.specs.Columns.{listing}
 use Rattle.loops.specs.Words.{ends_word}
-use Rattle.loops.proofs.WordRules.{end-words}
+use Rattle.loops.proofs.WordRules.{end_words}
 use borrow.Author.Rules.{rules}
 use Rattle.loops.proofs.for_loops.first_end.Statement.{statement}
 use Rattle.loops.proofs.for_loops.first_end.Tie as tie
@@ -18,31 +18,31 @@ abbrev decreases-loop : tie.decreases-loop
 decreases-loop lines tokens text plan n from ind j₀ j = n - j
 
 loop-holds : tie.Need-loop-init invariant-loop decreases-loop
-loop-holds c = search (end-words, rules)
+loop-holds c = search (end_words, rules)
 
 mul-w : tie.Need-overflow-mul-w invariant-loop decreases-loop
-mul-w c = search (end-words, rules)
+mul-w c = search (end_words, rules)
 
 shared-slice-read-w : tie.Need-shared-slice-read-w invariant-loop decreases-loop
-shared-slice-read-w c = search (end-words, rules)
+shared-slice-read-w c = search (end_words, rules)
 
 ends-requires : tie.Need-ends-requires invariant-loop decreases-loop
-ends-requires c κs = search (end-words, rules)
+ends-requires c κs = search (end_words, rules)
 
 returns : tie.Need-returns invariant-loop decreases-loop
-returns c = search (end-words, rules)
+returns c = search (end_words, rules)
 
 add-j : tie.Need-overflow-add-j invariant-loop decreases-loop
-add-j c = search (end-words, rules)
+add-j c = search (end_words, rules)
 
 loop-less : tie.Need-loop-smaller invariant-loop decreases-loop
-loop-less c = search (end-words, rules)
+loop-less c = search (end_words, rules)
 
 loop-again : tie.Need-loop-preserved invariant-loop decreases-loop
-loop-again c = search (end-words, rules)
+loop-again c = search (end_words, rules)
 
 returns-2 : tie.Need-returns-2 invariant-loop decreases-loop
-returns-2 c = search (end-words, rules)
+returns-2 c = search (end_words, rules)
 
 pub first-end-spec : {M : Type 1} → statement M
 first-end-spec =

@@ -5,7 +5,7 @@ use Prim.Native.Nat.{◌≤◌}
 use Rattle.definitions.specs.Columns.{listing}
 use Rattle.family.specs.Register.{family_of, names_family}
 use Rattle.loops.specs.Words.{init_words}
-use Rattle.loops.proofs.WordRules.{init-places}
+use Rattle.loops.proofs.WordRules.{init_places}
 use borrow.Author.Rules.{rules}
 use Rattle.loops.proofs.for_loops.initialiser.Statement.{statement}
 use Rattle.loops.proofs.for_loops.initialiser.Tie as tie
@@ -17,55 +17,55 @@ abbrev decreases-loop : tie.decreases-loop
 decreases-loop lines tokens text plan w ind s r k₀ left₀ k left = left
 
 loop-holds : tie.Need-loop-init invariant-loop decreases-loop
-loop-holds c = search (init-places, rules)
+loop-holds c = search (init_places, rules)
 
 returns : tie.Need-returns invariant-loop decreases-loop
-returns c = search (init-places, rules)
+returns c = search (init_places, rules)
 
 sub-v : tie.Need-overflow-sub-v invariant-loop decreases-loop
-sub-v c = search (init-places, rules)
+sub-v c = search (init_places, rules)
 
 mul-v : tie.Need-overflow-mul-v invariant-loop decreases-loop
-mul-v c = search (init-places, rules)
+mul-v c = search (init_places, rules)
 
 shared-slice-read-v : tie.Need-shared-slice-read-v invariant-loop decreases-loop
-shared-slice-read-v c = search (init-places, rules)
+shared-slice-read-v c = search (init_places, rules)
 
 before-at-requires : tie.Need-before-at-requires invariant-loop decreases-loop
-before-at-requires c κs = search (init-places, rules)
+before-at-requires c κs = search (init_places, rules)
 
 enum_told : tie.Need-enum-told invariant-loop decreases-loop
-enum_told c = search (init-places, rules)
+enum_told c = search (init_places, rules)
 
 sub-t18 : tie.Need-overflow-sub-t18 invariant-loop decreases-loop
-sub-t18 c = search (init-places, rules)
+sub-t18 c = search (init_places, rules)
 
 returns-2 : tie.Need-returns-2 invariant-loop decreases-loop
-returns-2 c = search (init-places, rules)
+returns-2 c = search (init_places, rules)
 
 enum-told-2 : tie.Need-enum-told-2 invariant-loop decreases-loop
-enum-told-2 c = search (init-places, rules)
+enum-told-2 c = search (init_places, rules)
 
 sub-k : tie.Need-overflow-sub-k invariant-loop decreases-loop
-sub-k c = search (init-places, rules)
+sub-k c = search (init_places, rules)
 
 sub-left : tie.Need-overflow-sub-left invariant-loop decreases-loop
-sub-left c = search (init-places, rules)
+sub-left c = search (init_places, rules)
 
 loop-less : tie.Need-loop-smaller invariant-loop decreases-loop
-loop-less c = search (init-places, rules)
+loop-less c = search (init_places, rules)
 
 loop-again : tie.Need-loop-preserved invariant-loop decreases-loop
-loop-again c = search (init-places, rules)
+loop-again c = search (init_places, rules)
 
 enum-told-3 : tie.Need-enum-told-3 invariant-loop decreases-loop
-enum-told-3 c = search (init-places, rules)
+enum-told-3 c = search (init_places, rules)
 
 returns-3 : tie.Need-returns-3 invariant-loop decreases-loop
-returns-3 c = search (init-places, rules)
+returns-3 c = search (init_places, rules)
 
 returns-4 : tie.Need-returns-4 invariant-loop decreases-loop
-returns-4 c = search (init-places, rules)
+returns-4 c = search (init_places, rules)
 
 pub initialiser-spec : {M : Type 1} → statement M
 initialiser-spec =

@@ -1,48 +1,48 @@
 -- `pieces::initial::line_passes` meets its contract. By its tests.
 -- Assumes nothing.
-use Rattle.pieces.proofs.InitialRules.{init-lines}
+use Rattle.pieces.proofs.InitialRules.{init_lines}
 use borrow.Author.Rules.{rules}
 use Rattle.pieces.proofs.initial.line_passes.Statement.{statement}
 use Rattle.pieces.proofs.initial.line_passes.Tie as tie
 
 assignment-requires : tie.Need-assignment-requires
-assignment-requires c κs = search (init-lines, rules)
+assignment-requires c κs = search (init_lines, rules)
 
 enum_told : tie.Need-enum-told
-enum_told c = search (init-lines, rules)
+enum_told c = search (init_lines, rules)
 
 enum-told-2 : tie.Need-enum-told-2
-enum-told-2 c = search (init-lines, rules)
+enum-told-2 c = search (init_lines, rules)
 
 returns : tie.Need-returns
-returns c = search (init-lines, rules)
+returns c = search (init_lines, rules)
 
 token-names-requires : tie.Need-token-names-requires
-token-names-requires c κs = search (init-lines, rules)
+token-names-requires c κs = search (init_lines, rules)
 
 returns-2 : tie.Need-returns-2
-returns-2 c = search (init-lines, rules)
+returns-2 c = search (init_lines, rules)
 
 line-names-requires : tie.Need-line-names-requires
-line-names-requires c κs = search (init-lines, rules)
+line-names-requires c κs = search (init_lines, rules)
 
 returns-3 : tie.Need-returns-3
-returns-3 c = search (init-lines, rules)
+returns-3 c = search (init_lines, rules)
 
 call-at-requires : tie.Need-call-at-requires
-call-at-requires c κs = search (init-lines, rules)
+call-at-requires c κs = search (init_lines, rules)
 
 enum-told-3 : tie.Need-enum-told-3
-enum-told-3 c = search (init-lines, rules)
+enum-told-3 c = search (init_lines, rules)
 
 enum-told-4 : tie.Need-enum-told-4
-enum-told-4 c = search (init-lines, rules)
+enum-told-4 c = search (init_lines, rules)
 
 returns-4 : tie.Need-returns-4
-returns-4 c = search (init-lines, rules)
+returns-4 c = search (init_lines, rules)
 
 returns-5 : tie.Need-returns-5
-returns-5 c = search (init-lines, rules)
+returns-5 c = search (init_lines, rules)
 
 pub line-passes-spec : {M : Type 1} → statement M
 line-passes-spec =

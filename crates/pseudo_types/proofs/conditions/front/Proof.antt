@@ -1,21 +1,21 @@
 -- `pseudo_types::conditions::front` meets its contract. By its tests.
 -- Assumes nothing.
-use Rattle.pseudo_types.proofs.CutRuns.{cut-places}
+use Rattle.pseudo_types.proofs.CutRuns.{cut_places}
 use borrow.Author.Rules.{rules}
 use Rattle.pseudo_types.proofs.conditions.front.Statement.{statement}
 use Rattle.pseudo_types.proofs.conditions.front.Tie as tie
 
 sub-if2 : tie.Need-overflow-sub-if2
-sub-if2 c = search (cut-places, rules)
+sub-if2 c = search (cut_places, rules)
 
 returns : tie.Need-returns
-returns c = search (cut-places, rules)
+returns c = search (cut_places, rules)
 
 returns-2 : tie.Need-returns-2
-returns-2 c = search (cut-places, rules)
+returns-2 c = search (cut_places, rules)
 
 returns-3 : tie.Need-returns-3
-returns-3 c = search (cut-places, rules)
+returns-3 c = search (cut_places, rules)
 
 pub front-spec : {M : Type 1} → statement M
 front-spec = tie.close (tie.spec sub-if2 returns returns-2 returns-3)

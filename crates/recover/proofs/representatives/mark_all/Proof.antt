@@ -4,7 +4,7 @@ use mathlib.Core.Path.{◌≡◌}
 use Prim.Native.Nat.{◌-◌, ◌≤◌}
 use lib.ListN.{length, drop}
 use Rattle.recover.specs.Numbers.{marked}
-use Rattle.recover.proofs.RepresentativeRules.{representative-rules, marks_next}
+use Rattle.recover.proofs.RepresentativeRules.{representative_rules, marks_next}
 use borrow.Author.Rules.{rules}
 use Rattle.recover.proofs.representatives.mark_all.Statement.{statement}
 use Rattle.recover.proofs.representatives.mark_all.Tie as tie
@@ -16,28 +16,28 @@ abbrev decreases-loop : tie.decreases-loop
 decreases-loop rep ds marks₀ k₀ marks k = length ds - k
 
 loop-holds : tie.Need-loop-init invariant-loop decreases-loop
-loop-holds c = search (representative-rules, rules)
+loop-holds c = search (representative_rules, rules)
 
 rep-of-requires : tie.Need-rep-of-requires invariant-loop decreases-loop
-rep-of-requires c κs = search (representative-rules, rules)
+rep-of-requires c κs = search (representative_rules, rules)
 
 mark-requires : tie.Need-mark-requires invariant-loop decreases-loop
-mark-requires c κs = search (representative-rules, rules)
+mark-requires c κs = search (representative_rules, rules)
 
 add-k : tie.Need-overflow-add-k invariant-loop decreases-loop
-add-k c = search (representative-rules, rules)
+add-k c = search (representative_rules, rules)
 
 loop-less : tie.Need-loop-smaller invariant-loop decreases-loop
-loop-less c = search (representative-rules, rules)
+loop-less c = search (representative_rules, rules)
 
 loop-again : tie.Need-loop-preserved invariant-loop decreases-loop
 loop-again c = (search rules, search rules, marks_next _ _ _ _ _ c.before.before.before.before.before.before.loop.invariant.2 _ _ c.before.before.before.before.before.loop-test.true c.before.before.before.rep_of.ensures c.before.before.mark.ensures)
 
 same_length : tie.Need-same-length invariant-loop decreases-loop
-same_length c = search (representative-rules, rules)
+same_length c = search (representative_rules, rules)
 
 returns : tie.Need-returns invariant-loop decreases-loop
-returns c = search (representative-rules, rules)
+returns c = search (representative_rules, rules)
 
 pub mark-all-spec : {M : Type 1} → statement M
 mark-all-spec =

@@ -6,7 +6,7 @@ use borrow.Author.Rules.{rules}
 use lib.ListN.{length, length-set}
 use Rattle.definitions.specs.Columns.{listing}
 use Rattle.splits.specs.Starts.{Starting}
-use Rattle.splits.proofs.StartRules.{start-rules, starting_next}
+use Rattle.splits.proofs.StartRules.{start_rules, starting_next}
 use Rattle.splits.proofs.starts.starts.Statement.{statement}
 use Rattle.splits.proofs.starts.starts.Tie as tie
 
@@ -17,28 +17,28 @@ abbrev decreases-loop : tie.decreases-loop
 decreases-loop lines tokens text far defs₀ reach₀ i₀ defs reach i = length lines - i
 
 loop-holds : tie.Need-loop-init invariant-loop decreases-loop
-loop-holds c = search (start-rules, rules)
+loop-holds c = search (start_rules, rules)
 
 start-of-requires : tie.Need-start-of-requires invariant-loop decreases-loop
-start-of-requires c κs = search (start-rules, rules)
+start-of-requires c κs = search (start_rules, rules)
 
 mul-defs : tie.Need-overflow-mul-defs invariant-loop decreases-loop
-mul-defs c = search (start-rules, rules)
+mul-defs c = search (start_rules, rules)
 
 slice-write-defs : tie.Need-slice-write-defs invariant-loop decreases-loop
-slice-write-defs c = search (start-rules, rules)
+slice-write-defs c = search (start_rules, rules)
 
 number-requires : tie.Need-number-requires invariant-loop decreases-loop
-number-requires c κs = search (start-rules, rules)
+number-requires c κs = search (start_rules, rules)
 
 greater-requires : tie.Need-greater-requires invariant-loop decreases-loop
-greater-requires c κs = search (start-rules, rules)
+greater-requires c κs = search (start_rules, rules)
 
 add-i : tie.Need-overflow-add-i invariant-loop decreases-loop
-add-i c = search (start-rules, rules)
+add-i c = search (start_rules, rules)
 
 loop-less : tie.Need-loop-smaller invariant-loop decreases-loop
-loop-less c = search (start-rules, rules)
+loop-less c = search (start_rules, rules)
 
 loop-again : tie.Need-loop-preserved invariant-loop decreases-loop
 loop-again c = (
@@ -47,10 +47,10 @@ loop-again c = (
 )
 
 same_length : tie.Need-same-length invariant-loop decreases-loop
-same_length c = search (start-rules, rules)
+same_length c = search (start_rules, rules)
 
 returns : tie.Need-returns invariant-loop decreases-loop
-returns c = search (start-rules, rules)
+returns c = search (start_rules, rules)
 
 pub starts-spec : {M : Type 1} → statement M
 starts-spec =

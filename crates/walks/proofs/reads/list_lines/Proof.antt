@@ -10,7 +10,7 @@ use Rattle.definitions.specs.Columns.{listing}
 use Rattle.definitions.specs.Recover.{read_tokens}
 use Rattle.families.specs.Tokens.{family_name}
 use Rattle.walks.proofs.Seen.{passing}
-use Rattle.walks.proofs.Seen.{seen-rules, seen_line, list_next}
+use Rattle.walks.proofs.Seen.{seen_rules, seen_line, list_next}
 use native.Mathlib.Omega.{arith}
 use borrow.Author.Rules.{rules}
 use Rattle.walks.proofs.reads.list_lines.Statement.{statement}
@@ -23,28 +23,28 @@ abbrev decreases-loop : tie.decreases-loop
 decreases-loop lines tokens text k seen reads₀ m₀ i₀ reads m i = length lines - i
 
 loop-holds : tie.Need-loop-init invariant-loop decreases-loop
-loop-holds c = search (seen-rules, rules)
+loop-holds c = search (seen_rules, rules)
 
 is-seen-requires : tie.Need-is-seen-requires invariant-loop decreases-loop
-is-seen-requires c κs = search (seen-rules, rules)
+is-seen-requires c κs = search (seen_rules, rules)
 
 put-requires : tie.Need-put-requires invariant-loop decreases-loop
-put-requires c κs = search (seen-rules, rules)
+put-requires c κs = search (seen_rules, rules)
 
 add-i : tie.Need-overflow-add-i invariant-loop decreases-loop
-add-i c = search (seen-rules, rules)
+add-i c = search (seen_rules, rules)
 
 loop-less : tie.Need-loop-smaller invariant-loop decreases-loop
-loop-less c = search (seen-rules, rules)
+loop-less c = search (seen_rules, rules)
 
 loop-again : tie.Need-loop-preserved invariant-loop decreases-loop
 loop-again c = (omega arith, omega (arith, c.before.before.before.before.before.loop-test.true), omega (arith, c.before.before.put.ensures.step, c.before.before.before.before.before.before.loop.invariant.2), c.before.before.put.auto.0 ∙ c.before.before.before.before.before.before.loop.invariant.3, list_next _ _ _ _ c.before.before.before.before.before.before.loop.invariant.4 c.before.before.before.before.before.before.loop.invariant.0 _ _ _ (seen_line _ _ _ _ _ c.before.before.before.before.before.before.before.before.before.before.before.before.requires.0 _ c.before.before.before.before.before.before.loop.invariant.0 c.before.before.before.before.before.loop-test.true _ c.before.before.before.is_seen.ensures) c.before.before.put.ensures)
 
 same_length : tie.Need-same-length invariant-loop decreases-loop
-same_length c = search (seen-rules, rules)
+same_length c = search (seen_rules, rules)
 
 returns : tie.Need-returns invariant-loop decreases-loop
-returns c = search (seen-rules, rules)
+returns c = search (seen_rules, rules)
 
 pub list-lines-spec : {M : Type 1} → statement M
 list-lines-spec =
