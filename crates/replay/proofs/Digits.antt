@@ -87,4 +87,4 @@ module _ (s : List ℕ) (at i : ℕ) (place : i ≡ blanks (drop at s) at) (r : 
   unfolding number
   number_beyond h = rw (← place, ← read, h)
 
-pub ruleset rules = (digit_low, digit_high, digit_more, digit_beyond, blanks_next, blanks_stop, blanks_end, digits_more, digits_over, digits_beyond, digits_end, number_found, number_empty, number_beyond)
+pub ruleset number_rules = (digit_low, digit_high, digit_more, digit_beyond, blanks_next, blanks_stop, blanks_end, digits_more, digits_over, digits_beyond, digits_end, number_found, number_empty, number_beyond)

@@ -79,4 +79,4 @@ module _ (s : List ℕ) (b i : ℕ) (inv : contains b s ≡ any (eqb b) (drop i 
   pub contains_end : length s ≤ i → false ≡ contains b s
   contains_end h = any_end (eqb b) s i (length s) refl (contains b s) inv h
 
-pub ruleset rules = (word_past, part_to_end, part_behind, part_empty, equal_lengths, equal_differ, equal_next, equal_end, starts_count, starts_go, starts_no, ends_go, ends_no, contains_found, contains_next, contains_end)
+pub ruleset text_rules = (word_past, part_to_end, part_behind, part_empty, equal_lengths, equal_differ, equal_next, equal_end, starts_count, starts_go, starts_no, ends_go, ends_no, contains_found, contains_next, contains_end)

@@ -1,6 +1,6 @@
 -- `text::byte` meets its contract.
 -- Assumes nothing.
-use Rattle.text.proofs.Rules.{rules}
+use Rattle.text.proofs.Rules.{text_rules}
 use borrow.Author.Rules.{rules}
 use Rattle.text.proofs.byte.Statement.{statement}
 use Rattle.text.proofs.byte.Tie as tie
@@ -15,7 +15,7 @@ returns : tie.Need-returns
 returns c = search rules
 
 returns-2 : tie.Need-returns-2
-returns-2 c = search (rules, rules)
+returns-2 c = search (text_rules, rules)
 
 pub byte-spec : {M : Type 1} → statement M
 byte-spec = tie.close (tie.spec shared-slice-read-wide-byte wide-byte-requires returns returns-2)

@@ -6,7 +6,7 @@ use Prim.Native.Nat.{◌-◌, ◌≤◌}
 use lib.ListN.{length, drop}
 use lib.Dec.{eqb}
 use Rattle.definitions.specs.Lists.{contains, any}
-use Rattle.text.proofs.Rules.{rules}
+use Rattle.text.proofs.Rules.{text_rules}
 use borrow.Author.Rules.{rules}
 use Rattle.text.proofs.contains.Statement.{statement}
 use Rattle.text.proofs.contains.Tie as tie
@@ -18,25 +18,25 @@ abbrev decreases-loop : tie.decreases-loop
 decreases-loop s b i₀ i = length s - i
 
 loop-holds : tie.Need-loop-init invariant-loop decreases-loop
-loop-holds c = search (rules, rules)
+loop-holds c = search (text_rules, rules)
 
 shared-slice-read-if1 : tie.Need-shared-slice-read-if1 invariant-loop decreases-loop
-shared-slice-read-if1 c = search (rules, rules)
+shared-slice-read-if1 c = search (text_rules, rules)
 
 returns : tie.Need-returns invariant-loop decreases-loop
-returns c = search (rules, rules)
+returns c = search (text_rules, rules)
 
 add-i : tie.Need-overflow-add-i invariant-loop decreases-loop
-add-i c = search (rules, rules)
+add-i c = search (text_rules, rules)
 
 loop-less : tie.Need-loop-smaller invariant-loop decreases-loop
-loop-less c = search (rules, rules)
+loop-less c = search (text_rules, rules)
 
 loop-again : tie.Need-loop-preserved invariant-loop decreases-loop
-loop-again c = search (rules, rules)
+loop-again c = search (text_rules, rules)
 
 returns-2 : tie.Need-returns-2 invariant-loop decreases-loop
-returns-2 c = search (rules, rules)
+returns-2 c = search (text_rules, rules)
 
 pub contains-spec : {M : Type 1} → statement M
 contains-spec =

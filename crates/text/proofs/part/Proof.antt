@@ -1,7 +1,7 @@
 -- `text::part` meets its contract: a way for each place that the ends can have.
 -- Assumes nothing.
 -- `text::part` meets its contract: a way for each place that the ends can have.
-use Rattle.text.proofs.Rules.{rules}
+use Rattle.text.proofs.Rules.{text_rules}
 use borrow.Author.Rules.{rules}
 use Rattle.text.proofs.part.Statement.{statement}
 use Rattle.text.proofs.part.Tie as tie
@@ -34,13 +34,13 @@ returns : tie.Need-returns
 returns c = search rules
 
 returns-2 : tie.Need-returns-2
-returns-2 c = search (rules, rules)
+returns-2 c = search (text_rules, rules)
 
 returns-3 : tie.Need-returns-3
-returns-3 c = search (rules, rules)
+returns-3 c = search (text_rules, rules)
 
 returns-4 : tie.Need-returns-4
-returns-4 c = search (rules, rules)
+returns-4 c = search (text_rules, rules)
 
 pub part-spec : {M : Type 1} → statement M
 part-spec =

@@ -1,7 +1,7 @@
 -- `text::word` meets its contract.
 -- Assumes nothing.
 -- `text::word` meets its contract.
-use Rattle.text.proofs.Rules.{rules}
+use Rattle.text.proofs.Rules.{text_rules}
 use borrow.Author.Rules.{rules}
 use Rattle.text.proofs.word.Statement.{statement}
 use Rattle.text.proofs.word.Tie as tie
@@ -19,7 +19,7 @@ returns : tie.Need-returns
 returns c = search rules
 
 returns-2 : tie.Need-returns-2
-returns-2 c = search (rules, rules)
+returns-2 c = search (text_rules, rules)
 
 pub word-spec : {M : Type 1} → statement M
 word-spec = tie.close (tie.spec mul_wide shared-slice-read-wide wide-requires returns returns-2)

@@ -1,7 +1,7 @@
 -- `replay::decimal::digit` meets its contract.
 -- Assumes nothing.
 use borrow.Author.Rules.{rules}
-use Rattle.replay.proofs.Digits.{rules}
+use Rattle.replay.proofs.Digits.{number_rules}
 use Rattle.replay.proofs.decimal.digit.Statement.{statement}
 use Rattle.replay.proofs.decimal.digit.Tie as tie
 
@@ -21,16 +21,16 @@ add-t13 : tie.Need-add-t13
 add-t13 c = search rules
 
 returns : tie.Need-returns
-returns c = search (rules, rules)
+returns c = search (number_rules, rules)
 
 returns-2 : tie.Need-returns-2
-returns-2 c = search (rules, rules)
+returns-2 c = search (number_rules, rules)
 
 returns-3 : tie.Need-returns-3
-returns-3 c = search (rules, rules)
+returns-3 c = search (number_rules, rules)
 
 returns-4 : tie.Need-returns-4
-returns-4 c = search (rules, rules)
+returns-4 c = search (number_rules, rules)
 
 pub digit-spec : {M : Type 1} → statement M
 digit-spec =

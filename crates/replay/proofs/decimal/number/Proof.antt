@@ -1,7 +1,7 @@
 -- `replay::decimal::number` meets its contract.
 -- Assumes nothing.
 use borrow.Author.Rules.{rules}
-use Rattle.replay.proofs.Digits.{rules}
+use Rattle.replay.proofs.Digits.{number_rules}
 use Rattle.replay.proofs.decimal.number.Statement.{statement}
 use Rattle.replay.proofs.decimal.number.Tie as tie
 
@@ -18,13 +18,13 @@ enum_told : tie.Need-enum-told
 enum_told c = search rules
 
 returns : tie.Need-returns
-returns c = search (rules, rules)
+returns c = search (number_rules, rules)
 
 returns-2 : tie.Need-returns-2
-returns-2 c = search (rules, rules)
+returns-2 c = search (number_rules, rules)
 
 returns-3 : tie.Need-returns-3
-returns-3 c = search (rules, rules)
+returns-3 c = search (number_rules, rules)
 
 pub number-spec : {M : Type 1} → statement M
 number-spec =
