@@ -1,6 +1,9 @@
 // Tokens appended to the open line of the destination, merged or as they are. Each function takes time linear in the bytes that it appends.
 //
 // Contracts cite `Adding` of this crate's specs/: what is appended, whatever the open line has before it.
+
+#![tactic(auto)]
+
 ghost use Rattle.std.specs.Prelude.{[], ◌∷◌, ◌<◌};
 ghost use Rattle.definitions.specs.Model.{tok};
 ghost use Rattle.append.specs.Adds.{Adding, whole};

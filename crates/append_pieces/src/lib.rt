@@ -3,5 +3,8 @@
 //
 // Contracts cite `Adding` of Rattle.append.specs.Adds, `condition` of Rattle.definitions.specs.Condition and `piece` of
 // Rattle.pieces.specs.Pieces.
+
+#![tactic(auto)]
+
 pub mod conditions;
 pub mod tokens;

@@ -2,6 +2,9 @@
 // are looked at.
 //
 // Contracts cite `assignment` of Rattle.definitions.specs.Statements; `assigned` of this crate's specs/ says which assignment an answer is.
+
+#![tactic(auto)]
+
 ghost use Rattle.std.specs.Prelude.{◌≡◌};
 ghost use Rattle.definitions.specs.Model.{line};
 ghost use Rattle.definitions.specs.Columns.{listing};

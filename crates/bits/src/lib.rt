@@ -11,6 +11,9 @@
 // the span of an empty row is 0.
 // `add_edge` sets two bits and widens two spans; `row_span` answers where a row's bits lie. The contracts cite `bit`, `Filled`, `edges`,
 // `succs`, `Spanned` and `Agree` of specs/; `preds_of` gives the predecessor lists that the sweeps of Rattle.definitions.specs.Sweeps are over.
+
+#![tactic(auto)]
+
 ghost use Rattle.std.specs.Prelude.{◌≡◌, true, false, ◌&&◌, ◌||◌, ◌+◌, ◌*◌, ◌/◌, ◌<◌, ◌≤◌, length, eqb, ltb};
 ghost use Rattle.std.specs.Int.Count.{count_trailing_zeros};
 ghost use Rattle.bits.specs.Rows.{bit, Filled, Zero, WithBit, joined, joined_low, copied, Put, First};
@@ -207,7 +210,7 @@ fn note(s: &mut [u64], n: usize, r: usize, u: usize, p: usize)
 }
 
 // Where the bits of a row of lines lie: from bit `from`, the first, on, below bit `end`.
-#[derive(Drop)]
+#[derive(Clone, Copy)]
 pub struct Span {
     pub from: usize,
     pub end: usize,

@@ -3,6 +3,9 @@
 // An entry of a column is 0 for none, else a line + 1. The openers of the blocks still open are kept as a chain: the innermost, then the
 // opener around it, and so on, with a count for each line, which may open several. Contracts cite `blocks` of
 // Rattle.definitions.specs.Blocks.
+
+#![tactic(auto)]
+
 ghost use Rattle.std.specs.Prelude.{◌≡◌, cond, ◌+◌, ◌-◌, ◌≤◌, ◌<◌, eqb, ltb, length, get_or, set};
 ghost use Rattle.definitions.specs.Columns.{listing};
 ghost use Rattle.definitions.specs.Blocks.{Open};

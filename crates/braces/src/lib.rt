@@ -1,6 +1,9 @@
 // The braces of a line, in one pass over the words of its tokens and the bytes of its punctuation. Only braces in punct tokens count; a `}` first cancels a `{` earlier on the line.
 //
 // Contracts cite `brace` and `braces` of Rattle.definitions.specs.Blocks.
+
+#![tactic(auto)]
+
 ghost use Rattle.std.specs.Prelude.{◌≡◌, ◌+◌, ◌≤◌, ◌<◌, eqb, length, get_or};
 ghost use Rattle.definitions.specs.Lists.{if◌then◌else◌, fold};
 ghost use Rattle.definitions.specs.Model.{line, no_token, Punct};

@@ -4,5 +4,8 @@
 //   links      what the word of a token in a chain says
 //   tokens     the chains, from the last token to the first
 // Contracts cite Rattle.definitions.specs.Recover.
+
+#![tactic(auto)]
+
 pub mod links;
 pub mod tokens;

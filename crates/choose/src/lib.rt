@@ -1,6 +1,9 @@
 // The chooser: webs, or splits where webs refuse 7, 8 or 9, and which.
 //
 // Contracts cite `choose_call` of Rattle.definitions.specs.Calls.
+
+#![tactic(auto)]
+
 ghost use Rattle.std.specs.Prelude.{◌≡◌, ◌≤◌};
 ghost use Rattle.definitions.specs.Calls.{choose_call};
 ghost use Rattle.questions.specs.Refusals.{at_most};

@@ -3,6 +3,9 @@
 //
 // Contracts cite `condition` and `closing` of Rattle.definitions.specs.Condition; `conditional` of this crate's specs/ says which condition
 // an answer is.
+
+#![tactic(auto)]
+
 ghost use Rattle.std.specs.Prelude.{◌≡◌, ◌-◌};
 ghost use Rattle.definitions.specs.Lists.{starts_with, ascii};
 ghost use Rattle.definitions.specs.Model.{token, line};

@@ -3,6 +3,9 @@
 // A goto crosses the lines behind the first of its two lines up to and with the second, whichever way it leads. So a column with one word
 // for each line suffices: the last line that a goto joins it with. Contracts cite `all_jumps` and `crosses` of
 // Rattle.definitions.specs.SplitPoints.
+
+#![tactic(auto)]
+
 ghost use Rattle.std.specs.Prelude.{◌≡◌, [], ◌∷◌, ℕ, max, min, ◌≤◌, ◌<◌, length, get_or, set};
 ghost use Rattle.definitions.specs.Lists.{to_list, any};
 ghost use Rattle.definitions.specs.Columns.{token_list, listing};

@@ -1,1 +1,3 @@
 // Definitions only: specs/ says what every call answers.
+
+#![tactic(auto)]

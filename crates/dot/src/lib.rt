@@ -8,6 +8,9 @@
 //
 // What has no room is only counted, as in crate json_append. The time is linear in the text, and at most the square of the tokens and of the lines.
 // Contracts cite `dot_text` of specs/Dot.antt.
+
+#![tactic(auto)]
+
 mod edges;
 mod labels;
 mod nodes;

@@ -2,5 +2,8 @@
 //
 // `tests` appends the conditions of headers, `lines` the other tokens, and ends lines. Contracts cite specs/ of this crate, `Line-of` and
 // `render` of Rattle.plan.specs.Plan, and `Adding` of Rattle.append.specs.Adds.
+
+#![tactic(auto)]
+
 pub mod lines;
 pub mod tests;

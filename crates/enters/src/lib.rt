@@ -3,6 +3,9 @@
 // The labels inside are listed once, and each goto outside is looked for in that list, as the Rust does: one step a line, and one a goto
 // outside and label inside. A line whose mark says that it has no goto is passed over.
 // Contracts cite `enters` and `goto_target` of Rattle.definitions.specs, of the lines that the words stand for.
+
+#![tactic(auto)]
+
 ghost use Rattle.std.specs.Prelude.{◌≡◌, true, ◌≤◌, ◌<◌, length, get_or, take};
 ghost use Rattle.definitions.specs.Lists.{all};
 ghost use Rattle.definitions.specs.Columns.{listing};

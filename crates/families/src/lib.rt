@@ -13,6 +13,9 @@
 //   word 256 + 2 k         for family k 1 + the one before it of the same hash, 0 for none
 //   word 257 + 2 k         the line of its first definition
 // Contracts cite `defined_families` of Rattle.definitions.specs.Recover and `defines` of Rattle.definitions.specs.Statements.
+
+#![tactic(auto)]
+
 ghost use Rattle.std.specs.Prelude.{◌≡◌, List, ℕ, ◌+◌, ◌*◌, ◌<◌, ◌≤◌, length, take, get_or};
 ghost use Rattle.definitions.specs.Lists.{is_some, ◌==◌};
 ghost use Rattle.definitions.specs.Family.{family};

@@ -5,6 +5,9 @@
 // at most one name. A look-up answers by one number, `decoded` of specs/Register.antt, so that answers are not handed on through memory.
 // Contracts cite `family`, `fam_of` and `names` of Rattle.definitions.specs.Family; `family_of` of this crate's specs/ says which family an
 // answer gives a text.
+
+#![tactic(auto)]
+
 ghost use Rattle.std.specs.Prelude.{◌≡◌, false, ℕ, ◌+◌, ◌<◌, eqb, length, drop};
 ghost use Rattle.definitions.specs.Lists.{◌==◌};
 ghost use Rattle.definitions.specs.Model.{tok};
@@ -15,7 +18,7 @@ ghost use Rattle.family.specs.Register.{digit_count, number_end, above_zero, fam
 use legacy::{is_row, place};
 use text::wide_byte;
 
-#[derive(Drop)]
+#[derive(Clone, Copy)]
 pub enum Register {
     // The row of the table, and the width in bits.
     Legacy(usize, usize),

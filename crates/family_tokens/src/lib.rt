@@ -1,6 +1,9 @@
 // The tokens of one family: the lines that read it, and what its tokens are given. A step a token of its own, and a few a line.
 //
 // Contracts cite `read_lines` of Rattle.definitions.specs.Recover and specs/Lines.antt of crate walks.
+
+#![tactic(auto)]
+
 ghost use Rattle.std.specs.Prelude.{◌≡◌, ◌<◌, ◌≤◌, length, take};
 ghost use Rattle.definitions.specs.Columns.{listing};
 ghost use Rattle.definitions.specs.Recover.{read_lines};

@@ -1,6 +1,9 @@
 // `to_for` over a plan of `recover_goto_loops`: pieces of every form, and headers over a leading test or over 1. Nothing of the listing is copied.
 //
 // `first_end` and `continues` look at each line of the body once, `initialiser` at most at four lines.
+
+#![tactic(auto)]
+
 pub mod conditions;
 pub mod counted;
 pub mod ends;

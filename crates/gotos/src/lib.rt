@@ -1,6 +1,9 @@
 // The plan of `recover_goto_loops`: label and goto loops made while or for loops, as words of crate `plan`. Nothing of the listing is copied.
 //
 // Contracts cite the definitions of Rattle.definitions.specs.RecoverGotoLoops, of the lines that the words stand for.
+
+#![tactic(auto)]
+
 pub mod body;
 pub mod edges;
 pub mod headers;

@@ -2,6 +2,9 @@
 // for. Refusals and everything else that goes wrong are one line on standard error.
 //
 // No contract can say what is read or written. What is printed is the work of `answers::answer`, on the bytes that were read.
+
+#![tactic(auto)]
+
 mod answers;
 mod calls;
 mod check;

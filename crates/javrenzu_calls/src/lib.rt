@@ -3,6 +3,9 @@
 //
 // Contracts cite `web_call`, `split_call`, `choose_call` and `pass_call` of Rattle.definitions.specs.Calls,
 // `read_call` and `write_call` of Rattle.json_definitions.specs.JsonCalls.
+
+#![tactic(auto)]
+
 ghost use Rattle.std.specs.Prelude.{◌≡◌};
 ghost use Rattle.definitions.specs.Calls.{web_call, split_call, choose_call, pass_call};
 ghost use Rattle.definitions.specs.Answers.{loops, goto_loops};

@@ -3,6 +3,9 @@
 // What has no room is only counted, so that no function asks for room, and a slice of length 0 tells how long a text is. A string is written by runs of
 // bytes that stand for themselves, which are looked for eight at a time; each function takes time linear in what it writes. Contracts: `Appended` of
 // specs/Appended.antt, of the texts of Rattle.json_definitions.specs.Writer; `sizes` counts without writing, by specs/Sizes.antt.
+
+#![tactic(auto)]
+
 pub mod bytes;
 pub mod sizes;
 pub mod strings;

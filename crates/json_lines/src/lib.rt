@@ -2,6 +2,9 @@
 //
 // `members` and `tokens::token` give what the parsers of Rattle.json_definitions.specs.Reader give; arrays of tokens and lines are
 // told by specs/InColumns.antt.
+
+#![tactic(auto)]
+
 pub mod lines;
 pub mod members;
 pub mod tokens;

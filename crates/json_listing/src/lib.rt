@@ -1,6 +1,9 @@
 // The array of lines in a JSON text, on a slice and a position, into lent columns as far as they go. One pass over the text.
 //
 // What is in the columns is told by specs/InColumns.antt, of the parsers of Rattle.json_definitions.specs.Reader.
+
+#![tactic(auto)]
+
 ghost use Rattle.std.specs.Prelude.{◌≡◌, ◌≤◌, ◌<◌, ◌+◌, ◌*◌, length, drop};
 ghost use Rattle.json_definitions.specs.Parser.{array};
 ghost use Rattle.json_definitions.specs.Reader.{line};
@@ -12,7 +15,7 @@ use json_lines::members::Sep;
 use json_scan::Next;
 
 // The place behind the listing, and how many lines, tokens and bytes stand in the columns.
-#[derive(Drop)]
+#[derive(Clone, Copy)]
 pub enum Lst {
     Lines(usize, usize, usize, usize),
     NoLines,

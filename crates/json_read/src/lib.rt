@@ -1,6 +1,9 @@
 // The JSON reader as a call: question 10, and the listing in lent columns. One pass over the text, and zeros behind the results.
 //
 // The contract is one equation with `read_call` of Rattle.json_definitions.specs.JsonCalls: the answer and every lent word.
+
+#![tactic(auto)]
+
 ghost use Rattle.std.specs.Prelude.{◌≡◌, min, length, drop};
 ghost use Rattle.text.specs.Zeroed.{zeroed};
 ghost use Rattle.json_definitions.specs.Parser.{array};

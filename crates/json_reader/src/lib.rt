@@ -2,6 +2,9 @@
 //
 // Each step takes the reader apart and calls a function of json_listing on the slice and the position; what it costs is what that costs. The contracts cite
 // Rattle.json_listing.specs.InColumns. All functions over the reader are proved by a walk by hand.
+
+#![tactic(auto)]
+
 ghost use Rattle.std.specs.Prelude.{◌≡◌, ◌≤◌, length, drop};
 ghost use Rattle.json_definitions.specs.Parser.{array};
 ghost use Rattle.json_definitions.specs.Reader.{line};
@@ -9,7 +12,7 @@ ghost use Rattle.json_listing.specs.InColumns.{listing_read, closed, ended_at};
 
 use json_listing::Lst;
 
-#[derive(Drop)]
+#[derive(Clone, Copy)]
 struct Reader<'a> {
     src: &'a [u8],
     at: usize,

@@ -2,6 +2,9 @@
 //
 // Each takes time linear in the bytes that it passes over and copies nothing. Each is total, and its answer is what a parser of
 // Rattle.json_definitions.specs gives of the text behind the position.
+
+#![tactic(auto)]
+
 ghost use Rattle.std.specs.Prelude.{◌≡◌, cond, leb, drop};
 ghost use Rattle.json_definitions.specs.Parser.{skip_white_space, is_white_space, literal, lexeme};
 ghost use Rattle.json_definitions.specs.Reader.{digits, at_most, whole_number, number};

@@ -4,7 +4,7 @@ ghost use Rattle.json_definitions.specs.Strings.{encode, code_point};
 ghost use Rattle.json_strings.specs.Answers.{bytes_of, character_of};
 
 // The first n of four bytes.
-#[derive(Drop)]
+#[derive(Clone, Copy)]
 pub struct Bytes {
     pub n: usize,
     pub a: u8,

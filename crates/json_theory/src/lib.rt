@@ -1,1 +1,3 @@
 // Pure theory of the JSON definitions: proofs/ has the laws.
+
+#![tactic(auto)]

@@ -1,6 +1,9 @@
 // The JSON writer: questions 1 to 4, and the text of a listing in a lent slice. Its length is counted first, without writing; time is linear in the text.
 //
 // The contract of `write_json` is one equation with `write_call` of Rattle.json_definitions.specs.JsonCalls: the answer and every lent byte.
+
+#![tactic(auto)]
+
 mod lines;
 mod sizes;
 mod tokens;

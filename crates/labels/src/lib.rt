@@ -7,6 +7,9 @@
 // names come to. `index` takes time linear in the tokens and in the bytes of the labels, and each further time once more that and the bytes of
 // the text; `label_line` in the name and in the labels of its bucket. That few labels share a bucket is measured, not proved. Contracts cite
 // `label_line` of Rattle.definitions.specs.FlowGraph.
+
+#![tactic(auto)]
+
 ghost use Rattle.std.specs.Prelude.{◌≡◌, true, false, ℕ, ◌+◌, ◌%◌, ◌≤◌, ◌<◌, length, get_or};
 ghost use Rattle.definitions.specs.Model.{line};
 ghost use Rattle.definitions.specs.Columns.{listing};

@@ -1,6 +1,9 @@
 // The reading layer for a test to call from Rust: each function writes the answer of one proved function, as numbers, into `out`.
 //
 // An enum does not cross to Rust, so its case is a number: 0 where there is nothing, 1 and up in the order of its other cases.
+
+#![tactic(auto)]
+
 use assignment::Assigned;
 use assignment::definition::Defined;
 use condition::Conditional;

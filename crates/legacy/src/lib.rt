@@ -2,6 +2,9 @@
 //
 // A look-up compares the text with one name, which its hash gives. Contracts cite `legacy` of Rattle.definitions.specs.Family by way of
 // specs/Table.antt.
+
+#![tactic(auto)]
+
 ghost use Rattle.std.specs.Prelude.{◌≡◌, [], ◌∷◌, ℕ, ◌<◌, get_or};
 ghost use Rattle.definitions.specs.Lists.{◌==◌, position};
 ghost use Rattle.legacy.specs.Table.{letters, all_names, name_at, hash, found, row_name};

@@ -3,6 +3,9 @@
 // `mask` passes over the words of a line's tokens once: of a token that is no keyword only the word is read, of a keyword also its text.
 // `masks` makes a column of them; each question of a line is then a test of one bit. Contracts cite `mask` of specs/Masks.antt, `has_kw` of
 // Rattle.definitions.specs.Statements, and `is_loop` and `is_switch` of Rattle.definitions.specs.FlowGraph.
+
+#![tactic(auto)]
+
 ghost use Rattle.std.specs.Prelude.{◌≡◌, cond, ◌||◌, ℕ, ◌≤◌, length, get_or};
 ghost use Rattle.definitions.specs.Lists.{◌==◌, ascii};
 ghost use Rattle.definitions.specs.Model.{line, no_token};

@@ -3,5 +3,8 @@
 //   keywords   what a line says of its steps
 //   steps      the edges of a line
 // Contracts cite Rattle.definitions.specs.FlowGraph.
+
+#![tactic(auto)]
+
 pub mod keywords;
 pub mod steps;

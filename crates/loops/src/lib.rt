@@ -2,5 +2,8 @@
 //
 // The control flow is the Rust's, index by index. Contracts cite `recover_loops`, `loop_turn` and `to_for` of Rattle.definitions.specs, of the
 // lines that the plan stands for; specs/Words.antt has what is asked of single words.
+
+#![tactic(auto)]
+
 pub mod for_loops;
 pub mod turns;

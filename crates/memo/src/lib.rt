@@ -3,6 +3,9 @@
 //
 // `memo` is one lent slice: words [0, 64) have the number of the text in each slot, 0 for none, and words [64, 128) what was found of it.
 // Contracts cite `found` of specs/Found.antt and `fam_of` of Rattle.definitions.specs.Family.
+
+#![tactic(auto)]
+
 ghost use Rattle.std.specs.Prelude.{◌≡◌, ◌<◌, ◌≤◌, length, get_or};
 ghost use Rattle.definitions.specs.Model.{no_token};
 ghost use Rattle.definitions.specs.Family.{family, fam_of};

@@ -67,7 +67,7 @@ pub fn indent(lines: &[u32], tokens: &[u32], text: &[u8], i: usize) -> usize
 }
 
 // The address of a line, which may be missing.
-#[derive(Drop)]
+#[derive(Clone, Copy)]
 pub enum Address {
     At(u64),
     Missing,

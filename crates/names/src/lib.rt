@@ -4,6 +4,9 @@
 // end a square. A step adds and then multiplies, so that the hash of a short name depends on the multiplier too; the square takes names at
 // equal distances, such as L1, L2, L3, to unequal ones. No contract uses more than that it is a function of the multiplier and the name. `hash`
 // takes time linear in the name, `next` in the text.
+
+#![tactic(auto)]
+
 ghost use Rattle.std.specs.Prelude.{◌≡◌, ◌+◌, ◌<◌, ◌≤◌, [], ◌∷◌, length, slice_index};
 ghost use Rattle.names.specs.Hash.{factor, mix, packed, hashed, spread, hash};
 

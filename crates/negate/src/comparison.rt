@@ -14,7 +14,7 @@ use crate::test::{test_count, test_kind, test_text};
 
 // What the scan has seen: brackets opened and closed, whose difference is the depth and may go below 0; comparisons at depth 0, ` && ` and
 // ` || ` counting two; the last comparison, by the number of its token, the byte of it and its own number, NONE where there is none.
-#[derive(Drop)]
+#[derive(Clone, Copy)]
 pub struct Seen {
     pub opened: usize,
     pub closed: usize,
@@ -24,7 +24,7 @@ pub struct Seen {
     pub which: usize,
 }
 
-#[derive(Drop)]
+#[derive(Clone, Copy)]
 pub enum Only {
     // Comparison `which` at byte `byte` of token `place` is the only one.
     At {

@@ -2,6 +2,9 @@
 // takes its sweeps, a few steps a line, and for each reading line as much as listing the definitions that reach it once.
 //
 // Contracts are by definition number and by the words that number the families; crate webs says what they are of a listing.
+
+#![tactic(auto)]
+
 ghost use Rattle.std.specs.Prelude.{◌≡◌, suc, ◌+◌, ◌/◌, ◌<◌, ◌≤◌, length};
 ghost use Rattle.definitions.specs.Questions.{space_words};
 ghost use Rattle.bits.specs.Edges.{row_words, Agree};

@@ -3,6 +3,9 @@
 //
 // Contracts cite `pass_refusal`, `passed` and `zero_columns` of Rattle.definitions.specs.Calls: what a call leaves where the questions are
 // answered yes is `passed` of what its pass answers.
+
+#![tactic(auto)]
+
 ghost use Rattle.std.specs.Prelude.{◌≡◌, true, ◌&&◌, ◌≤◌, eqb, length, take};
 ghost use Rattle.definitions.specs.Lists.{all};
 ghost use Rattle.definitions.specs.Questions.{question_2};

@@ -2,6 +2,9 @@
 // or `break;` behind, or a closing brace. Nothing is copied; each function looks at each token of the line at most once or twice.
 //
 // Contracts cite the definitions of `piece` of specs/Pieces.antt.
+
+#![tactic(auto)]
+
 pub mod back;
 pub mod counting;
 pub mod initial;

@@ -2,6 +2,9 @@
 //
 // `remove`, `remove_two`, `move_out` and `make_for` take a step for each word that they pass, as `Vec::remove` and the Rust's loops do, the others
 // constant time. Contracts cite specs/Plan.antt, and `remove`, `part`, `all` and `on_part` of Rattle.definitions.specs.Lists.
+
+#![tactic(auto)]
+
 ghost use Rattle.std.specs.Prelude.{◌≡◌, true, ◌+◌, ◌-◌, ◌/◌, ◌%◌, ◌<◌, ◌≤◌, length, take};
 ghost use Rattle.definitions.specs.Lists.{part, all, remove, on_part};
 ghost use Rattle.plan.specs.Plan.{indent_at, header_at, piece_at, test_at, initialiser_at, step_at};

@@ -1,6 +1,9 @@
 // A text without its last code point. It takes time linear in the bytes of that code point, and copies nothing.
 //
 // The contract cites `pop` of Rattle.definitions.specs.ToFor.
+
+#![tactic(auto)]
+
 ghost use Rattle.std.specs.Prelude.{◌≡◌, ◌≤◌, length, take};
 ghost use Rattle.definitions.specs.ToFor.{pop};
 

@@ -2,6 +2,9 @@
 //
 // Working space is zero after acceptance and after 7 to 9, and nothing is written after 1 to 5. Contracts cite `web_call` of
 // Rattle.definitions.specs.Calls and demand 3 of Rattle.definitions.specs.Demand3.
+
+#![tactic(auto)]
+
 ghost use Rattle.std.specs.Prelude.{◌≡◌, true, List, [], ℕ, ◌+◌, ◌*◌, ◌/◌, ◌≤◌, leb, length};
 ghost use Rattle.std.proofs.Math.Option.{Option, none, some};
 ghost use Rattle.definitions.specs.Lists.{if◌then◌else◌, or_else};

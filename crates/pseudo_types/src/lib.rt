@@ -2,5 +2,8 @@
 //
 // Question 2 is answered yes wherever it is required; the texts of a run of tokens are then one part of the lent text, and nothing is copied.
 // Contracts cite Rattle.definitions.specs.Condition, ToFor, Passes and RecoverLoops.
+
+#![tactic(auto)]
+
 pub mod conditions;
 pub mod texts;

@@ -2,6 +2,9 @@
 // words, question 3 time linear in the tokens' bytes. Nothing is copied.
 //
 // Contracts cite `question_1`, `question_2`, `question_3` and `refusal` of Rattle.definitions.specs.Questions.
+
+#![tactic(auto)]
+
 ghost use Rattle.std.specs.Prelude.{◌≡◌, ◌&&◌, ℕ, ◌-◌, ◌/◌, ◌%◌, ◌<◌, ◌≤◌, eqb, leb, get_or, length};
 ghost use Rattle.definitions.specs.Lists.{all};
 ghost use Rattle.definitions.specs.Model.{no_token};

@@ -6,6 +6,9 @@
 //   numbers           web numbers of definitions and reads
 // Contracts cite Rattle.definitions.specs.Recover; proofs/FamilyNumbers says that what is computed by definition number are the webs of
 // `webs_of`.
+
+#![tactic(auto)]
+
 pub mod numbers;
 pub mod representatives;
 pub mod sets;

@@ -2,6 +2,9 @@
 // written once. Questions 1, 2, 3, 4 and 6 in order; no working space is lent.
 //
 // The contract is one equation: the answer and every lent word are what `pass_call goto_loops` of Rattle.definitions.specs.Calls gives.
+
+#![tactic(auto)]
+
 ghost use Rattle.std.specs.Prelude.{◌≡◌, ◌≤◌, length};
 ghost use Rattle.std.proofs.Math.Option.{none};
 ghost use Rattle.definitions.specs.Answers.{goto_loops};

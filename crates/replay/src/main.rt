@@ -1,6 +1,9 @@
 // Replays a fixed list of calls, given on standard input in decimal numbers, and prints what each answers.
 //
 // `stdout` has what the original Rust answers. `tools/vectors` makes both files.
+
+#![tactic(auto)]
+
 mod choose_call;
 mod columns;
 mod decimal;

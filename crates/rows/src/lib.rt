@@ -1,6 +1,9 @@
 // Rows, behind a place of a lent slice. Each function takes time linear in what it writes and in the tokens that it looks at.
 //
 // Contracts: `Appended` of Rattle.json_append.specs.Appended, of the texts of this crate's specs/Rows.antt.
+
+#![tactic(auto)]
+
 pub mod columns;
 mod names;
 

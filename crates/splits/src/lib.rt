@@ -5,6 +5,9 @@
 //   tokens     the numbers and marks of the tokens
 //   call       the call, with questions 1 to 4
 // Contracts cite Rattle.definitions.specs.SplitPoints and, of the call, Rattle.definitions.specs.Calls.
+
+#![tactic(auto)]
+
 pub mod call;
 pub mod starts;
 pub mod tokens;

@@ -5,6 +5,9 @@
 // line that it passes over would not change, so the outgoing rows after each sweep, and the number of sweeps, are those of `sweeps` of
 // Rattle.definitions.specs.Sweeps, which the contracts cite. A sweep takes 3 r steps besides its visits; the start takes n w + 2 r. By
 // `budget_enough` of proofs/Counting n + 1 sweeps are always enough.
+
+#![tactic(auto)]
+
 ghost use Rattle.std.specs.Prelude.{◌≡◌, true, ◌+◌, ◌*◌, ◌<◌, ◌≤◌, length};
 ghost use Rattle.bits.specs.Edges.{Agree};
 ghost use Rattle.visit.specs.Layout.{making, Room, todo};

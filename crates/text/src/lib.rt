@@ -3,6 +3,9 @@
 // Each function takes time linear in the bytes or words that it looks at: `word`, `byte` and `part` constant time, `code_point` at most four
 // bytes. Each is total, and its result is what a definition gives: of Rattle.definitions.specs.Lists, of Rattle.definitions.specs.Utf8, or
 // of this crate's specs/.
+
+#![tactic(auto)]
+
 ghost use Rattle.std.specs.Prelude.{◌≡◌, [], ◌∷◌, ◌-◌, ◌≤◌, ◌<◌, length, get_or, drop};
 ghost use Rattle.definitions.specs.Lists.{◌==◌, starts_with, ends_with, contains, part};
 ghost use Rattle.definitions.specs.Utf8.{is_utf8, to, tail};

@@ -1,1 +1,3 @@
 // The theory of webs: no code, only theorems over the definitions. See proofs/Lib.antt.
+
+#![tactic(auto)]

@@ -15,6 +15,9 @@
 // A visit takes w steps and w for each predecessor, and looks only at the words where the line's predecessors lie, and its successors
 // where the row changes: mostly one. By `room` of proofs/LayoutLaws the words of question 5 have room for every w below r. Contracts cite
 // specs/Steps.antt.
+
+#![tactic(auto)]
+
 ghost use Rattle.std.specs.Prelude.{◌≡◌, true, [], ◌+◌, ◌*◌, ◌<◌, get_or, eqb};
 ghost use Rattle.definitions.specs.Lists.{any};
 ghost use Rattle.bits.specs.Rows.{Filled};

@@ -3,5 +3,8 @@
 //   reads      the lines that read a family, and whether its address is taken
 //   writing    numbers and marks of the tokens
 // Contracts cite Rattle.definitions.specs.Recover.
+
+#![tactic(auto)]
+
 pub mod reads;
 pub mod writing;

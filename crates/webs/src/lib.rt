@@ -2,6 +2,9 @@
 //
 // The families are numbered and their tokens chained; module `steps` then takes one family after the other.
 // Contracts cite `recover` of Rattle.definitions.specs.Recover and `numbered_webs` of Rattle.definitions.specs.Answers.
+
+#![tactic(auto)]
+
 ghost use Rattle.std.specs.Prelude.{◌≡◌, true, [], ◌+◌, ◌*◌, ◌<◌, ◌≤◌, length};
 ghost use Rattle.definitions.specs.Lists.{or_else};
 ghost use Rattle.definitions.specs.Columns.{listing};

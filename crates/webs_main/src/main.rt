@@ -2,6 +2,9 @@
 // family, or `refused N`. `stdin` and `stdout` have document 01's example.
 //
 // The contract is that of `answer::put_answer`: what is printed is `program` of specs/Program.antt of what is read.
+
+#![tactic(auto)]
+
 mod answer;
 
 fn main() {

@@ -1,4 +1,7 @@
 // Words of 16 bits: reading one, casts, zeroing. Constant time, but for zeroing, which takes a step a word.
+
+#![tactic(auto)]
+
 ghost use Rattle.std.specs.Prelude.{◌≡◌, max, ◌<◌, get_or};
 ghost use Rattle.text.specs.Zeroed.{zeroed};
 

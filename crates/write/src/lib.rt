@@ -6,6 +6,9 @@
 //
 // Contracts cite the state of specs/State.antt, lines done and what is open, whose columns are `line_words`, `address_words`,
 // `token_words_from` and `text` of Rattle.definitions.specs; `finish` cites `packed` and `counts` of Rattle.definitions.specs.Calls.
+
+#![tactic(auto)]
+
 ghost use Rattle.std.specs.Prelude.{◌≡◌, true, List, [], ◌++◌, ℕ, ◌+◌, ◌<◌, ◌≤◌, length, take};
 ghost use Rattle.definitions.specs.Lists.{is_some, or_else, if◌then◌else◌};
 ghost use Rattle.definitions.specs.Model.{Line};
@@ -16,7 +19,7 @@ ghost use Rattle.write.specs.Holds.{columns, Filled, Room, Holds, Writes, Finish
 use model::columns::Address;
 
 // How many lines, tokens and bytes are written, and the kind of the open line's last token, NO_KIND where it has none.
-#[derive(Drop)]
+#[derive(Clone, Copy)]
 pub struct Cursor {
     pub lines: usize,
     pub tokens: usize,

@@ -1,6 +1,9 @@
 // A run of tokens appended as it stands in the columns that it is read from: its bytes in one copy, its words with their ends moved.
 //
 // Contracts cite the state of Rattle.write.specs.State and `token_list` of Rattle.definitions.specs.Columns.
+
+#![tactic(auto)]
+
 ghost use Rattle.std.specs.Prelude.{◌≡◌, true, List, map, ◌++◌, ℕ, ◌+◌, ◌/◌, ◌<◌, ◌≤◌, length, take, get_or};
 ghost use Rattle.definitions.specs.Lists.{part};
 ghost use Rattle.definitions.specs.Columns.{token_list};
