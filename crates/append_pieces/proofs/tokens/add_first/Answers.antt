@@ -1,0 +1,31 @@
+use Rattle.definitions.specs.Model.{line}
+use Rattle.definitions.specs.Columns.{listing}
+use Prim.Native.Nat.{◌-◌}
+use mathlib.Core.Path.{◌∙◌, refl}
+use Rattle.append_pieces.proofs.Runs.{left_start}
+use Rattle.append_pieces.proofs.Lines.{line_goes, line_ends}
+use Rattle.append_pieces.proofs.tokens.add_first.Goals as goal
+
+pub loop-j-init : goal.loop-j-init
+loop-j-init c = (refl, refl, λ l a. left_start)
+
+pub dressed_text-s-requires : goal.dressed_text-s-requires
+dressed_text-s-requires c = (c.loop-j-test.true, c.requires)
+
+pub add-d-requires : goal.add-d-requires
+add-d-requires c = c.kind_at-kind.ensures.1
+
+pub loop-j-preserved : goal.loop-j-preserved
+loop-j-preserved c = let g = c.args in
+    let i = c.loop-j.invariant in
+    (c.add-d.auto.0 ∙ i.0, c.add-d.auto.1.0 ∙ i.1, λ l a. line_goes g.popped (line (listing g.lines.now g.tokens.now g.text.now) g.i).tokens g.n c.requires _ (i.2 l a) c.loop-j-test.true _ _ c.dressed_text-s.ensures c.kind_at-kind.ensures.0 (c.add-d.ensures l a))
+
+pub shape_of-words : goal.shape_of-words
+shape_of-words c = c.loop-j.invariant.0
+
+pub shape_of-bytes : goal.shape_of-bytes
+shape_of-bytes c = c.loop-j.invariant.1
+
+pub returns : goal.returns
+returns c = let g = c.args in
+    λ l a. line_ends g.popped (line (listing g.lines.now g.tokens.now g.text.now) g.i).tokens g.n c.requires _ (c.loop-j.invariant.2 l a) c.loop-j-test.false

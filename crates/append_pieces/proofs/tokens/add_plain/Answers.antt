@@ -1,0 +1,8 @@
+-- `append_pieces::tokens::add_plain` meets its contract. By the piece's form.
+-- Assumes nothing.
+use borrow.Author.Rules.{rules}
+use Rattle.append_pieces.proofs.Kept.{kept_as_piece}
+use Rattle.append_pieces.proofs.tokens.add_plain.Goals as goal
+
+pub returns-then-p-eq0 : goal.returns-then-p-eq0
+returns-then-p-eq0 c = search (kept_as_piece, rules)

@@ -1,0 +1,15 @@
+-- `assignment::definition::side_names` meets its contract. The answer is what is left to look for from token k on. Assumes nothing.
+use mathlib.Core.Path.{◌≡◌}
+use Prim.Native.Nat.{◌-◌}
+use Rattle.definitions.specs.Lists.{any}
+use Rattle.definitions.specs.Model.{line}
+use Rattle.definitions.specs.Columns.{listing}
+use Rattle.family.specs.Register.{family_of, names_family}
+use Rattle.assignment.specs.Assignments.{side}
+use Rattle.assignment.proofs.definition.side_names.Given as goal
+
+abbrev pub invariant-loop-k : goal.invariant-loop-k
+invariant-loop-k l = any (names_family (family_of l.s l.r)) (side (line (listing l.lines l.tokens l.text) l.i) l.a l.e) ≡ any (names_family (family_of l.s l.r)) (side (line (listing l.lines l.tokens l.text) l.i) l.k l.e)
+
+abbrev pub decreases-loop-k : goal.decreases-loop-k
+decreases-loop-k l = l.e - l.k

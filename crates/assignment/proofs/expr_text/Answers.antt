@@ -1,0 +1,7 @@
+-- `assignment::expr_text` meets its contract. Assumes nothing.
+use borrow.Author.Rules.{rules}
+use Rattle.assignment.proofs.Assigning.{sides}
+use Rattle.assignment.proofs.expr_text.Goals as goal
+
+pub returns : goal.returns
+returns c = search (sides, rules)

@@ -1,0 +1,34 @@
+-- `braces::in_token` meets its contract. The kind decides. Assumes nothing.
+use borrow.Author.Rules.{rules}
+use Rattle.braces.proofs.Counts.{counts}
+use Rattle.braces.proofs.in_token.Goals as goal
+
+pub in_text-requires : goal.in_text-requires
+in_text-requires c = search (counts, rules)
+
+pub returns-in-0 : goal.returns-in-0
+returns-in-0 c = search (counts, rules)
+
+pub returns-in-1 : goal.returns-in-1
+returns-in-1 c = search (counts, rules)
+
+pub returns-in-2 : goal.returns-in-2
+returns-in-2 c = search (counts, rules)
+
+pub returns-in-3 : goal.returns-in-3
+returns-in-3 c = search (counts, rules)
+
+pub returns-in-4 : goal.returns-in-4
+returns-in-4 c = search (counts, rules)
+
+pub returns-in-5 : goal.returns-in-5
+returns-in-5 c = search (counts, rules)
+
+pub returns-in-6 : goal.returns-in-6
+returns-in-6 c = search (counts, rules)
+
+pub returns-in-7 : goal.returns-in-7
+returns-in-7 c = search (counts, rules)
+
+pub returns-in_default : goal.returns-in_default
+returns-in_default c = search (counts, rules)

@@ -1,0 +1,16 @@
+use Rattle.dot.proofs.EdgeRules.{edge_bit}
+use Rattle.dot.proofs.Runs.{going_end}
+use Rattle.rows.proofs.RowRules.{going_start, going_next}
+use native.Mathlib.Omega.{arith}
+use Prim.Native.Nat.{◌-◌}
+use borrow.Author.Rules.{rules}
+use Rattle.dot.proofs.edges.put_from.Goals as goal
+
+pub loop-j-init : goal.loop-j-init
+loop-j-init c = going_start _ _ _ _ _ _ (search rules) (omega arith)
+
+pub loop-j-preserved : goal.loop-j-preserved
+loop-j-preserved c = search (going_next, edge_bit, rules)
+
+pub returns : goal.returns
+returns c = search (going_end, rules)

@@ -1,0 +1,15 @@
+use Rattle.dot.proofs.NodeRules.{tokens_end}
+use Rattle.rows.proofs.RowRules.{going_start, going_next}
+use native.Mathlib.Omega.{arith}
+use Prim.Native.Nat.{◌-◌}
+use borrow.Author.Rules.{rules}
+use Rattle.dot.proofs.nodes.put_tokens.Goals as goal
+
+pub loop-k-init : goal.loop-k-init
+loop-k-init c = going_start _ _ _ _ _ _ c.line_start-k.ensures (omega arith)
+
+pub loop-k-preserved : goal.loop-k-preserved
+loop-k-preserved c = search (going_next, rules)
+
+pub returns : goal.returns
+returns c = search (tokens_end, rules)

@@ -1,0 +1,13 @@
+-- `dot::webs::rank` meets its contract. The tokens before k are ranked, and c webs appear before it.
+-- Assumes nothing.
+use Rattle.dot.proofs.WebRules.{Ranking}
+use Rattle.definitions.specs.Columns.{token_list}
+use lib.ListN.{length}
+use Prim.Native.Nat.{◌-◌}
+use Rattle.dot.proofs.webs.rank.Given as goal
+
+abbrev pub invariant-loop-k : goal.invariant-loop-k
+invariant-loop-k l = Ranking (token_list l.tokens l.text) l.numbers (length l.tokens) (length l.initial.ranks) l.ranks l.c l.k
+
+abbrev pub decreases-loop-k : goal.decreases-loop-k
+decreases-loop-k l = length l.tokens - l.k

@@ -1,0 +1,15 @@
+-- `dot::widths::tokens_cells` meets its contract.
+-- Assumes nothing.
+use Rattle.dot.proofs.WidthRules.{Summing}
+use Rattle.dot.proofs.WidthRules.{Summing}
+use Rattle.dot.specs.Dot.{token_cells}
+use Rattle.model.specs.Places.{line_start}
+use Rattle.definitions.specs.Columns.{token_list}
+use Prim.Native.Nat.{◌-◌}
+use Rattle.dot.proofs.widths.tokens_cells.Given as goal
+
+abbrev pub invariant-loop-k : goal.invariant-loop-k
+invariant-loop-k l = Summing (token_cells (token_list l.tokens l.text) l.numbers) (line_start l.lines l.i) l.end l.s l.k
+
+abbrev pub decreases-loop-k : goal.decreases-loop-k
+decreases-loop-k l = l.end - l.k

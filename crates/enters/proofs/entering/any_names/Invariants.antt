@@ -1,0 +1,15 @@
+-- `enters::entering::any_names` meets its contract. Its invariant: what is left to look at.
+-- Assumes nothing.
+use mathlib.Core.Path.{◌≡◌}
+use Prim.Native.Nat.{◌-◌}
+use lib.ListN.{length, drop}
+use Rattle.definitions.specs.Lists.{any}
+use Rattle.definitions.specs.Columns.{listing}
+use Rattle.enters.specs.Inside.{names}
+use Rattle.enters.proofs.entering.any_names.Given as goal
+
+abbrev pub invariant-loop-k : goal.invariant-loop-k
+invariant-loop-k l = any (names (listing l.lines l.tokens l.text) l.s) l.labels ≡ any (names (listing l.lines l.tokens l.text) l.s) (drop l.k l.labels)
+
+abbrev pub decreases-loop-k : goal.decreases-loop-k
+decreases-loop-k l = length l.labels - l.k

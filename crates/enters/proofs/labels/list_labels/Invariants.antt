@@ -1,0 +1,15 @@
+-- `enters::labels::list_labels` meets its contract. The labels listed, then those of the words that are left, are all.
+-- Assumes nothing.
+use mathlib.Core.Path.{◌≡◌}
+use mathlib.Core.List.{◌++◌}
+use Prim.Native.Nat.{◌-◌, ◌≤◌}
+use lib.ListN.{length, take, drop}
+use Rattle.definitions.specs.Columns.{listing}
+use Rattle.enters.specs.Inside.{labels}
+use Rattle.enters.proofs.labels.list_labels.Given as goal
+
+abbrev pub invariant-loop-k : goal.invariant-loop-k
+invariant-loop-k l = (l.m ≤ l.k) × (l.k ≤ length l.words) × (length l.list ≡ length l.initial.list) × (take l.m l.list ++ labels (listing l.lines l.tokens l.text) (drop l.k l.words) ≡ labels (listing l.lines l.tokens l.text) l.words)
+
+abbrev pub decreases-loop-k : goal.decreases-loop-k
+decreases-loop-k l = length l.words - l.k

@@ -1,0 +1,13 @@
+-- `enters::marks::mark_lines` meets its contract. Line by line.
+-- Assumes nothing.
+use Prim.Native.Nat.{◌-◌, ◌≤◌}
+use lib.ListN.{length}
+use Rattle.definitions.specs.Columns.{listing}
+use Rattle.enters.proofs.MarkRules.{Marking}
+use Rattle.enters.proofs.marks.mark_lines.Given as goal
+
+abbrev pub invariant-loop-i : goal.invariant-loop-i
+invariant-loop-i l = (l.i ≤ length l.lines) × Marking (listing l.lines l.tokens l.text) l.initial.marks l.marks l.i
+
+abbrev pub decreases-loop-i : goal.decreases-loop-i
+decreases-loop-i l = length l.lines - l.i

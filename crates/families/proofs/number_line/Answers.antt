@@ -1,0 +1,29 @@
+-- `families::number_line` meets its contract. The line's place is stored.
+-- Assumes nothing.
+use Rattle.families.proofs.Numbered.{place_rules}
+use borrow.Author.Rules.{rules}
+use Rattle.families.proofs.number_line.Goals as goal
+
+pub place_line-c-requires : goal.place_line-c-requires
+place_line-c-requires c = search (place_rules, rules)
+
+pub narrow-v-requires : goal.narrow-v-requires
+narrow-v-requires c = search (place_rules, rules)
+
+pub offset_bounds-defs-i : goal.offset_bounds-defs-i
+offset_bounds-defs-i c = search (place_rules, rules)
+
+pub bounds-defs-i : goal.bounds-defs-i
+bounds-defs-i c = search (place_rules, rules)
+
+pub greater-requires : goal.greater-requires
+greater-requires c = search (place_rules, rules)
+
+pub shape_of-table : goal.shape_of-table
+shape_of-table c = search (place_rules, rules)
+
+pub shape_of-defs : goal.shape_of-defs
+shape_of-defs c = search (place_rules, rules)
+
+pub returns : goal.returns
+returns c = search (place_rules, rules)

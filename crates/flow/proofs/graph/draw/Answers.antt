@@ -1,0 +1,50 @@
+use Prim.Native.Nat.{◌+◌, ◌-◌}
+use mathlib.Core.Path.{refl, ◌∙◌}
+use mathlib.Core.Bool.{false≢true}
+use native.Mathlib.Omega.{arith}
+use borrow.Author.Rules.{rules}
+use lib.ListN.{length}
+use Rattle.definitions.specs.FlowGraph.{successors}
+use Rattle.definitions.specs.Lists.{member}
+use Rattle.definitions.specs.Columns.{listing}
+use Rattle.model.proofs.Decode.{length_listing}
+use Rattle.line_steps.specs.Drawing.{rest, line_edges}
+use Rattle.blocks.specs.Structure.{blocks_of}
+use Rattle.flow.proofs.Graphs.{rest_next, rest_end, rest_all, lines_leading}
+use Rattle.line_steps.proofs.Drawings.{matrices_kept, drawn_as, drawing_start, drawing_next, drawing_end}
+use Rattle.flow.proofs.graph.draw.Goals as goal
+
+pub loop-i-init : goal.loop-i-init
+loop-i-init c = let a = c.args in
+    let L = listing a.lines.now a.tokens.now a.text.now in
+    (search rules, refl, search (lines_leading, rules), drawing_start (length a.lines.now) a.r a.space.now (rest L (blocks_of L) 0))
+
+pub line_steps-requires : goal.line_steps-requires
+line_steps-requires c = let a = c.args in
+    ((matrices_kept (length a.lines.now) a.r a.space.now c.loop-i.space c.requires.0 c.loop-i.invariant.1, search rules), c.requires.1)
+
+pub loop-i-preserved : goal.loop-i-preserved
+loop-i-preserved c = let a = c.args in
+    let l = c.loop-i in
+    let L = listing a.lines.now a.tokens.now a.text.now in
+    let E = c.line_steps.ensures.1 c.if-line_steps.true in (
+      search rules,
+      c.line_steps.auto.1.1.1.1.1.1.1.1.0 ∙ l.invariant.1,
+      search (lines_leading, rules),
+      drawing_next (length a.lines.now) a.r a.space.now (rest L (blocks_of L) 0) l.space (rest L (blocks_of L) l.i) l.invariant.3 _ (line_edges L (blocks_of L) l.i) (rest L (blocks_of L) (l.i + 1)) E
+          (λ p q hp hq. rest_next L (blocks_of L) l.i p q),
+    )
+
+pub returns-else-line_steps : goal.returns-else-line_steps
+returns-else-line_steps c = (search (lines_leading, rules), λ z. absurd (false≢true z))
+
+pub returns : goal.returns
+returns c = let a = c.args in
+    let l = c.loop-i in
+    let L = listing a.lines.now a.tokens.now a.text.now in
+    let n = length_listing a.lines.now a.tokens.now a.text.now in (
+      search (lines_leading, rules),
+      λ z. drawn_as (length a.lines.now) a.r a.space.now l.space (rest L (blocks_of L) 0) (λ i j. member j (successors L (blocks_of L) i))
+          (drawing_end (length a.lines.now) a.r a.space.now (rest L (blocks_of L) 0) l.space (rest L (blocks_of L) l.i) l.invariant.3 (λ p q hp hq. rest_end L (blocks_of L) (length a.lines.now) l.i p q (omega (arith, c.loop-i-test.false)) hp hq))
+          (λ p q hp hq. rest_all L (blocks_of L) p q (omega arith)),
+    )

@@ -1,0 +1,15 @@
+-- `goto_targets::seeking::seek_tokens` meets its contract. Its invariant: what is left to look at.
+-- Assumes nothing.
+use mathlib.Core.Path.{◌≡◌}
+use Prim.Native.Nat.{◌-◌}
+use Rattle.definitions.specs.Lists.{part}
+use Rattle.definitions.specs.Model.{line}
+use Rattle.definitions.specs.Columns.{listing}
+use Rattle.goto_targets.specs.Seek.{seek, told}
+use Rattle.goto_targets.proofs.seeking.seek_tokens.Given as goal
+
+abbrev pub invariant-loop-j : goal.invariant-loop-j
+invariant-loop-j l = seek (told (listing l.lines l.tokens l.text) l.initial.r) (part 0 l.n (line (listing l.lines l.tokens l.text) l.i).tokens) ≡ seek (told (listing l.lines l.tokens l.text) l.r) (part l.j l.n (line (listing l.lines l.tokens l.text) l.i).tokens)
+
+abbrev pub decreases-loop-j : goal.decreases-loop-j
+decreases-loop-j l = l.n - l.j

@@ -1,0 +1,17 @@
+-- `goto_turns::labels::rebuild` meets its contract. The body, then the header.
+-- Assumes nothing.
+use Rattle.goto_turns.proofs.LoopRules.{rebuild_calls, rebuilt_go, rebuilt_beyond, rebuilt_deep}
+use native.Mathlib.Omega.{arith}
+use Rattle.goto_turns.proofs.labels.rebuild.Goals as goal
+
+pub returns-then-indent-eq254 : goal.returns-then-indent-eq254
+returns-then-indent-eq254 c = rebuilt_deep _ _ _ _ _ _ _ c.requires _ c.indent.ensures.0 c.if-indent-eq254.true _
+
+pub make_loop-m-requires : goal.make_loop-m-requires
+make_loop-m-requires c = let p = c.requires in let z = rebuild_calls _ _ _ _ _ _ _ p _ c.rewrite.ensures.0 c.if-rewrite.true _ c.rewrite.ensures.1 in ((omega (arith, p.far, p.within), omega (arith, p.labelled.fits, c.rewrite.auto.1.1.1.0), p.labelled.formed, z.0), z.1)
+
+pub returns-then-rewrite : goal.returns-then-rewrite
+returns-then-rewrite c = rebuilt_go _ _ _ _ _ _ _ c.requires _ c.rewrite.ensures.0 c.if-rewrite.true _ c.rewrite.ensures.1 _ c.indent.ensures.0 c.if-indent-eq254.false _ _ c.make_loop-m.ensures
+
+pub returns-else-rewrite : goal.returns-else-rewrite
+returns-else-rewrite c = rebuilt_beyond _ _ _ _ _ _ _ c.requires _ c.rewrite.ensures.0 c.if-rewrite.false _

@@ -1,0 +1,16 @@
+-- `goto_turns::turns::goto_turn` meets its contract. By its tests.
+-- Assumes nothing.
+use Rattle.goto_turns.proofs.TurnRules.{turn_plain, turn_beyond, turn_calls, turn_loop}
+use Rattle.goto_turns.proofs.turns.goto_turn.Goals as goal
+
+pub returns-then-indent-eq255 : goal.returns-then-indent-eq255
+returns-then-indent-eq255 c = let p = c.requires in turn_beyond _ _ _ _ _ _ p.0.0 p.0.2 p.1.0 _ c.label_word.ensures c.if-label_word.true _ c.indent.ensures.0 c.if-indent-eq255.true _
+
+pub find_loop-requires : goal.find_loop-requires
+find_loop-requires c = let p = c.requires in let z = turn_calls _ _ _ _ _ _ p.0.0 p.0.2 p.1.0 _ c.label_word.ensures c.if-label_word.true _ c.indent.ensures.0 c.if-indent-eq255.false p.0.1 p.0.3 in (z.0, (z.1, p.1.1))
+
+pub returns-then-label_word : goal.returns-then-label_word
+returns-then-label_word c = let p = c.requires in turn_loop _ _ _ _ _ _ p.0.0 p.0.2 p.1.0 _ c.label_word.ensures c.if-label_word.true _ c.indent.ensures.0 c.if-indent-eq255.false _ _ c.find_loop.ensures
+
+pub returns : goal.returns
+returns c = let p = c.requires in turn_plain _ _ _ _ _ _ p.0.0 p.0.2 p.1.0 _ c.label_word.ensures c.if-label_word.false

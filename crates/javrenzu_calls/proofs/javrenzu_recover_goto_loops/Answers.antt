@@ -1,0 +1,11 @@
+-- `javrenzu_calls::javrenzu_recover_goto_loops` meets its contract. Assumes nothing.
+use Rattle.definitions.specs.Answers.{goto_loops}
+use Rattle.definitions.specs.Calls.{pass_call}
+use Rattle.write.specs.Holds.{columns}
+use Rattle.javrenzu_calls.proofs.Crossed.{pass_crossed}
+use Rattle.javrenzu_calls.proofs.javrenzu_recover_goto_loops.Goals as goal
+
+pub returns : goal.returns
+returns c = let a = c.args in
+    let R = c.recover_goto_loops-answer in
+    pass_crossed (pass_call goto_loops (columns a.lines.now a.addresses.now a.tokens.now a.text.now) (columns a.rows.now a.places.now a.words.now a.bytes.now)) R.result _ R.ensures _ _ c.pass_number.ensures.0 c.pass_number.ensures.1

@@ -1,0 +1,23 @@
+-- `json_lines::tokens::token` meets its contract.
+-- Assumes nothing.
+use Rattle.json_lines.proofs.MemberRules.{members, token_in}
+use Rattle.json_scan.proofs.Rules.{steps}
+use borrow.Author.Rules.{rules}
+use Rattle.json_lines.specs.Answers.{token_rest}
+use Rattle.json_lines.proofs.tokens.token.Goals as goal
+
+pub returns-in_default : goal.returns-in_default
+unfolding token_rest
+returns-in_default c = search (members, steps, rules) depth 12
+
+pub returns-in_default-string : goal.returns-in_default-string
+unfolding token_rest
+returns-in_default-string c = search (members, steps, rules) depth 12
+
+pub returns-in_default-token_kind : goal.returns-in_default-token_kind
+unfolding token_rest
+returns-in_default-token_kind c = search (members, steps, rules) depth 12
+
+pub returns : goal.returns
+unfolding token_rest
+returns c = (search (members, steps, rules) depth 12, (search (members, steps, rules), token_in _ _ _ _ _ _ _ _ _ _ c.j-1.given.1 c.string.ensures.1.1 c.v-1.given.1 c.token_kind.ensures))

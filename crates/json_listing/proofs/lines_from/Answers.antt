@@ -1,0 +1,169 @@
+use Rattle.json_listing.proofs.LoopRules.{listings}
+use borrow.Author.Rules.{rules}
+use Rattle.json_listing.specs.InColumns.{listing_read}
+use Prim.Native.Nat.{◌-◌}
+use Rattle.json_listing.proofs.lines_from.Goals as goal
+
+pub loop-k-init : goal.loop-k-init
+unfolding listing_read
+loop-k-init c = search (listings, rules)
+
+pub shape_of-lines-then-addresses-k : goal.shape_of-lines-then-addresses-k
+unfolding listing_read
+shape_of-lines-then-addresses-k c = search (listings, rules)
+
+pub shape_of-addresses-then-addresses-k : goal.shape_of-addresses-then-addresses-k
+unfolding listing_read
+shape_of-addresses-then-addresses-k c = search (listings, rules)
+
+pub shape_of-tokens-then-addresses-k : goal.shape_of-tokens-then-addresses-k
+unfolding listing_read
+shape_of-tokens-then-addresses-k c = search (listings, rules)
+
+pub shape_of-text-then-addresses-k : goal.shape_of-text-then-addresses-k
+unfolding listing_read
+shape_of-text-then-addresses-k c = search (listings, rules)
+
+pub returns-then-addresses-k : goal.returns-then-addresses-k
+unfolding listing_read
+returns-then-addresses-k c = search (listings, rules)
+
+pub line-requires : goal.line-requires
+unfolding listing_read
+line-requires c = search (listings, rules)
+
+pub enum_known-j : goal.enum_known-j
+unfolding listing_read
+enum_known-j c = search (listings, rules)
+
+pub enum_told-1 : goal.enum_told-1
+unfolding listing_read
+enum_told-1 c = search (listings, rules)
+
+pub shape_of-lines-in_default : goal.shape_of-lines-in_default
+unfolding listing_read
+shape_of-lines-in_default c = search (listings, rules)
+
+pub shape_of-addresses-in_default : goal.shape_of-addresses-in_default
+unfolding listing_read
+shape_of-addresses-in_default c = search (listings, rules)
+
+pub shape_of-tokens-in_default : goal.shape_of-tokens-in_default
+unfolding listing_read
+shape_of-tokens-in_default c = search (listings, rules)
+
+pub shape_of-text-in_default : goal.shape_of-text-in_default
+unfolding listing_read
+shape_of-text-in_default c = search (listings, rules)
+
+pub returns-in_default : goal.returns-in_default
+unfolding listing_read
+returns-in_default c = search (listings, rules)
+
+pub line_word-requires : goal.line_word-requires
+unfolding listing_read
+line_word-requires c = search (listings, rules)
+
+pub offset_bounds-lines-k : goal.offset_bounds-lines-k
+unfolding listing_read
+offset_bounds-lines-k c = search (listings, rules)
+
+pub bounds-lines-k : goal.bounds-lines-k
+unfolding listing_read
+bounds-lines-k c = search (listings, rules)
+
+pub offset_bounds-addresses-k : goal.offset_bounds-addresses-k
+unfolding listing_read
+offset_bounds-addresses-k c = search (listings, rules)
+
+pub bounds-addresses-k : goal.bounds-addresses-k
+unfolding listing_read
+bounds-addresses-k c = search (listings, rules)
+
+pub overflow_add-k : goal.overflow_add-k
+unfolding listing_read
+overflow_add-k c = search (listings, rules)
+
+pub separator-requires : goal.separator-requires
+unfolding listing_read
+separator-requires c = search (listings, rules)
+
+pub enum_known-l : goal.enum_known-l
+unfolding listing_read
+enum_known-l c = search (listings, rules)
+
+pub shape_of-lines-in-Close : goal.shape_of-lines-in-Close
+unfolding listing_read
+shape_of-lines-in-Close c = search (listings, rules)
+
+pub shape_of-addresses-in-Close : goal.shape_of-addresses-in-Close
+unfolding listing_read
+shape_of-addresses-in-Close c = search (listings, rules)
+
+pub shape_of-tokens-in-Close : goal.shape_of-tokens-in-Close
+unfolding listing_read
+shape_of-tokens-in-Close c = search (listings, rules)
+
+pub shape_of-text-in-Close : goal.shape_of-text-in-Close
+unfolding listing_read
+shape_of-text-in-Close c = search (listings, rules)
+
+pub returns-in-Close : goal.returns-in-Close
+unfolding listing_read
+returns-in-Close c = search (listings, rules)
+
+pub enum_told-in-NoSep : goal.enum_told-in-NoSep
+unfolding listing_read
+enum_told-in-NoSep c = search (listings, rules)
+
+pub shape_of-lines-in-NoSep : goal.shape_of-lines-in-NoSep
+unfolding listing_read
+shape_of-lines-in-NoSep c = search (listings, rules)
+
+pub shape_of-addresses-in-NoSep : goal.shape_of-addresses-in-NoSep
+unfolding listing_read
+shape_of-addresses-in-NoSep c = search (listings, rules)
+
+pub shape_of-tokens-in-NoSep : goal.shape_of-tokens-in-NoSep
+unfolding listing_read
+shape_of-tokens-in-NoSep c = search (listings, rules)
+
+pub shape_of-text-in-NoSep : goal.shape_of-text-in-NoSep
+unfolding listing_read
+shape_of-text-in-NoSep c = search (listings, rules)
+
+pub returns-in-NoSep : goal.returns-in-NoSep
+unfolding listing_read
+returns-in-NoSep c = search (listings, rules)
+
+pub enum_known-l-in-More-1 : goal.enum_known-l-in-More-1
+unfolding listing_read
+enum_known-l-in-More-1 c = search (listings, rules)
+
+pub loop-k-smaller : goal.loop-k-smaller
+unfolding listing_read
+loop-k-smaller c = search (listings, rules)
+
+pub loop-k-preserved : goal.loop-k-preserved
+unfolding listing_read
+loop-k-preserved c = search (listings, rules)
+
+pub shape_of-lines : goal.shape_of-lines
+unfolding listing_read
+shape_of-lines c = search (listings, rules)
+
+pub shape_of-addresses : goal.shape_of-addresses
+unfolding listing_read
+shape_of-addresses c = search (listings, rules)
+
+pub shape_of-tokens : goal.shape_of-tokens
+unfolding listing_read
+shape_of-tokens c = search (listings, rules)
+
+pub shape_of-text : goal.shape_of-text
+unfolding listing_read
+shape_of-text c = search (listings, rules)
+
+pub returns : goal.returns
+unfolding listing_read
+returns c = search (listings, rules)

@@ -1,0 +1,7 @@
+-- `json_read::zero_rest` meets its contract.
+-- Assumes nothing.
+use borrow.Author.Rules.{rules}
+use Rattle.json_read.proofs.zero_rest.Goals as goal
+
+pub returns : goal.returns
+returns c = (search rules, (search rules, (search rules, search rules)))

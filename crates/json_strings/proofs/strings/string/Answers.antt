@@ -1,0 +1,26 @@
+-- `json_strings::strings::string` meets its contract.
+-- Assumes nothing.
+use Rattle.json_strings.proofs.StringRules.{texts}
+use borrow.Author.Rules.{rules}
+use Rattle.json_strings.proofs.strings.string.Goals as goal
+
+pub lexeme-requires : goal.lexeme-requires
+lexeme-requires c = search (texts, rules)
+
+pub enum_known-i : goal.enum_known-i
+enum_known-i c = search (texts, rules)
+
+pub enum_told-1 : goal.enum_told-1
+enum_told-1 c = search (texts, rules)
+
+pub returns-in_default : goal.returns-in_default
+returns-in_default c = search (texts, rules)
+
+pub characters-requires : goal.characters-requires
+characters-requires c = search (texts, rules)
+
+pub shape_of-text : goal.shape_of-text
+shape_of-text c = search (texts, rules)
+
+pub returns : goal.returns
+returns c = search (texts, rules)

@@ -1,0 +1,14 @@
+-- `json_write::lines::put_lines` meets its contract. What is written, and what is left at i, are the whole.
+-- Assumes nothing.
+use Rattle.json_write.proofs.ElementRules.{Going}
+use Rattle.json_write.specs.Answers.{lines_of}
+use Rattle.json_definitions.specs.Writer.{line_text}
+use Prim.Native.Nat.{◌-◌}
+use lib.ListN.{length}
+use Rattle.json_write.proofs.lines.put_lines.Given as goal
+
+abbrev pub invariant-loop-i : goal.invariant-loop-i
+invariant-loop-i l = Going line_text (lines_of l.lines l.addresses l.tokens l.text) l.from (length l.lines) l.initial.out l.at l.out l.to l.i
+
+abbrev pub decreases-loop-i : goal.decreases-loop-i
+decreases-loop-i l = length l.lines - l.i

@@ -1,0 +1,14 @@
+-- `json_write::sizes::heads_size` meets its contract. Its loop: n is the sum over the first i lines.
+-- Assumes nothing.
+use Prim.Native.Nat.{◌-◌}
+use lib.ListN.{length}
+use Rattle.json_write.specs.Answers.{lines_of}
+use Rattle.json_write.specs.Sizes.{head_size}
+use Rattle.json_append.proofs.Sums.{Counted}
+use Rattle.json_write.proofs.sizes.heads_size.Given as goal
+
+abbrev pub invariant-loop-i : goal.invariant-loop-i
+invariant-loop-i l = Counted head_size 75 (lines_of l.lines l.addresses l.tokens l.text) l.n l.i
+
+abbrev pub decreases-loop-i : goal.decreases-loop-i
+decreases-loop-i l = length l.lines - l.i

@@ -1,0 +1,11 @@
+-- `labels::gotos::is_goto` meets its contract. Assumes nothing.
+use borrow.Author.Rules.{rules}
+use Rattle.text.proofs.Bools.{bools}
+use Rattle.pseudo_opt.proofs.Rules.{texts}
+use Rattle.labels.proofs.gotos.is_goto.Goals as goal
+
+pub returns-then-token_kind-ne3 : goal.returns-then-token_kind-ne3
+returns-then-token_kind-ne3 c = search (bools, texts, rules)
+
+pub returns : goal.returns
+returns c = search (bools, texts, rules)

@@ -1,0 +1,7 @@
+-- `labels::gotos::is_symbol` meets its contract. Assumes nothing.
+use borrow.Author.Rules.{rules}
+use Rattle.text.proofs.Bools.{bools}
+use Rattle.labels.proofs.gotos.is_symbol.Goals as goal
+
+pub returns : goal.returns
+returns c = search (bools, rules)

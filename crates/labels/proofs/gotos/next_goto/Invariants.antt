@@ -1,0 +1,13 @@
+-- `labels::gotos::next_goto` meets its contract. The answer is what is left to look for from place k on. Assumes nothing.
+use Prim.Native.Nat.{◌-◌, ◌≤◌}
+use mathlib.Core.Path.{◌≡◌}
+use Rattle.definitions.specs.Columns.{token_list}
+use Rattle.definitions.specs.Lists.{part}
+use Rattle.definitions.specs.Statements.{targets}
+use Rattle.labels.proofs.gotos.next_goto.Given as goal
+
+abbrev pub invariant-loop-k : goal.invariant-loop-k
+invariant-loop-k l = (l.from ≤ l.k) × (targets (part l.from l.e (token_list l.tokens l.text)) ≡ targets (part l.k l.e (token_list l.tokens l.text)))
+
+abbrev pub decreases-loop-k : goal.decreases-loop-k
+decreases-loop-k l = l.e - l.k

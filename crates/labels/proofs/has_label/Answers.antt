@@ -1,0 +1,9 @@
+-- `labels::has_label` meets its contract. Assumes nothing.
+use borrow.Author.Rules.{rules}
+use Rattle.definitions.specs.Statements.{is_label}
+use Rattle.model.proofs.Ands.{ands}
+use Rattle.labels.proofs.has_label.Goals as goal
+
+pub returns-then-token_count-ne2 : goal.returns-then-token_count-ne2
+unfolding is_label
+returns-then-token_count-ne2 c = search (ands, rules) depth 8

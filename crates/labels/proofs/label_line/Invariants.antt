@@ -1,0 +1,14 @@
+-- `labels::label_line` meets its contract. The answer is what is left to find from the entry p on, which only falls. Assumes nothing.
+use Prim.Native.Nat.{◌≤◌, ◌-◌}
+use mathlib.Core.Path.{◌≡◌}
+use lib.ListN.{length}
+use Rattle.definitions.specs.FlowGraph.{label_line}
+use Rattle.definitions.specs.Columns.{listing}
+use Rattle.labels.specs.Buckets.{lookup}
+use Rattle.labels.proofs.label_line.Given as goal
+
+abbrev pub invariant-loop-p : goal.invariant-loop-p
+invariant-loop-p l = (l.p ≤ length l.lines) × (label_line (listing l.lines l.tokens l.text) l.s ≡ lookup (listing l.lines l.tokens l.text) l.nexts l.p l.p l.s)
+
+abbrev pub decreases-loop-p : goal.decreases-loop-p
+decreases-loop-p l = l.p

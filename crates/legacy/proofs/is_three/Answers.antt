@@ -1,0 +1,18 @@
+-- `legacy::is_three` meets its contract.
+-- Assumes nothing.
+use Rattle.text.proofs.Bools.{bools}
+use Rattle.legacy.proofs.Table.{table_rules}
+use borrow.Author.Rules.{rules}
+use Rattle.legacy.proofs.is_three.Goals as goal
+
+pub returns-then-s-ne3 : goal.returns-then-s-ne3
+returns-then-s-ne3 c = search (table_rules, bools, rules)
+
+pub returns-then-s-a : goal.returns-then-s-a
+returns-then-s-a c = search (table_rules, bools, rules)
+
+pub returns-then-s-b : goal.returns-then-s-b
+returns-then-s-b c = search (table_rules, bools, rules)
+
+pub returns : goal.returns
+returns c = search (table_rules, bools, rules)

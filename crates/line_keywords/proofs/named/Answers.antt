@@ -1,0 +1,11 @@
+-- `line_keywords::named` meets its contract.
+-- Assumes nothing.
+use Rattle.text.proofs.Bools.{bools}
+use borrow.Author.Rules.{rules}
+use Rattle.line_keywords.proofs.named.Goals as goal
+
+pub returns-then-equal : goal.returns-then-equal
+returns-then-equal c = search (bools, rules)
+
+pub returns-else-equal : goal.returns-else-equal
+returns-else-equal c = search (bools, rules)

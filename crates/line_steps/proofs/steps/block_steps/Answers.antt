@@ -1,0 +1,25 @@
+-- `line_steps::steps::block_steps` meets its contract. Assumes nothing.
+use mathlib.Core.List.{◌∷◌, ◌++◌}
+use mathlib.Core.Path.{◌∙◌}
+use native.Mathlib.Omega.{arith}
+use lib.ListN.{length, get_or}
+use Rattle.definitions.specs.FlowGraph.{falls, past_end, cases}
+use Rattle.definitions.specs.Columns.{listing}
+use Rattle.model.proofs.Decode.{length_listing}
+use Rattle.blocks.specs.Structure.{blocks_of}
+use Rattle.line_steps.specs.Drawing.{after}
+use Rattle.line_steps.proofs.Edges.{steps_as, steps_append, past_end_entry}
+use Rattle.line_steps.proofs.Drawings.{matrices_kept}
+use Rattle.line_steps.proofs.steps.block_steps.Goals as goal
+
+pub cases-requires : goal.cases-requires
+cases-requires c = let a = c.args in
+    ((matrices_kept (length a.lines.now) a.r a.space.now _ c.requires.0.0 (c.past_end.auto.1.0 ∙ c.step.auto.0), c.requires.0.1, c.requires.0.2, c.requires.0.3), c.requires.1)
+
+pub returns : goal.returns
+returns c = let a = c.args in
+    let n = length_listing a.lines.now a.tokens.now a.text.now in
+    steps_append (length a.lines.now) a.r a.i (falls (listing a.lines.now a.tokens.now a.text.now) (blocks_of (listing a.lines.now a.tokens.now a.text.now)) a.i ++ past_end (blocks_of (listing a.lines.now a.tokens.now a.text.now)) a.i) (cases (listing a.lines.now a.tokens.now a.text.now) (blocks_of (listing a.lines.now a.tokens.now a.text.now)) a.i) _ _ _
+    (steps_append (length a.lines.now) a.r a.i (falls (listing a.lines.now a.tokens.now a.text.now) (blocks_of (listing a.lines.now a.tokens.now a.text.now)) a.i) (past_end (blocks_of (listing a.lines.now a.tokens.now a.text.now)) a.i) _ _ _ (steps_as (length a.lines.now) a.r a.i (falls (listing a.lines.now a.tokens.now a.text.now) (blocks_of (listing a.lines.now a.tokens.now a.text.now)) a.i) (c.falls_to-t.result ∷ []) _ _ c.falls_to-t.ensures c.step.ensures)
+    (steps_as (length a.lines.now) a.r a.i (past_end (blocks_of (listing a.lines.now a.tokens.now a.text.now)) a.i) (after (get_or a.ends.now a.i 0)) _ _ (past_end_entry (listing a.lines.now a.tokens.now a.text.now) (blocks_of (listing a.lines.now a.tokens.now a.text.now)) a.ends.now c.requires.1 a.i (omega (arith, n, c.requires.0.1))) c.past_end.ensures))
+    c.cases.ensures

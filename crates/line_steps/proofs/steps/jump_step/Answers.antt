@@ -1,0 +1,10 @@
+-- `line_steps::steps::jump_step` meets its contract. Assumes nothing.
+use borrow.Author.Rules.{rules}
+use Rattle.line_steps.proofs.Edges.{jump_some, jump_none, leads_yes, leads_no}
+use Rattle.line_steps.proofs.steps.jump_step.Goals as goal
+
+pub returns-in-At : goal.returns-in-At
+returns-in-At c = search (jump_some, leads_yes, rules)
+
+pub returns-in-Missing : goal.returns-in-Missing
+returns-in-Missing c = search (jump_none, leads_no, rules)

@@ -1,0 +1,16 @@
+-- `line_steps::steps::leaves` meets its contract. Assumes nothing.
+use native.Mathlib.Omega.{arith}
+use lib.ListN.{length}
+use Rattle.definitions.specs.Columns.{listing}
+use Rattle.model.proofs.Decode.{length_listing}
+use Rattle.blocks.specs.Structure.{blocks_of}
+use Rattle.line_steps.proofs.Edges.{leaves_yes, leaves_no}
+use Rattle.line_steps.proofs.steps.leaves.Goals as goal
+
+pub returns-then-leaves_block : goal.returns-then-leaves_block
+returns-then-leaves_block c = let a = c.args in
+    leaves_yes (listing a.lines.now a.tokens.now a.text.now) (blocks_of (listing a.lines.now a.tokens.now a.text.now)) a.ends.now a.parents.now c.requires.1.0 c.requires.1.1 a.i (omega (arith, length_listing a.lines.now a.tokens.now a.text.now)) (length a.lines.now) a.r c.leaves_block.result c.leaves_block.ensures _ _ c.if-leaves_block.true c.leave_all.ensures
+
+pub returns-else-leaves_block : goal.returns-else-leaves_block
+returns-else-leaves_block c = let a = c.args in
+    leaves_no (listing a.lines.now a.tokens.now a.text.now) (blocks_of (listing a.lines.now a.tokens.now a.text.now)) a.ends.now a.parents.now c.requires.1.0 c.requires.1.1 a.i (omega (arith, length_listing a.lines.now a.tokens.now a.text.now)) (length a.lines.now) a.r c.leaves_block.result c.leaves_block.ensures _ c.if-leaves_block.false

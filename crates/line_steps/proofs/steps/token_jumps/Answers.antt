@@ -1,0 +1,21 @@
+use Prim.Native.Nat.{◌-◌}
+use mathlib.Core.Bool.{false≢true}
+use borrow.Author.Rules.{rules}
+use Rattle.line_steps.proofs.Edges.{jumping}
+use Rattle.line_steps.proofs.Drawings.{matrices_kept}
+use Rattle.line_steps.proofs.steps.token_jumps.Goals as goal
+
+pub loop-k-init : goal.loop-k-init
+loop-k-init c = search (jumping, rules)
+
+pub jump_step-requires : goal.jump_step-requires
+jump_step-requires c = ((search (matrices_kept, rules), search rules, search rules, search rules, search rules), search rules)
+
+pub loop-k-preserved : goal.loop-k-preserved
+loop-k-preserved c = search (jumping, rules)
+
+pub returns-else-jump_step : goal.returns-else-jump_step
+returns-else-jump_step c = (search (jumping, rules), λ z. absurd (false≢true z))
+
+pub returns : goal.returns
+returns c = (search (jumping, rules), λ z. search (jumping, rules))

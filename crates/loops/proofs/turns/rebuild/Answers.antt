@@ -1,0 +1,24 @@
+-- `loops::turns::rebuild` meets its contract. The words are changed, then `to_for`.
+-- Assumes nothing.
+use Rattle.loops.proofs.TurnRules.{ready_header, rebuild_calls, rebuilt_go, rebuilt_beyond}
+use native.Mathlib.Omega.{arith}
+use mathlib.Core.Path.{◌∙◌}
+use Rattle.loops.proofs.turns.rebuild.Goals as goal
+
+pub unwrap-requires : goal.unwrap-requires
+unwrap-requires c = let p = c.requires in (p.0.0, omega (arith, p.0.1), p.0.2, ready_header _ _ _ (omega (arith, p.0.0, p.0.1)) p.0.2 p.1.0)
+
+pub to_for-m-requires : goal.to_for-m-requires
+to_for-m-requires c = let p = c.requires in ((omega (arith, p.0.0, p.0.1), omega (arith, p.0.2, c.unwrap.auto.0), p.0.3), (rebuild_calls _ _ _ _ p.0.0 p.0.1 p.0.2 p.1.0 _ c.unwrap.ensures.0 _ c.if-unwrap.true c.unwrap.ensures.1, p.1.1))
+
+pub shape_of-plan-then-unwrap : goal.shape_of-plan-then-unwrap
+shape_of-plan-then-unwrap c = c.to_for-m.auto.1.1.1.1.0 ∙ c.unwrap.auto.0
+
+pub returns-then-unwrap : goal.returns-then-unwrap
+returns-then-unwrap c = let p = c.requires in rebuilt_go _ _ _ _ p.0.0 p.0.1 p.0.2 p.1.0 _ c.unwrap.ensures.0 _ c.if-unwrap.true c.unwrap.ensures.1 _ _ _ _ _ c.to_for-m.ensures
+
+pub shape_of-plan-else-unwrap : goal.shape_of-plan-else-unwrap
+shape_of-plan-else-unwrap c = c.unwrap.auto.0
+
+pub returns-else-unwrap : goal.returns-else-unwrap
+returns-else-unwrap c = let p = c.requires in rebuilt_beyond _ _ _ _ p.0.0 p.0.1 p.0.2 p.1.0 _ c.unwrap.ensures.0 c.if-unwrap.false _ _ _ _

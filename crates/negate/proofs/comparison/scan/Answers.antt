@@ -1,0 +1,32 @@
+use mathlib.Core.Path.{refl}
+use Rattle.definitions.specs.Condition.{comparisons}
+use Rattle.negate.proofs.TestTokens.{test_short}
+use Rattle.model.proofs.Decode.{token_short}
+use native.Mathlib.Omega.{arith}
+use borrow.Author.Rules.{rules}
+use Rattle.negate.specs.Comparisons.{numbered}
+use Rattle.definitions.specs.Columns.{listing}
+use Rattle.definitions.specs.Model.{line}
+use Prim.Native.Nat.{◌-◌}
+use Rattle.negate.proofs.Scanning.{scan_next, scan_end}
+use Rattle.negate.proofs.comparison.scan.Goals as goal
+
+pub loop-k-init : goal.loop-k-init
+unfolding numbered comparisons
+loop-k-init c = (search rules, refl, omega arith)
+
+pub scan_token-r-requires : goal.scan_token-r-requires
+scan_token-r-requires c = let a = c.args in
+    let n = token_short a.lines.now a.tokens.now a.text.now a.i (λ k. omega (arith, c.shared_slice_known-2-1.given k)) in
+    omega (arith, test_short (line (listing a.lines.now a.tokens.now a.text.now) a.i) a.m n c.loop-k.k)
+
+pub loop-k-preserved : goal.loop-k-preserved
+loop-k-preserved c = let a = c.args in
+    let n = token_short a.lines.now a.tokens.now a.text.now a.i (λ k. omega (arith, c.shared_slice_known-2-1.given k)) in (
+      search rules,
+      scan_next _ _ _ _ c.loop-k.invariant.1 _ c.scan_token-r.ensures.0 c.loop-k-test.true,
+      omega (arith, test_short (line (listing a.lines.now a.tokens.now a.text.now) a.i) a.m n c.loop-k.k, c.scan_token-r.ensures.1),
+    )
+
+pub returns : goal.returns
+returns c = scan_end _ _ _ _ c.loop-k.invariant.1 c.loop-k-test.false

@@ -1,0 +1,19 @@
+use borrow.Author.Rules.{rules}
+use Prim.Native.Nat.{◌-◌}
+use Rattle.negate.proofs.Scanning.{texts}
+use Rattle.negate.proofs.comparison.scan_text.Goals as goal
+
+pub loop-i-init : goal.loop-i-init
+loop-i-init c = search (texts, rules)
+
+pub see_byte-t-requires : goal.see_byte-t-requires
+see_byte-t-requires c = search (texts, rules)
+
+pub loop-i-smaller : goal.loop-i-smaller
+loop-i-smaller c = search (texts, rules)
+
+pub loop-i-preserved : goal.loop-i-preserved
+loop-i-preserved c = search (texts, rules)
+
+pub returns : goal.returns
+returns c = search (texts, rules)

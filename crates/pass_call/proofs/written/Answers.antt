@@ -1,0 +1,16 @@
+-- `pass_call::written` meets its contract. Written, then zeroed behind.
+-- Assumes nothing.
+use Rattle.pass_call.proofs.Calling.{asked_all, written_is}
+use Rattle.write.specs.Holds.{columns}
+use Rattle.pass_call.proofs.written.Goals as goal
+
+pub emit-c-requires : goal.emit-c-requires
+emit-c-requires c = let g = c.args in
+    let C = columns g.lines.now g.addresses.now g.tokens.now g.text.now in
+    let O = columns g.rows.now g.places.now g.words.now g.bytes.now in
+    let p = c.requires in
+    let q = asked_all C O p.1.asked in
+    ((p.0.0, p.0.1, q.1), q.2)
+
+pub returns : goal.returns
+returns c = let g = c.args in let C = columns g.lines.now g.addresses.now g.tokens.now g.text.now in let O = columns g.rows.now g.places.now g.words.now g.bytes.now in written_is C O _ c.requires.1 _ c.emit-c.auto.1.1.1.1.1.1.0 c.emit-c.auto.1.1.1.1.1.1.1.0 c.emit-c.auto.1.1.1.1.1.1.1.1.0 c.emit-c.auto.1.1.1.1.1.1.1.1.1.0 _ _ c.emit-c.ensures c.finish.ensures

@@ -1,0 +1,44 @@
+-- `pieces::initial::line_passes` meets its contract. By its tests.
+-- Assumes nothing.
+use Rattle.pieces.proofs.InitialRules.{init_lines}
+use borrow.Author.Rules.{rules}
+use Rattle.pieces.proofs.initial.line_passes.Goals as goal
+
+pub assignment-requires : goal.assignment-requires
+assignment-requires c = search (init_lines, rules)
+
+pub enum_told-1 : goal.enum_told-1
+enum_told-1 c = search (init_lines, rules)
+
+pub enum_told-in_default : goal.enum_told-in_default
+enum_told-in_default c = search (init_lines, rules)
+
+pub returns-in_default : goal.returns-in_default
+returns-in_default c = search (init_lines, rules)
+
+pub token_names-requires : goal.token_names-requires
+token_names-requires c = search (init_lines, rules)
+
+pub returns-then-token_names : goal.returns-then-token_names
+returns-then-token_names c = search (init_lines, rules)
+
+pub line_names-requires : goal.line_names-requires
+line_names-requires c = search (init_lines, rules)
+
+pub returns-then-line_names : goal.returns-then-line_names
+returns-then-line_names c = search (init_lines, rules)
+
+pub call_at-requires : goal.call_at-requires
+call_at-requires c = search (init_lines, rules)
+
+pub enum_told-in-At : goal.enum_told-in-At
+enum_told-in-At c = search (init_lines, rules)
+
+pub enum_told-in-Nothing : goal.enum_told-in-Nothing
+enum_told-in-Nothing c = search (init_lines, rules)
+
+pub returns-in-At : goal.returns-in-At
+returns-in-At c = search (init_lines, rules)
+
+pub returns-in-Nothing : goal.returns-in-Nothing
+returns-in-Nothing c = search (init_lines, rules)

@@ -1,0 +1,16 @@
+-- `pseudo_opt::keywords::keyword_at` meets its contract. The answer is what is left to look for from place k on.
+-- Assumes nothing.
+use mathlib.Core.Path.{◌≡◌}
+use Prim.Native.Nat.{◌-◌, ◌≤◌}
+use Rattle.definitions.specs.Lists.{position}
+use Rattle.definitions.specs.Model.{line}
+use Rattle.definitions.specs.Columns.{listing}
+use Rattle.definitions.specs.Statements.{is_kw}
+use Rattle.pseudo_opt.proofs.Passes.{placed}
+use Rattle.pseudo_opt.proofs.keywords.keyword_at.Given as goal
+
+abbrev pub invariant-loop-k : goal.invariant-loop-k
+invariant-loop-k l = (l.s ≤ l.k) × (position (is_kw l.kw) (line (listing l.lines l.tokens l.text) l.i).tokens ≡ placed (is_kw l.kw) l.lines l.tokens l.text l.i l.s l.k)
+
+abbrev pub decreases-loop-k : goal.decreases-loop-k
+decreases-loop-k l = l.e - l.k

@@ -1,0 +1,36 @@
+-- `pseudo_ssa::numbered` meets its contract. Assumes nothing.
+use native.Mathlib.Omega.{arith}
+use lib.ListN.{length, length-take}
+use Rattle.model.proofs.Ands.{both}
+use Rattle.pseudo_ssa.proofs.Written.{part_length, numbered_done, numbered_over}
+use borrow.Author.Rules.{rules}
+use Rattle.pseudo_ssa.proofs.numbered.Goals as goal
+
+pub slice_bounds-recover-end-2 : goal.slice_bounds-recover-end-2
+slice_bounds-recover-end-2 c = rw length-take (omega (arith, c.requires.asked.numbers_room))
+
+pub slice_bounds-recover-end-4 : goal.slice_bounds-recover-end-4
+slice_bounds-recover-end-4 c = rw length-take (omega (arith, c.requires.asked.marks_room))
+
+pub recover-requires : goal.recover-requires
+recover-requires c = let a = c.args in
+    let R = c.requires in
+    let A = R.asked in
+    let t = length a.tokens.now in (
+      (R.two, A.lines, A.tokens, (both _ _ (both _ _ A.formed).0).0, R.row),
+      (A.space_room, part_length t a.numbers.now A.numbers_room, part_length t a.marks.now A.marks_room, R.drawn),
+    )
+
+pub returns-in-Done : goal.returns-in-Done
+returns-in-Done c = let a = c.args in
+    let R = c.recover in
+    let Z = c.zero in
+    numbered_done a.lines.now a.tokens.now a.text.now a.numbers.now a.marks.now a.space.now a.r a.budget c.requires
+    R.new.1.1.1.1.1.1.0 R.new.1.1.1.1.1.1.1.0 R.new.1.1.1.0 _ _ _ R.auto.1.1.1.1.1.1.0 R.auto.1.1.1.1.1.1.1.0 R.auto.1.1.1.0 Z.ensures.1.1 R.result _ R.ensures (search rules) Z.ensures.0 Z.ensures.1.0
+
+pub returns-in-OverBudget : goal.returns-in-OverBudget
+returns-in-OverBudget c = let a = c.args in
+    let R = c.recover in
+    let Z = c.zero-in-OverBudget in
+    numbered_over a.lines.now a.tokens.now a.text.now a.numbers.now a.marks.now a.space.now a.r a.budget c.requires
+    R.new.1.1.1.1.1.1.0 R.new.1.1.1.1.1.1.1.0 R.new.1.1.1.0 _ _ _ R.auto.1.1.1.1.1.1.0 R.auto.1.1.1.1.1.1.1.0 R.auto.1.1.1.0 Z.ensures.1.1 R.result R.ensures c.enum_told-1.given.1 Z.ensures.0 Z.ensures.1.0

@@ -1,0 +1,35 @@
+-- `recover::sets::link_line` meets its contract. By its calls.
+-- Assumes nothing.
+use mathlib.Core.Path.{sym}
+use native.Mathlib.Omega.{arith}
+use lib.Seq.{length-take-le}
+use Rattle.recover.proofs.LinkReads.{link_rules}
+use borrow.Author.Rules.{rules}
+use Rattle.recover.proofs.sets.link_line.Goals as goal
+
+pub reaching-m-requires : goal.reaching-m-requires
+reaching-m-requires c = search (link_rules, rules)
+
+pub slice_bounds-link-end : goal.slice_bounds-link-end
+slice_bounds-link-end c = search (link_rules, rules)
+
+pub slice_bounds-link-end-2 : goal.slice_bounds-link-end-2
+slice_bounds-link-end-2 c = sym (length-take-le c.reaching-m.result _ (omega (arith, c.reaching-m.ensures.few, c.reaching-m.auto.1.1.1.1.1.1.0, c.requires.2.sized.room)))
+
+pub link-requires : goal.link-requires
+link-requires c = search (link_rules, rules)
+
+pub shape_of-space : goal.shape_of-space
+shape_of-space c = search (link_rules, rules)
+
+pub shape_of-rep : goal.shape_of-rep
+shape_of-rep c = search (link_rules, rules)
+
+pub shape_of-set : goal.shape_of-set
+shape_of-set c = search (link_rules, rules)
+
+pub shape_of-marks : goal.shape_of-marks
+shape_of-marks c = search (link_rules, rules)
+
+pub returns : goal.returns
+returns c = search (link_rules, rules)

@@ -1,0 +1,39 @@
+use mathlib.Core.Path.{◌∙◌}
+use Prim.Native.Nat.{◌-◌}
+use native.Mathlib.Omega.{arith}
+use Rattle.recover.proofs.LinkReads.{link_rules, links_next, slices_next}
+use borrow.Author.Rules.{rules}
+use Rattle.recover.proofs.sets.link_reads.Goals as goal
+
+pub loop-j-init : goal.loop-j-init
+loop-j-init c = search (link_rules, rules)
+
+pub number-requires : goal.number-requires
+number-requires c = search (link_rules, rules)
+
+pub link_line-requires : goal.link_line-requires
+link_line-requires c = (c.loop-j.invariant.5.swept, rw c.number.ensures (c.requires.1 _ c.loop-j-test.true), c.loop-j.invariant.4)
+
+pub overflow_add-j : goal.overflow_add-j
+overflow_add-j c = omega (arith, c.loop-j-test.true, c.well-formed.1.1.1.1.1.0)
+
+pub loop-j-smaller : goal.loop-j-smaller
+loop-j-smaller c = search (link_rules, rules)
+
+pub loop-j-preserved : goal.loop-j-preserved
+loop-j-preserved c = (c.link_line.auto.0 ∙ c.loop-j.invariant.0, c.link_line.auto.1.1.1.1.1.1.0 ∙ c.loop-j.invariant.1, c.link_line.auto.1.1.1.1.1.1.1.0 ∙ c.loop-j.invariant.2, c.link_line.auto.1.1.1.1.1.1.1.1.0 ∙ c.loop-j.invariant.3, slices_next _ _ _ _ _ _ _ _ _ _ _ _ _ c.loop-j.invariant.4 c.link_line.ensures c.link_line.auto.1.1.1.1.1.1.0 c.link_line.auto.1.1.1.1.1.1.1.0 c.link_line.auto.1.1.1.1.1.1.1.1.0, links_next _ _ _ _ _ _ _ _ _ _ c.loop-j.invariant.5 _ _ _ c.loop-j-test.true c.number.ensures c.link_line.ensures)
+
+pub shape_of-space : goal.shape_of-space
+shape_of-space c = search (link_rules, rules)
+
+pub shape_of-rep : goal.shape_of-rep
+shape_of-rep c = search (link_rules, rules)
+
+pub shape_of-set : goal.shape_of-set
+shape_of-set c = search (link_rules, rules)
+
+pub shape_of-marks : goal.shape_of-marks
+shape_of-marks c = search (link_rules, rules)
+
+pub returns : goal.returns
+returns c = search (link_rules, rules)

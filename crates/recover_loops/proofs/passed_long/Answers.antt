@@ -1,0 +1,12 @@
+-- `recover_loops::passed_long` meets its contract. Fresh arrays have room for 1,024 lines.
+-- Assumes nothing.
+use Rattle.pass_call.proofs.Calling.{few_lines}
+use Rattle.write.specs.Holds.{columns}
+use Rattle.theory.proofs.ListLaws.{replicate_default}
+use Rattle.recover_loops.proofs.passed_long.Goals as goal
+
+pub masks-requires : goal.masks-requires
+masks-requires c = let g = c.args in (few_lines (columns g.lines.now g.addresses.now g.tokens.now g.text.now) (columns g.rows.now g.places.now g.words.now g.bytes.now) c.requires, λ k. replicate_default 1024 k 0)
+
+pub passed_in-requires : goal.passed_in-requires
+passed_in-requires c = let g = c.args in (few_lines (columns g.lines.now g.addresses.now g.tokens.now g.text.now) (columns g.rows.now g.places.now g.words.now g.bytes.now) c.requires, (c.requires, c.masks.ensures))

@@ -1,0 +1,16 @@
+-- `splits::call::find_starts_in` meets its contract. Assumes nothing.
+use native.Mathlib.Omega.{arith}
+use Rattle.splits.proofs.CallRules.{finds_by, defs_by}
+use Rattle.splits.proofs.call.find_starts_in.Goals as goal
+
+pub starts-requires : goal.starts-requires
+starts-requires c = (
+  (defs_by _ _ _ _ _ _ c.families-count.ensures, c.crossings.ensures),
+  omega (arith, c.families-count.auto.1.1.1.1.0, c.requires.0.3),
+)
+
+pub returns : goal.returns
+returns c = (
+  finds_by _ _ _ _ _ _ c.families-count.ensures,
+  c.starts.ensures,
+)

@@ -1,0 +1,71 @@
+use Prim.Native.Nat.{◌-◌, ◌≤◌}
+use mathlib.Core.Path.{refl, ◌∙◌}
+use native.Mathlib.Omega.{arith}
+use lib.ListN.{length, get_or}
+use Rattle.definitions.specs.Columns.{token_list, listing}
+use Rattle.definitions.specs.Model.{no_token}
+use Rattle.definitions.specs.Recover.{defined_families}
+use Rattle.model.proofs.Decode.{length_tokens}
+use Rattle.splits.specs.Tokens.{token_number, token_mark}
+use Rattle.splits.proofs.WriteRules.{line_order_by, line_by, over_start, over_join, over_done}
+use Rattle.splits.proofs.tokens.write_line.Goals as goal
+
+pub loop-k-init : goal.loop-k-init
+loop-k-init c = let a = c.args in
+    let p = c.requires in
+    let s = c.line_start-k in
+    let e = c.line_end-e in
+    let fs = defined_families (listing a.lines.now a.tokens.now a.text.now) in
+    let us = token_list a.tokens.now a.text.now in (
+      omega arith,
+      line_order_by a.lines.now a.tokens.now a.i _ _ s.ensures e.ensures p.1.0 p.1.1,
+      refl,
+      refl,
+      refl,
+      p.0.1,
+      over_start no_token (token_number fs (λ p. get_or a.counts.now p 0)) s.result us a.numbers.now,
+      over_start no_token (token_mark fs a.d) s.result us a.marks.now,
+    )
+
+pub write_some-k-requires : goal.write_some-k-requires
+write_some-k-requires c = let a = c.args in
+    let p = c.requires in
+    let l = c.loop-k in
+    let e = c.line_end-e in (
+      (p.0.0, l.invariant.5, omega (arith, p.0.2, l.invariant.2)),
+      (c.loop-k-test.true, omega (arith, e.ensures), l.invariant.3 ∙ p.1.2, l.invariant.4 ∙ p.1.3, p.1.4),
+    )
+
+pub loop-k-smaller : goal.loop-k-smaller
+loop-k-smaller c = omega (arith, c.write_some-k.ensures.0.0, c.loop-k-test.true)
+
+pub loop-k-preserved : goal.loop-k-preserved
+loop-k-preserved c = let a = c.args in
+    let p = c.requires in
+    let l = c.loop-k in
+    let s = c.line_start-k in
+    let e = c.line_end-e in
+    let w = c.write_some-k in
+    let fs = defined_families (listing a.lines.now a.tokens.now a.text.now) in
+    let us = token_list a.tokens.now a.text.now in
+    let n : w.result ≤ length us = omega (arith, length_tokens a.tokens.now a.text.now, e.ensures, w.ensures.0.1) in (
+      omega (arith, l.invariant.0, w.ensures.0.0),
+      w.ensures.0.1,
+      w.auto.1.1.1.1.1.1.0 ∙ l.invariant.2,
+      w.auto.1.1.1.1.1.1.1.0 ∙ l.invariant.3,
+      w.auto.1.1.1.1.1.1.1.1.0 ∙ l.invariant.4,
+      w.ensures.1.1.1,
+      over_join no_token (token_number fs (λ p. get_or a.counts.now p 0)) s.result us a.numbers.now l.k l.numbers l.invariant.6 l.invariant.0 w.result _ (omega (arith, w.ensures.0.0)) n (omega (arith, n, length_tokens a.tokens.now a.text.now, p.1.2, p.1.3)) w.ensures.1.0,
+      over_join no_token (token_mark fs a.d) s.result us a.marks.now l.k l.marks l.invariant.7 l.invariant.0 w.result _ (omega (arith, w.ensures.0.0)) n (omega (arith, n, length_tokens a.tokens.now a.text.now, p.1.2, p.1.3)) w.ensures.1.1.0,
+    )
+
+pub returns : goal.returns
+returns c = let a = c.args in
+    let l = c.loop-k in
+    let s = c.line_start-k in
+    let e = c.line_end-e in
+    let fs = defined_families (listing a.lines.now a.tokens.now a.text.now) in
+    let us = token_list a.tokens.now a.text.now in (
+      line_by a.lines.now a.tokens.now a.i s.result e.result s.ensures e.ensures (token_number fs (λ p. get_or a.counts.now p 0)) us a.numbers.now _ (over_done no_token (token_number fs (λ p. get_or a.counts.now p 0)) s.result us a.numbers.now l.k l.numbers l.invariant.6 l.invariant.0 e.result l.invariant.1 c.loop-k-test.false),
+      (line_by a.lines.now a.tokens.now a.i s.result e.result s.ensures e.ensures (token_mark fs a.d) us a.marks.now _ (over_done no_token (token_mark fs a.d) s.result us a.marks.now l.k l.marks l.invariant.7 l.invariant.0 e.result l.invariant.1 c.loop-k-test.false), l.invariant.5),
+    )

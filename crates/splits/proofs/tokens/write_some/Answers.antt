@@ -1,0 +1,40 @@
+-- `splits::tokens::write_some` meets its contract. Assumes nothing.
+use Prim.Native.Nat.{◌+◌, ◌≤◌}
+use mathlib.Core.Path.{◌∙◌}
+use native.Mathlib.Omega.{arith}
+use lib.ListN.{length, get_or}
+use Rattle.definitions.specs.Columns.{token_list, listing}
+use Rattle.definitions.specs.Model.{no_token}
+use Rattle.definitions.specs.Recover.{defined_families}
+use Rattle.model.proofs.Decode.{length_tokens}
+use Rattle.splits.specs.Tokens.{token_number, token_mark}
+use Rattle.splits.proofs.WriteRules.{over_join}
+use Rattle.splits.proofs.tokens.write_some.Goals as goal
+
+pub write_known-k-requires : goal.write_known-k-requires
+write_known-k-requires c = let p = c.requires in
+    ((p.0.1, p.0.2), (omega (arith, p.1.0), p.1.1, p.1.2, p.1.3, p.1.4))
+
+pub write_part-requires : goal.write_part-requires
+write_part-requires c = let p = c.requires in
+    let w = c.write_known-k in
+    (p.0, (omega arith, omega (arith, c.if-k-to.true, p.1.1), w.auto.1.1.1.1.1.0 ∙ p.1.2, w.auto.1.1.1.1.1.1.0 ∙ p.1.3, p.1.4))
+
+pub returns-then-k-to : goal.returns-then-k-to
+returns-then-k-to c = let a = c.args in
+    let p = c.requires in
+    let w = c.write_known-k in
+    let fs = defined_families (listing a.lines.now a.tokens.now a.text.now) in
+    let us = token_list a.tokens.now a.text.now in
+    let n : w.result + 1 ≤ length us = omega (arith, length_tokens a.tokens.now a.text.now, p.1.1, c.if-k-to.true) in (
+      (omega (arith, w.ensures.0.0), omega (arith, c.if-k-to.true)),
+      (
+        over_join no_token (token_number fs (λ p. get_or a.counts.now p 0)) a.from us a.numbers.now w.result _ w.ensures.1.0 w.ensures.0.0 (w.result + 1) _ (omega arith) n (omega (arith, n, length_tokens a.tokens.now a.text.now, p.1.2, p.1.3)) c.write_part.ensures.0,
+        (over_join no_token (token_mark fs a.d) a.from us a.marks.now w.result _ w.ensures.1.1 w.ensures.0.0 (w.result + 1) _ (omega arith) n (omega (arith, n, length_tokens a.tokens.now a.text.now, p.1.2, p.1.3)) c.write_part.ensures.1.0, c.write_part.ensures.1.1),
+      ),
+    )
+
+pub returns : goal.returns
+returns c = let p = c.requires in
+    let w = c.write_known-k in
+    ((omega (arith, p.1.0, c.if-k-to.false), w.ensures.0.1), (w.ensures.1.0, (w.ensures.1.1, p.0.1)))

@@ -1,0 +1,16 @@
+use Prim.Native.Nat.{◌-◌}
+use mathlib.Core.Path.{refl, ◌∙◌}
+use native.Mathlib.Omega.{arith}
+use lib.ListN.{length-set}
+use Rattle.sweep.proofs.Numbering.{number_start, number_end}
+use borrow.Author.Rules.{rules}
+use Rattle.sweep.proofs.number.Goals as goal
+
+pub loop-i-init : goal.loop-i-init
+loop-i-init c = (omega arith, omega arith, simp length-set (omega arith), refl, number_start _ _ c.args.defs.now (omega arith))
+
+pub shape_of-defs : goal.shape_of-defs
+shape_of-defs c = c.loop-i.invariant.3 ∙ simp length-set
+
+pub returns : goal.returns
+returns c = search (number_end, rules)

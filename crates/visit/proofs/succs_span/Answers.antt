@@ -1,0 +1,11 @@
+-- `visit::succs_span` meets its contract. Assumes nothing.
+use native.Mathlib.Omega.{arith}
+use Rattle.visit.proofs.StepLaws.{succs_row, succs_between}
+use borrow.Author.Rules.{rules}
+use Rattle.visit.proofs.succs_span.Goals as goal
+
+pub row_span-requires : goal.row_span-requires
+row_span-requires c = (search rules, omega arith, omega arith, search (succs_row, rules))
+
+pub returns : goal.returns
+returns c = search (succs_between, rules)

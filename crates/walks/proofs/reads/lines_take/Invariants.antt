@@ -1,0 +1,12 @@
+-- `walks::reads::lines_take` meets its contract. No token before place p takes the address.
+-- Assumes nothing.
+use Prim.Native.Nat.{◌-◌}
+use lib.ListN.{length}
+use Rattle.walks.specs.Lines.{Untaken}
+use Rattle.walks.proofs.reads.lines_take.Given as goal
+
+abbrev pub invariant-loop-p : goal.invariant-loop-p
+invariant-loop-p l = Untaken l.lines l.tokens l.text l.k l.p
+
+abbrev pub decreases-loop-p : goal.decreases-loop-p
+decreases-loop-p l = length l.tokens - l.p
