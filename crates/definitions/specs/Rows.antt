@@ -1,9 +1,9 @@
--- Document 01's listings 1 to 10 and its four traps, as rows of one list under one theorem: each row has a listing, a call and its answer.
+-- Document 01's listings 1 to 10 and its four traps, as rows of one list under one theorem, `rows_hold` of proofs/RowsHold: each row has a
+-- listing, a call and its answer.
 --   Row, rows             the rows
 --   shown c L             what the call c answers of the listing L, web numbers as the web program prints them
---   rows_hold             the definitions answer what each row says
 -- Assumes nothing.
-use Rattle.std.specs.Prelude.{ℕ, ◌+◌, ◌≡◌, refl, List, [], ◌∷◌, ◌++◌, map, eqb, length, get_or, take}
+use Rattle.std.specs.Prelude.{ℕ, ◌+◌, List, [], ◌∷◌, ◌++◌, map, eqb, length, get_or, take}
 use Prim.Native.String.{String}
 use Rattle.std.proofs.Math.Option.{none, some}
 use Rattle.definitions.specs.Lists.{if◌then◌else◌, concat, up_to, ascii}
@@ -228,7 +228,3 @@ rows =
     ∷ at 1 return ∷ [])
     (numbers (o 2 2 "rax" 0 U ∷ o 3 0 "rax" 1 D ∷ []))
     ∷ []
-
-pub rows_hold : map (λ r. shown r.call r.listing) rows ≡ map (λ r. r.answer) rows
-unfolding shown
-rows_hold = refl
