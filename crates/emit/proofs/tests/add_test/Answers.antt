@@ -18,7 +18,7 @@ pub shape_of-bytes-in-2 : goal.shape_of-bytes-in-2
 shape_of-bytes-in-2 c = c.add.auto.1.0
 
 pub returns-in-2 : goal.returns-in-2
-returns-in-2 c = let g = c.args in let C = listing g.lines.now g.tokens.now g.text.now in λ l a. adds_as (test_one C _ _ _ (remainder c.header.ensures.0 c.in_default.keys1)) (c.add.ensures l a)
+returns-in-2 c = let g = c.args in let C = listing g.lines.now g.tokens.now g.text.now in λ l a. adds_as (test_one C _ _ _ (remainder c.header.ensures.0 c.in-2.keys1)) (c.add.ensures l a)
 
 pub shape_of-words-in-3 : goal.shape_of-words-in-3
 shape_of-words-in-3 c = c.add_leading.auto.1.1.1.1.0
@@ -27,7 +27,7 @@ pub shape_of-bytes-in-3 : goal.shape_of-bytes-in-3
 shape_of-bytes-in-3 c = c.add_leading.auto.1.1.1.1.1.0
 
 pub returns-in-3 : goal.returns-in-3
-returns-in-3 c = let g = c.args in let C = listing g.lines.now g.tokens.now g.text.now in λ l a. adds_as (test_leading C _ _ _ (remainder c.header.ensures.0 c.in_default.keys2) _ c.test.ensures.0) (c.add_leading.ensures l a)
+returns-in-3 c = let g = c.args in let C = listing g.lines.now g.tokens.now g.text.now in λ l a. adds_as (test_leading C _ _ _ (remainder c.header.ensures.0 c.in-3.keys2) _ c.test.ensures.0) (c.add_leading.ensures l a)
 
 pub shape_of-words-in_default : goal.shape_of-words-in_default
 shape_of-words-in_default c = c.add_condition.auto.1.1.1.1.0
