@@ -31,9 +31,6 @@ enter-top-requires c = let a = c.args in
     let r = c.requires in
     (omega (arith, C.auto.0, l.invariant.1, r.0, t), omega (arith, l.invariant.2, r.1, t), omega (arith, C.auto.1.1.0, l.invariant.3, r.2, t), omega (arith, t, r.3), closed_below l.i _ l.invariant.4.at _ _ _ C.result _ (C.ensures l.invariant.4.at l.invariant.4.held (omega (arith, t, l.invariant.4.size, length_listing a.lines.now a.tokens.now a.text.now))) (search rules))
 
-pub overflow_add-i : goal.overflow_add-i
-overflow_add-i c = let g = c.well-formed in let t = c.loop-i-test.true in omega arith
-
 pub loop-i-preserved : goal.loop-i-preserved
 loop-i-preserved c = let a = c.args in
     let l = c.loop-i in

@@ -5,9 +5,8 @@ use borrow.Author.Rules.{rules}
 use Rattle.visit.proofs.mark.Goals as goal
 
 pub mark_back-requires : goal.mark_back-requires
-mark_back-requires c = let marked = c.before.before.before in
-    let pre = marked.before.before.before.before.before.requires in
-    (search (room_same, rules), search rules, ahead_between _ _ _ _ _ pre.0.wide pre.1 marked.mark-ahead.ensures _ marked.before.before.succs-span.ensures)
+mark_back-requires c = let pre = c.requires in
+    (search (room_same, rules), search rules, ahead_between _ _ _ _ _ pre.0.wide pre.1 c.mark_ahead.ensures _ c.succs_span-x.ensures)
 
 pub returns : goal.returns
 returns c = search (mark_both, rules)

@@ -4,9 +4,8 @@ use borrow.Author.Rules.{rules}
 use Rattle.visit.proofs.step_line.Goals as goal
 
 pub mark-requires : goal.mark-requires
-mark-requires c = let visited = c.before.before.before.before in
-    let pre = visited.before.before.before.before.requires in
-    (search rules, search rules, search (visit_agree, rules), λ e. visit_full _ _ _ _ _ _ _ _ pre.0.wide visited.visit-line.ensures (pre.4 e))
+mark-requires c = let pre = c.requires in
+    (search rules, search rules, search (visit_agree, rules), λ e. visit_full _ _ _ _ _ _ _ _ pre.0.wide c.visit_line.ensures (pre.4 e))
 
 pub returns-then-visit_line : goal.returns-then-visit_line
 returns-then-visit_line c = step_changed _ _ _ _ _ _ _ _ c.requires.0.wide c.visit_line.ensures _ c.requires.1 c.if-visit_line.true c.mark.ensures

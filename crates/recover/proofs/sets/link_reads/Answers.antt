@@ -14,9 +14,6 @@ number-requires c = search (link_rules, rules)
 pub link_line-requires : goal.link_line-requires
 link_line-requires c = (c.loop-j.invariant.5.swept, rw c.number.ensures (c.requires.1 _ c.loop-j-test.true), c.loop-j.invariant.4)
 
-pub overflow_add-j : goal.overflow_add-j
-overflow_add-j c = omega (arith, c.loop-j-test.true, c.well-formed.1.1.1.1.1.0)
-
 pub loop-j-smaller : goal.loop-j-smaller
 loop-j-smaller c = search (link_rules, rules)
 

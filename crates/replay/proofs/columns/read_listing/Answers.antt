@@ -5,14 +5,10 @@ use Rattle.replay.proofs.Ahead.{words_ahead}
 use Rattle.replay.proofs.columns.read_listing.Goals as goal
 
 pub returns : goal.returns
-returns c = let x = c.before in
-    let t = x.before.before.before.before.before.before.before in
-    let a = t.before.before.before.before.before.before.before in
-    let l = a.before.before.before.before.before.before.before in
-    omega (
+returns c = omega (
       arith,
-      words_ahead _ _ _ _ x.before.before.before.before.read8.ensures x.x.given.1,
-      words_ahead _ _ _ _ t.before.before.before.before.read322.ensures t.t.given.1,
-      words_ahead _ _ _ _ a.before.before.before.before.read64.ensures a.a.given.1,
-      words_ahead _ _ _ _ l.before.before.before.before.read32.ensures l.l.given.1,
+      words_ahead _ _ _ _ c.read8.ensures c.x-1.given.1,
+      words_ahead _ _ _ _ c.read32-2.ensures c.t-1.given.1,
+      words_ahead _ _ _ _ c.read64.ensures c.a-1.given.1,
+      words_ahead _ _ _ _ c.read32.ensures c.l-1.given.1,
     )

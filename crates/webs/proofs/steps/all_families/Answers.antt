@@ -51,9 +51,6 @@ returns-in_default c = going_over _ _ _ _ _ _ _ _ _ c.requires.0.0 _ _ _ _ _ _ c
 pub overflow_add-total : goal.overflow_add-total
 overflow_add-total c = let w = (going_next _ _ _ _ _ _ _ _ _ c.requires.0.0 _ _ _ _ _ _ c.loop-k.invariant.1 c.loop-k-test.true _ refl _ _ _ _ _ c.s-1.given.1 c.family.ensures).within in let g = c.well-formed in let f = c.ranges in omega arith
 
-pub overflow_add-k : goal.overflow_add-k
-overflow_add-k c = let t = c.loop-k-test.true in let g = c.well-formed in let f = c.ranges in omega arith
-
 pub loop-k-preserved : goal.loop-k-preserved
 loop-k-preserved c = (omega (arith, c.loop-k-test.true), going_next _ _ _ _ _ _ _ _ _ c.requires.0.0 _ _ _ _ _ _ c.loop-k.invariant.1 c.loop-k-test.true _ refl _ _ _ _ _ c.s-1.given.1 c.family.ensures, c.family.auto.1.1.1.1.1.1.1.1.0 ∙ c.loop-k.invariant.2, c.family.auto.1.1.1.1.1.1.1.1.1.1.1.0 ∙ c.loop-k.invariant.3, c.family.auto.1.1.1.1.1.1.1.1.1.1.1.1.0 ∙ c.loop-k.invariant.4, c.family.auto.1.1.1.1.1.1.1.1.1.1.1.1.1.0 ∙ c.loop-k.invariant.5, c.family.auto.1.1.1.1.1.1.1.1.1.1.1.1.1.1.0 ∙ c.loop-k.invariant.6, c.family.auto.1.1.1.1.1.1.1.1.1.1.1.1.1.1.1.0 ∙ c.loop-k.invariant.7, c.family.auto.1.1.1.1.1.1.1.1.1.1.1.1.1.1.1.1.0 ∙ c.loop-k.invariant.8, c.family.auto.1.1.1.1.1.1.1.1.1.1.1.1.1.1.1.1.1.0 ∙ c.loop-k.invariant.9, c.family.auto.1.1.1.1.1.1.1.1.1.1.1.1.1.1.1.1.1.1.0 ∙ c.loop-k.invariant.10, c.family.auto.1.1.1.1.1.1.1.1.1.1.1.1.1.1.1.1.1.1.1.0 ∙ c.loop-k.invariant.11, c.family.auto.1.1.1.1.1.1.1.1.1.1.1.1.1.1.1.1.1.1.1.1.0 ∙ c.loop-k.invariant.12)
 
