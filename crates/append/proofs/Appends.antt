@@ -11,7 +11,7 @@ use mathlib.Core.List.{List, [], ◌∷◌, ◌++◌, append-nil, append_assoc}
 use Prim.Native.Nat.{ℕ}
 use native.Mathlib.Omega.{arith}
 use lib.ListN.{length}
-use Rattle.definitions.specs.Lists.{filter, ◌==◌}
+use Rattle.definitions.specs.Lists.{filter, ◌≟◌}
 use Rattle.definitions.specs.Model.{Token, tok}
 use Rattle.definitions.specs.Statements.{is_empty, joins, glue, merge}
 use Rattle.definitions.specs.Calls.{Columns}
@@ -96,7 +96,7 @@ whole_append (t ∷ ts) us = go (not (is_empty t)) (whole_append ts us)
 
 module _ (s : List ℕ) (k : ℕ) where
   pub whole_some : (length s ≡ 0 → ⊥) → whole (tok s k ∷ []) ≡ tok s k ∷ []
-  unfolding filter ◌==◌
+  unfolding filter ◌≟◌
   whole_some n = go s n
     where
       go : (s : List ℕ) → (length s ≡ 0 → ⊥) → whole (tok s k ∷ []) ≡ tok s k ∷ []
@@ -104,7 +104,7 @@ module _ (s : List ℕ) (k : ℕ) where
       go (b ∷ s) n = refl
 
   pub adds_empty : {m : Bool} {o : Columns} {c : Cursor} → length s ≡ 0 → Adds m (whole (tok s k ∷ [])) o c o c
-  unfolding filter ◌==◌
+  unfolding filter ◌≟◌
   adds_empty h = adds_as (go s h) adds_none
     where
       go : (u : List ℕ) → length u ≡ 0 → [] ≡ whole (tok u k ∷ [])

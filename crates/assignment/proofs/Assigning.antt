@@ -7,6 +7,7 @@
 --   closed_of                                     does the last token end with `;`?
 --   assigned_none, assigned_open, assigned_empty, assigned_is      the assignment
 -- Assumes nothing.
+use Rattle.std.specs.Prelude.{if◌then◌else◌}
 use mathlib.Core.Path.{◌≡◌, sym, ◌∙◌}
 use mathlib.Core.Bool.{Bool, true, false}
 use mathlib.Core.List.{List, []}
@@ -17,7 +18,7 @@ use native.Mathlib.Omega.{arith}
 use borrow.Author.Tests.{eq-eqb, ne_eqb, le-leb, lt-leb}
 use lib.Dec.{eqb, leb}
 use lib.ListN.{length}
-use Rattle.definitions.specs.Lists.{if◌then◌else◌, part, ◌==◌, ends_with, ascii}
+use Rattle.definitions.specs.Lists.{part, ◌≟◌, ends_with, ascii}
 use Rattle.definitions.specs.Model.{Line, token}
 use Rattle.definitions.specs.Statements.{is_empty, assignment}
 use Rattle.text.proofs.Parts.{part_step, part_none}
@@ -35,11 +36,11 @@ module _ (n k : ℕ) where
   back_past h = rw (ne_eqb (k + 1) n (λ q. omega arith))
 
 -- a part that ends within the text is empty if it ends where it starts, or before
-empty_part : (a e : ℕ) (s : List ℕ) → e ≤ length s → (part a e s == []) ≡ eqb (e - a) 0
-unfolding ◌==◌
+empty_part : (a e : ℕ) (s : List ℕ) → e ≤ length s → (part a e s ≟ []) ≡ eqb (e - a) 0
+unfolding ◌≟◌
 empty_part a e s h = go (dec_lt a e)
   where
-    go : Dec (a < e) → (part a e s == []) ≡ eqb (e - a) 0
+    go : Dec (a < e) → (part a e s ≟ []) ≡ eqb (e - a) 0
     go (yes g) = rw (part_step 0 s a e g h, ne_eqb (e - a) 0 (λ z. omega arith))
     go (no g) = rw (part_none s a e (omega arith), eq-eqb (e - a) 0 (omega arith))
 
@@ -54,7 +55,7 @@ module _ (l : Line) (n : ℕ) (c : n ≡ length l.tokens) where
   blank_is k a b u v s f g t p q = rw (← t, ← c, ← g, ← f, ← p, q) (sym (empty_part a u s (omega arith)))
 
   module _ (m : ℕ) (d : m ≡ n - 1) where
-    module _ (b : Bool) (s : List ℕ) (p : b ≡ (s == [])) (q : s ≡ (expr_token l m).text) where
+    module _ (b : Bool) (s : List ℕ) (p : b ≡ (s ≟ [])) (q : s ≡ (expr_token l m).text) where
       at_last : expr_to l ≡ (if b then m else n)
       unfolding expr_to
       at_last = rw (← c, ← d, ← q, ← p)

@@ -16,11 +16,11 @@ use borrow.Author.Tests.{eq-eqb, ne_eqb, le-leb, lt-leb, leb-true, eqb-true}
 use lib.Dec.{eqb, leb}
 use lib.ListN.{length, take, drop, length-append, length-drop, length-map, drop_of_length-le}
 use lib.Seq.{take_all, take_at, drop-cons, drop-drop}
-use Rattle.definitions.specs.Lists.{◌>>=◌, require, last, part, range, ◌==◌, starts_with, ends_with, ascii}
+use Rattle.definitions.specs.Lists.{◌>>=◌, require, last, part, range, ◌≟◌, starts_with, ends_with, ascii}
 use Rattle.definitions.specs.Model.{Token, Line, tok, token, no_token, Punct, Register}
 use Rattle.definitions.specs.Statements.{is_empty, unless_empty, without_semicolon, assignment}
 use Rattle.text.proofs.Parts.{part_join, part_tail, part_step, part_none}
-use Rattle.text.proofs.Texts.{==-eq, starts_part}
+use Rattle.text.proofs.Texts.{≟_eq, starts_part}
 use Rattle.model.proofs.Ands.{both}
 use Rattle.assignment.specs.Assignments.{expr_token, side, expr_from, expr_to, assigns, is_closed}
 
@@ -175,10 +175,10 @@ module _ (s : List ℕ) where
   only_equals : starts_with (ascii " = ") s ≡ true → length s ≤ 3 → s ≡ ascii " = "
   only_equals e h =
       let t : take 3 s ≡ s = take_all 3 s h in
-      ==-eq s (ascii " = ") (ap (λ (u : List ℕ). u == ascii " = ") (sym t) ∙ sym (starts_part (ascii " = ") s) ∙ e)
+      ≟_eq s (ascii " = ") (ap (λ (u : List ℕ). u ≟ ascii " = ") (sym t) ∙ sym (starts_part (ascii " = ") s) ∙ e)
 
-nonempty : (s : List ℕ) → 0 < length s → (s == []) ≡ false
-unfolding ◌==◌
+nonempty : (s : List ℕ) → 0 < length s → (s ≟ []) ≡ false
+unfolding ◌≟◌
 nonempty [] h = absurd (omega arith)
 nonempty (b ∷ s) h = refl
 
@@ -212,7 +212,7 @@ module _ (l : Line) (start : assigns l ≡ true) where
   bare h = only_equals (token l 1).text guards.2 h
 
   bare_side : length l.tokens ≡ 2 → length (token l 1).text ≤ 3 → whole_side l ≡ []
-  unfolding whole_side ◌==◌
+  unfolding whole_side ◌≟◌
   bare_side h k =
       let g : length l.tokens ≤ 2 = omega arith in
       rw (bare k, drop_of_length-le l.tokens g)
@@ -226,7 +226,7 @@ module _ (l : Line) (start : assigns l ≡ true) where
           let e : ends_with (ascii ";") (drop 3 (token l 1).text) ≡ true = ends_drop (token l 1).text k ∙ (rw z at c) in
           rw (short_side z k)
           (without_snoc [] (tok (drop 3 (token l 1).text) Punct) e ∙ ap some (ap unless_empty (first_short l z guards.1) ∙ trimmed_short l z))
-      short z (no k) = absurd (false≢true (unfold ◌==◌ in rw (z, bare (omega arith)) at c))
+      short z (no k) = absurd (false≢true (unfold ◌≟◌ in rw (z, bare (omega arith)) at c))
 
       go : Dec (2 < length l.tokens) → without_semicolon (whole_side l) ≡ some (side l (expr_from l) (expr_to l))
       go (yes h) =

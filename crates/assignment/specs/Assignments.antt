@@ -7,9 +7,9 @@
 --   assigns l, is_closed l     the line starts as an assignment does; its last token ends with `;`
 --   assigned l a               the assignment
 -- Assumes nothing.
-use Rattle.std.specs.Prelude.{ℕ, ◌+◌, ◌-◌, Bool, ◌&&◌, List, map, eqb, leb, length}
+use Rattle.std.specs.Prelude.{if◌then◌else◌, ℕ, ◌+◌, ◌-◌, Bool, ◌&&◌, List, map, eqb, leb, length}
 use Rattle.std.proofs.Math.Option.{Option, none, some}
-use Rattle.definitions.specs.Lists.{if◌then◌else◌, part, range, starts_with, ends_with, ascii}
+use Rattle.definitions.specs.Lists.{part, range, starts_with, ends_with, ascii}
 use Rattle.definitions.specs.Model.{Token, Line, tok, token, Register, Punct}
 use Rattle.definitions.specs.Statements.{Assignment, is_empty}
 use Rattle.assignment.specs.declared.Assigned.{Assigned}

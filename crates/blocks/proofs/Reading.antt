@@ -13,7 +13,7 @@ use native.Mathlib.Decide.{dec_lt}
 use native.Mathlib.Omega.{arith}
 use lib.Dec.{eqb, ltb}
 use lib.ListN.{length, set, get_or, drop, replicate, length-replicate, get_or-replicate, get_or-eq_default}
-use Rattle.definitions.specs.Lists.{◌>>=◌, require, is_some, ◌==◌}
+use Rattle.definitions.specs.Lists.{◌>>=◌, require, is_some, ◌≟◌}
 use Rattle.definitions.specs.Model.{Line, line, no_line}
 use Rattle.definitions.specs.Blocks.{Braces, braces, Blocks, Open, close, enter, blocks_from, blocks}
 use Rattle.text.proofs.Parts.{drop_step, drop_end}
@@ -31,7 +31,7 @@ beginning L = record { stack = []; ends = replicate (length L) none; enclosing =
 
 pub record Reading (L : List Line) (es ps cs : List ℕ) (p i : ℕ) : Type 0 where
   pub at : Open
-  pub left : blocks L ≡ (blocks_from i (drop i L) at >>= λ o. require (o.stack == []) >>= λ _. some (record { ends = o.ends; enclosing = o.enclosing }))
+  pub left : blocks L ≡ (blocks_from i (drop i L) at >>= λ o. require (o.stack ≟ []) >>= λ _. some (record { ends = o.ends; enclosing = o.enclosing }))
   pub size : length at.ends ≡ length L
   pub held : Held es ps cs p i at
 
@@ -63,7 +63,7 @@ module _ (L : List Line) (es ps cs : List ℕ) (p i : ℕ) (R : Reading L es ps 
     here : Closed i b.closes R.at es₁ ps cs₁ r
     here = closed R.at R.held (omega (arith, R.size))
 
-    step : blocks L ≡ ((close i b.closes R.at >>= λ o. blocks_from (i + 1) (drop (i + 1) L) (enter i b.opens o)) >>= λ o. require (o.stack == []) >>= λ _. some (record { ends = o.ends; enclosing = o.enclosing }))
+    step : blocks L ≡ ((close i b.closes R.at >>= λ o. blocks_from (i + 1) (drop (i + 1) L) (enter i b.opens o)) >>= λ o. require (o.stack ≟ []) >>= λ _. some (record { ends = o.ends; enclosing = o.enclosing }))
     unfolding blocks_from
     step = R.left ∙ rw (drop_step no_line L i h, eb, add-one i)
 
@@ -95,14 +95,14 @@ module _ (L : List Line) (es ps cs : List ℕ) (p i : ℕ) (R : Reading L es ps 
       found : Blocks
       found = record { ends = R.at.ends; enclosing = R.at.enclosing }
 
-      all : blocks L ≡ (require (R.at.stack == []) >>= λ _. some found)
+      all : blocks L ≡ (require (R.at.stack ≟ []) >>= λ _. some found)
       all = R.left ∙ rw (drop_end L i ge)
 
-      same : eqb p 0 ≡ (R.at.stack == [])
+      same : eqb p 0 ≡ (R.at.stack ≟ [])
       same = stack_test ps cs p R.at.stack R.held.stack
 
       answer : eqb p 0 ≡ is_some (blocks L)
-      answer = rw (all, same) (go (R.at.stack == []))
+      answer = rw (all, same) (go (R.at.stack ≟ []))
         where
           go : (t : Bool) → t ≡ is_some (require t >>= λ _. some found)
           go true = refl

@@ -17,7 +17,7 @@ use borrow.Author.Tests.{eq-eqb, ne_eqb, lt-ltb}
 use lib.Dec.{eqb, ltb}
 use lib.ListN.{length, get_or, set, replicate, length-append, length-set, get_or-append}
 use lib.Seq.{get_or-set_same, get_or-set_other, get_or_at}
-use Rattle.definitions.specs.Lists.{any, member, ◌==◌}
+use Rattle.definitions.specs.Lists.{any, member, ◌≟◌}
 use Rattle.definitions.specs.Blocks.{Open, close, enter}
 use Rattle.blocks.specs.Entries.{place, linked}
 use Rattle.blocks.specs.Stack.{Stack, bottom, upon, Held, Closing}
@@ -33,8 +33,8 @@ module _ (ps cs : List ℕ) where
   stack_none : (s : List ℕ) → Stack ps cs 0 s → s ≡ []
   stack_none s bottom = refl
 
-  pub stack_test : (p : ℕ) (s : List ℕ) → Stack ps cs p s → eqb p 0 ≡ (s == [])
-  unfolding ◌==◌
+  pub stack_test : (p : ℕ) (s : List ℕ) → Stack ps cs p s → eqb p 0 ≡ (s ≟ [])
+  unfolding ◌≟◌
   stack_test p s bottom = refl
   stack_test p s (upon h k r e st) = ne_eqb (suc h) 0 (λ q. omega arith)
 

@@ -5,6 +5,7 @@
 --   rest, braces_start, braces_next, braces_end           the loop of `line_braces`, by the places of the tokens among all
 --   place_short                                           how many tokens and bytes there can be
 -- Assumes nothing.
+use Rattle.std.specs.Prelude.{if◌then◌else◌}
 use mathlib.Core.Path.{◌≡◌, refl, sym, ◌∙◌}
 use mathlib.Core.Bool.{Bool, true, false, cond, not}
 use mathlib.Core.List.{List, [], ◌∷◌, ◌++◌}
@@ -13,7 +14,7 @@ use native.Mathlib.Omega.{arith}
 use borrow.Author.Tests.{eq-eqb, ne_eqb, lt-ltb, le-ltb}
 use lib.Dec.{T, eqb}
 use lib.ListN.{length, get_or, drop}
-use Rattle.definitions.specs.Lists.{if◌then◌else◌, filter, fold}
+use Rattle.definitions.specs.Lists.{filter, fold}
 use Rattle.definitions.specs.Model.{Token, Line, no_token, text, line, Punct}
 use Rattle.definitions.specs.Columns.{token_list, listing}
 use Rattle.definitions.specs.Blocks.{Braces, brace, braces}

@@ -4,8 +4,8 @@
 
 #![tactic(auto)]
 
-ghost use Rattle.std.specs.Prelude.{◌≡◌, ◌+◌, ◌≤◌, ◌<◌, eqb, length, get_or};
-ghost use Rattle.definitions.specs.Lists.{if◌then◌else◌, fold};
+ghost use Rattle.std.specs.Prelude.{if◌then◌else◌, ◌≡◌, ◌+◌, ◌≤◌, ◌<◌, eqb, length, get_or};
+ghost use Rattle.definitions.specs.Lists.{fold};
 ghost use Rattle.definitions.specs.Model.{line, no_token, Punct};
 ghost use Rattle.definitions.specs.Columns.{token_list, listing};
 ghost use Rattle.definitions.specs.Blocks.{brace, braces};

@@ -14,25 +14,25 @@ use native.Mathlib.Numerals.{add-one}
 use lib.Dec.{eqb}
 use borrow.Author.Tests.{eqb-true, eq-eqb, ne_eqb}
 use lib.ListN.{length}
-use Rattle.definitions.specs.Lists.{◌==◌}
+use Rattle.definitions.specs.Lists.{◌≟◌}
 use Rattle.definitions.specs.Model.{Token, Line}
 use Rattle.definitions.specs.Family.{Family, fam_of, names}
 use Rattle.definitions.specs.Recover.{defined_families}
 use Rattle.theory.proofs.Bools.{same_test}
-use Rattle.theory.proofs.ListLaws.{==-true, ==-self}
+use Rattle.theory.proofs.ListLaws.{≟_true, ≟_self}
 use Rattle.families.specs.Families.{place, place_of}
 use Rattle.families.specs.Tokens.{family_name}
 use Rattle.families.proofs.Finding.{unique_families, place_here}
 use Rattle.families.proofs.Numbered.{place_cases}
 
-pub place_is : (L : List Line) (k : ℕ) → k < length (defined_families L) → (g : List ℕ) → eqb (place (defined_families L) g) (k + 1) ≡ (g == family_name L k)
-place_is L k h g = same_test _ _ there (λ e. eq-eqb _ _ (place_here (defined_families L) g k (unique_families L) h (sym (==-true g (family_name L k) e)) ∙ sym (add-one k)))
+pub place_is : (L : List Line) (k : ℕ) → k < length (defined_families L) → (g : List ℕ) → eqb (place (defined_families L) g) (k + 1) ≡ (g ≟ family_name L k)
+place_is L k h g = same_test _ _ there (λ e. eq-eqb _ _ (place_here (defined_families L) g k (unique_families L) h (sym (≟_true g (family_name L k) e)) ∙ sym (add-one k)))
   where
-    there : eqb (place (defined_families L) g) (k + 1) ≡ true → (g == family_name L k) ≡ true
+    there : eqb (place (defined_families L) g) (k + 1) ≡ true → (g ≟ family_name L k) ≡ true
     there e = elim (place_cases (defined_families L) g) [
       | inl p ↦ (let q = eqb-true (place (defined_families L) g) (k + 1) e in absurd (omega (arith, p.0)))
       | inr p ↦ (let q = eqb-true (place (defined_families L) g) (k + 1) e in let z : p.0 ≡ k = omega (arith, p.1) in
-          rw (← p.3, z) (==-self (family_name L k)))
+          rw (← p.3, z) (≟_self (family_name L k)))
     ]
 
 pub place_most : (fs : List (List ℕ)) (f : List ℕ) → place fs f ≤ length fs
@@ -42,6 +42,6 @@ pub names_place : (L : List Line) (k : ℕ) → k < length (defined_families L) 
 unfolding names
 names_place L k h u = go (fam_of u)
   where
-    go : (o : Option Family) → eqb (place_of (defined_families L) o) (k + 1) ≡ (elim o [ none ↦ false | some y ↦ y.name == family_name L k ])
+    go : (o : Option Family) → eqb (place_of (defined_families L) o) (k + 1) ≡ (elim o [ none ↦ false | some y ↦ y.name ≟ family_name L k ])
     go none = ne_eqb 0 (k + 1) (λ z. omega arith)
     go (some y) = place_is L k h y.name

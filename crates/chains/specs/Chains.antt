@@ -13,9 +13,8 @@
 --   Linked                    what `link` does: the token at place p of line i is put before the chain of family c - 1
 --   Heads a n first           no family has a token: the first n words are a
 -- Assumes nothing.
-use Rattle.std.specs.Prelude.{ℕ, suc, ◌+◌, ◌*◌, ◌-◌, ◌/◌, ◌<◌, ◌≤◌, ◌≡◌, Bool, true, List, [], ◌∷◌, eqb, ltb, length, get_or, set, drop}
+use Rattle.std.specs.Prelude.{if◌then◌else◌, ℕ, suc, ◌+◌, ◌*◌, ◌-◌, ◌/◌, ◌<◌, ◌≤◌, ◌≡◌, Bool, true, List, [], ◌∷◌, eqb, ltb, length, get_or, set, drop}
 use Rattle.std.proofs.Math.Option.{none, some}
-use Rattle.definitions.specs.Lists.{if◌then◌else◌}
 use Rattle.definitions.specs.Model.{Token, no_token}
 use Rattle.definitions.specs.Family.{fam_of, names}
 use Rattle.definitions.specs.Columns.{token_list, listing}

@@ -23,7 +23,7 @@ use borrow.Author.Tests.{le-leb, lt-ltb, le-ltb, leb-true, ltb-true}
 use lib.Dec.{leb, ltb}
 use lib.ListN.{length, get_or, set, take, drop}
 use lib.Seq.{get_or-set_same, get_or-set_other}
-use Rattle.definitions.specs.Lists.{◌>>=◌, to_list, any, concat, part, range, up_to, last_position, ◌==◌, ascii}
+use Rattle.definitions.specs.Lists.{◌>>=◌, to_list, any, concat, part, range, up_to, last_position, ◌≟◌, ascii}
 use Rattle.definitions.specs.Model.{Token, Line}
 use Rattle.definitions.specs.Columns.{token_list, listing}
 use Rattle.definitions.specs.Statements.{is_kw, is_label, label, first_symbol, targets}
@@ -143,7 +143,7 @@ label_inside l t x us far k e q f w z h =
     omega (arith, length_listing l t x, go (first_symbol (part k e us)) (sym w ∙ ap line_of z))
   where
     go : (o : Option (List ℕ)) → (o >>= label_line (listing l t x)) ≡ some q → q < length (listing l t x)
-    go (some s) e = last_inside (λ l. is_label l && (label l == s)) (listing l t x) q e
+    go (some s) e = last_inside (λ l. is_label l && (label l ≟ s)) (listing l t x) q e
     go none e = let z : ◌≡◌ {A = ℕ} 0 1 = cc in absurd (omega arith)
 
 module _ (i : ℕ) (f : Label) (o : Option ℕ) (e : line_of f ≡ o) where

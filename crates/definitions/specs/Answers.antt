@@ -4,9 +4,9 @@
 --   splits L                 split numbers and marks
 --   choose L                 webs, or splits where webs refuses, and which
 -- Assumes nothing.
-use Rattle.std.specs.Prelude.{ℕ, Bool, ◌&&◌, not, List, [], map, eqb, leb, length}
+use Rattle.std.specs.Prelude.{if◌then◌else◌, ℕ, Bool, ◌&&◌, not, List, [], map, eqb, leb, length}
 use Rattle.std.proofs.Math.Option.{Option, none, some}
-use Rattle.definitions.specs.Lists.{if◌then◌else◌, is_some, or_else, concat, up_to}
+use Rattle.definitions.specs.Lists.{is_some, or_else, concat, up_to}
 use Rattle.definitions.specs.Model.{Line, token, line}
 use Rattle.definitions.specs.Family.{fam_of}
 use Rattle.definitions.specs.Passes.{Pass, lines, overflow}

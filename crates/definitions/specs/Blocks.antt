@@ -2,9 +2,9 @@
 --   braces l     how many blocks line l closes that earlier lines opened, and how many it opens that later lines close
 --   blocks L     for each line the line that closes its block, and the openers of the blocks around it; none where a brace does not match
 -- Assumes nothing.
-use Rattle.std.specs.Prelude.{ℕ, zero, suc, ◌+◌, ◌-◌, List, [], ◌∷◌, ◌++◌, eqb, ltb, length, set, replicate}
+use Rattle.std.specs.Prelude.{if◌then◌else◌, ℕ, zero, suc, ◌+◌, ◌-◌, List, [], ◌∷◌, ◌++◌, eqb, ltb, length, set, replicate}
 use Rattle.std.proofs.Math.Option.{Option, none, some}
-use Rattle.definitions.specs.Lists.{if◌then◌else◌, ◌>>=◌, require, filter, fold, ◌==◌}
+use Rattle.definitions.specs.Lists.{◌>>=◌, require, filter, fold, ◌≟◌}
 use Rattle.definitions.specs.Model.{Line, text, Punct}
 
 -- Only braces in punct tokens count; a `}` first cancels a `{` earlier on its line.
@@ -55,5 +55,5 @@ blocks_from i (l ∷ ls) o = close i (braces l).closes o >>= λ closed. blocks_f
 unfoldable pub blocks : List Line → Option Blocks
 blocks L = do
   o ← blocks_from 0 L (record { stack = []; ends = replicate (length L) none; enclosing = [] })
-  _ ← require (o.stack == [])
+  _ ← require (o.stack ≟ [])
   some (record { ends = o.ends; enclosing = o.enclosing })

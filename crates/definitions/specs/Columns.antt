@@ -9,9 +9,9 @@
 --   with_addresses l a L     the listing L with the addresses of the column a where the words l have one
 --   line_words L, address_words L, token_words L, text_bytes L    the columns of a listing
 -- Assumes nothing.
-use Rattle.std.specs.Prelude.{ℕ, ◌+◌, ◌*◌, ◌/◌, ◌%◌, List, [], ◌∷◌, map, eqb, length}
+use Rattle.std.specs.Prelude.{if◌then◌else◌, ℕ, ◌+◌, ◌*◌, ◌/◌, ◌%◌, List, [], ◌∷◌, map, eqb, length}
 use Rattle.std.proofs.Math.Option.{Option, none, some}
-use Rattle.definitions.specs.Lists.{if◌then◌else◌, is_some, or_else, part, concat}
+use Rattle.definitions.specs.Lists.{is_some, or_else, part, concat}
 use Rattle.definitions.specs.Model.{Token, Line, tok, pseudo_line, text}
 
 -- Reading. A word over `by` is where its piece ends.

@@ -3,7 +3,7 @@
 --   answer c L       what the call c answers of the listing L; `unfolding answer` lets the checker compute it
 -- Assumes nothing.
 use Rattle.std.specs.Prelude.{ℕ, List}
-use Rattle.definitions.specs.Lists.{any, all, filter, take_while, position, last_position, find, last, on_first, on_last, concat, fold, range, ◌==◌, starts_with}
+use Rattle.definitions.specs.Lists.{any, all, filter, take_while, position, last_position, find, last, on_first, on_last, concat, fold, range, ◌≟◌, starts_with}
 use Rattle.definitions.specs.Model.{Line, text}
 use Rattle.definitions.specs.Family.{legacy, legacy_family, suffix_width, other_family, family, fam_of, names}
 use Rattle.definitions.specs.Statements.{has_kw, is_label, callee, without_semicolon, assignment, glue, merge, first_symbol, goto_target, targets, defines}
@@ -41,7 +41,7 @@ choice_result (chose_webs r) = by_webs r
 choice_result (chose_splits r) = by_splits r
 
 unfoldable pub answer : Call → List Line → Result
-unfolding any all filter take_while position last_position find last on_first on_last concat fold range ◌==◌ starts_with text legacy legacy_family suffix_width other_family family fam_of names has_kw is_label callee without_semicolon assignment glue merge first_symbol goto_target targets defines closing condition comparisons see_logical see_bracket scan_text scan_token scan only_comparison negate_cond initialiser pop_reversed for_loop to_for turns guarded rebuilt close_at close loop_turn goes_to jump leading_test headed rewritten_turn looped goto_turn brace braces close_blocks blocks_from blocks chain_end falls past_end loops_back cases leaves label_line jumps gotos_lead successors flow_graph predecessors incoming outgoing sweep same_sets sweeps_from sweeps takes_address link webs_of distinct recover web_number is_def key all_jumps split_points per_token webs_refusal webs splits choose
+unfolding any all filter take_while position last_position find last on_first on_last concat fold range ◌≟◌ starts_with text legacy legacy_family suffix_width other_family family fam_of names has_kw is_label callee without_semicolon assignment glue merge first_symbol goto_target targets defines closing condition comparisons see_logical see_bracket scan_text scan_token scan only_comparison negate_cond initialiser pop_reversed for_loop to_for turns guarded rebuilt close_at close loop_turn goes_to jump leading_test headed rewritten_turn looped goto_turn brace braces close_blocks blocks_from blocks chain_end falls past_end loops_back cases leaves label_line jumps gotos_lead successors flow_graph predecessors incoming outgoing sweep same_sets sweeps_from sweeps takes_address link webs_of distinct recover web_number is_def key all_jumps split_points per_token webs_refusal webs splits choose
 answer loops_call L = pass_result (loops L)
 answer goto_loops_call L = pass_result (goto_loops L)
 answer webs_call L = webs_result (webs L)

@@ -2,11 +2,11 @@
 --   condition l kw    the tokens between the brackets after the keyword kw of line l
 --   negate_cond c     the condition that holds where c does not
 -- Assumes nothing.
-use Rattle.std.specs.Prelude.{ℕ, zero, suc, ◌+◌, ◌-◌, Bool, ◌&&◌, ◌||◌, not, List, [], ◌∷◌, ◌++◌, eqb, length, take, drop}
+use Rattle.std.specs.Prelude.{if◌then◌else◌, ℕ, zero, suc, ◌+◌, ◌-◌, Bool, ◌&&◌, ◌||◌, not, List, [], ◌∷◌, ◌++◌, eqb, length, take, drop}
 use Prim.Native.String.{String}
 use Rattle.std.proofs.Math.Option.{Option, none, some}
 use Rattle.std.proofs.Math.ListN.{get_elem?}
-use Rattle.definitions.specs.Lists.{if◌then◌else◌, ◌>>=◌, require, position, find, filter, count, last, on_first, on_last, on_part, starts_with, ends_with, ascii}
+use Rattle.definitions.specs.Lists.{◌>>=◌, require, position, find, filter, count, last, on_first, on_last, on_part, starts_with, ends_with, ascii}
 use Rattle.definitions.specs.Model.{Token, Line, tok, Keyword, Punct}
 use Rattle.definitions.specs.Statements.{is_kw, is_empty, merge}
 

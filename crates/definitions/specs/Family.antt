@@ -3,9 +3,9 @@
 --   fam_of t      the same of a register token
 --   names f t     the token t names the family f
 -- Assumes nothing.
-use Rattle.std.specs.Prelude.{ℕ, ◌+◌, Bool, false, ◌&&◌, ◌||◌, not, List, [], ◌∷◌, ◌++◌, eqb, leb, length, take, drop, get_or}
+use Rattle.std.specs.Prelude.{if◌then◌else◌, ℕ, ◌+◌, Bool, false, ◌&&◌, ◌||◌, not, List, [], ◌∷◌, ◌++◌, eqb, leb, length, take, drop, get_or}
 use Rattle.std.proofs.Math.Option.{Option, none, some}
-use Rattle.definitions.specs.Lists.{if◌then◌else◌, ◌>>=◌, position, take_while, ◌==◌, starts_with, ascii}
+use Rattle.definitions.specs.Lists.{◌>>=◌, position, take_while, ◌≟◌, starts_with, ascii}
 use Rattle.definitions.specs.Model.{Token, Register}
 
 pub record Family : Type 0 where
@@ -39,7 +39,7 @@ legacy_family (row ∷ rows) s =
 
 -- ah bh ch dh are 8 bits of their r?x.
 abbrev pub is_high : List ℕ → Bool
-is_high s = (s == ascii "ah") || (s == ascii "bh") || (s == ascii "ch") || (s == ascii "dh")
+is_high s = (s ≟ ascii "ah") || (s ≟ ascii "bh") || (s ≟ ascii "ch") || (s ≟ ascii "dh")
 
 -- `r` and one or more digits is 64; with d 32, w 16, b or l 8; another ending is no family.
 
@@ -48,14 +48,14 @@ digits s = take_while (λ c. leb 48 c && leb c 57) s
 
 unfoldable pub suffix_width : List ℕ → Option ℕ
 suffix_width s =
-    if s == [] then some 64
-    else if s == ascii "d" then some 32
-    else if s == ascii "w" then some 16
-    else if (s == ascii "b") || (s == ascii "l") then some 8
+    if s ≟ [] then some 64
+    else if s ≟ ascii "d" then some 32
+    else if s ≟ ascii "w" then some 16
+    else if (s ≟ ascii "b") || (s ≟ ascii "l") then some 8
     else none
 
 abbrev pub is_numbered : List ℕ → Bool
-is_numbered s = starts_with (ascii "r") s && not (digits (drop 1 s) == [])
+is_numbered s = starts_with (ascii "r") s && not (digits (drop 1 s) ≟ [])
 
 abbrev pub numbered_family : List ℕ → Option Family
 numbered_family s = do
@@ -78,4 +78,4 @@ unfoldable pub fam_of : Token → Option Family
 fam_of t = if eqb t.kind Register then family t.text else none
 
 unfoldable pub names : List ℕ → Token → Bool
-names f t = elim (fam_of t) [ none ↦ false | some x ↦ x.name == f ]
+names f t = elim (fam_of t) [ none ↦ false | some x ↦ x.name ≟ f ]

@@ -6,9 +6,9 @@
 --   jumps L i           where the gotos of line i lead
 --   gotos_lead L        every goto keyword has a symbol after it, the first of which names a label
 -- Assumes nothing.
-use Rattle.std.specs.Prelude.{ℕ, zero, suc, ◌+◌, ◌-◌, Bool, false, ◌&&◌, ◌||◌, List, [], ◌∷◌, ◌++◌, map, eqb, ltb, length, get_or}
+use Rattle.std.specs.Prelude.{if◌then◌else◌, ℕ, zero, suc, ◌+◌, ◌-◌, Bool, false, ◌&&◌, ◌||◌, List, [], ◌∷◌, ◌++◌, map, eqb, ltb, length, get_or}
 use Rattle.std.proofs.Math.Option.{Option, none, some}
-use Rattle.definitions.specs.Lists.{if◌then◌else◌, ◌>>=◌, require, is_some, to_list, any, all, filter, concat, last_position, range, up_to, member, ◌==◌, contains, ascii}
+use Rattle.definitions.specs.Lists.{◌>>=◌, require, is_some, to_list, any, all, filter, concat, last_position, range, up_to, member, ◌≟◌, contains, ascii}
 use Rattle.definitions.specs.Model.{Line, token, line, Punct}
 use Rattle.definitions.specs.Statements.{is_kw, has_kw, is_label, label, goto_targets}
 use Rattle.definitions.specs.Blocks.{Blocks, blocks}
@@ -70,7 +70,7 @@ leaves L b i =
 -- Each goto steps to its label; of equal labels the last counts.
 
 unfoldable pub label_line : List Line → List ℕ → Option ℕ
-label_line L s = last_position (λ l. is_label l && (label l == s)) L
+label_line L s = last_position (λ l. is_label l && (label l ≟ s)) L
 
 -- where each goto of line i leads, none where it leads to no label
 abbrev pub leads : List Line → ℕ → List (Option ℕ)

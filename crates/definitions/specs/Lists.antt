@@ -23,7 +23,7 @@
 --   contains b s                    the byte b stands in s
 --   ascii "goto"                    the bytes of an ASCII text
 -- Assumes nothing.
-use Rattle.std.specs.Prelude.{ℕ, zero, suc, ◌+◌, ◌-◌, Bool, true, false, cond, ◌&&◌, ◌||◌, List, [], ◌∷◌, ◌++◌, map, eqb, leb, length, take, drop}
+use Rattle.std.specs.Prelude.{if◌then◌else◌, ℕ, zero, suc, ◌+◌, ◌-◌, Bool, true, false, ◌&&◌, ◌||◌, List, [], ◌∷◌, ◌++◌, map, eqb, leb, length, take, drop}
 use Prim.Native.Char.{code}
 use Prim.Native.String.{String}
 use Prim.Native.String as S
@@ -33,11 +33,7 @@ use Rattle.std.proofs.Math.ListN.{get_elem?}
 
 -- Choices and options
 
-infix 5 if◌then◌else◌
 infixl 1 ◌>>=◌
-abbrev pub if◌then◌else◌ : {A : Type 0} → Bool → A → A → A
-if b then x else y = cond b x y
-
 abbrev pub ◌>>=◌ : {A B : Type 0} → Option A → (A → Option B) → Option B
 none >>= f = none
 some a >>= f = f a
@@ -145,12 +141,12 @@ member x xs = any (eqb x) xs
 
 -- Texts
 
-infix 40 ◌==◌
-unfoldable pub ◌==◌ : List ℕ → List ℕ → Bool
-[] == [] = true
-[] == (b ∷ t) = false
-(a ∷ s) == [] = false
-(a ∷ s) == (b ∷ t) = eqb a b && (s == t)
+infix 40 ◌≟◌
+unfoldable pub ◌≟◌ : List ℕ → List ℕ → Bool
+[] ≟ [] = true
+[] ≟ (b ∷ t) = false
+(a ∷ s) ≟ [] = false
+(a ∷ s) ≟ (b ∷ t) = eqb a b && (s ≟ t)
 
 unfoldable pub starts_with : List ℕ → List ℕ → Bool
 starts_with [] s = true
@@ -158,7 +154,7 @@ starts_with (a ∷ p) [] = false
 starts_with (a ∷ p) (b ∷ s) = eqb a b && starts_with p s
 
 abbrev pub ends_with : List ℕ → List ℕ → Bool
-ends_with p s = leb (length p) (length s) && (drop (length s - length p) s == p)
+ends_with p s = leb (length p) (length s) && (drop (length s - length p) s ≟ p)
 
 abbrev pub contains : ℕ → List ℕ → Bool
 contains b s = member b s

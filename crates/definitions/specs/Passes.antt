@@ -6,7 +6,7 @@
 --   lone_brace l         line l reads `}`
 -- Assumes nothing.
 use Rattle.std.specs.Prelude.{ℕ, zero, suc, ◌+◌, Bool, true, false, List, [], ◌∷◌, ◌++◌, ltb, length}
-use Rattle.definitions.specs.Lists.{◌==◌, ascii}
+use Rattle.definitions.specs.Lists.{◌≟◌, ascii}
 use Rattle.definitions.specs.Model.{Token, Line, tok, text, Keyword, Punct}
 
 pub data Turn : Type 0 where
@@ -33,4 +33,4 @@ abbrev pub while_head : List Token → List Token
 while_head c = tok (ascii "while") Keyword ∷ tok (ascii " (") Punct ∷ (c ++ (tok (ascii ") {") Punct ∷ []))
 
 abbrev pub lone_brace : Line → Bool
-lone_brace l = text l.tokens == ascii "}"
+lone_brace l = text l.tokens ≟ ascii "}"

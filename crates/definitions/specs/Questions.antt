@@ -2,9 +2,9 @@
 --   question_1 .. question_5    the answer to a question, yes being true
 --   refusal qs                  the number of the first of the questions that is answered no
 -- Assumes nothing.
-use Rattle.std.specs.Prelude.{ℕ, ◌+◌, ◌*◌, ◌/◌, ◌%◌, Bool, ◌&&◌, List, [], ◌∷◌, eqb, leb, length}
+use Rattle.std.specs.Prelude.{if◌then◌else◌, ℕ, ◌+◌, ◌*◌, ◌/◌, ◌%◌, Bool, ◌&&◌, List, [], ◌∷◌, eqb, leb, length}
 use Rattle.std.proofs.Math.Option.{Option, none, some}
-use Rattle.definitions.specs.Lists.{if◌then◌else◌, all}
+use Rattle.definitions.specs.Lists.{all}
 use Rattle.definitions.specs.Utf8.{is_utf8}
 use Rattle.definitions.specs.Columns.{token_list}
 

@@ -6,9 +6,9 @@
 --   key ws f i k                     the web number of the family f at token k of line i
 --   is_def ws f i                    line i starts a fresh value of f
 -- Assumes nothing.
-use Rattle.std.specs.Prelude.{ℕ, ◌+◌, ◌-◌, Bool, false, ◌&&◌, ◌||◌, not, List, [], ◌∷◌, map, eqb, leb, ltb, length, drop, get_or}
+use Rattle.std.specs.Prelude.{if◌then◌else◌, ℕ, ◌+◌, ◌-◌, Bool, false, ◌&&◌, ◌||◌, not, List, [], ◌∷◌, map, eqb, leb, ltb, length, drop, get_or}
 use Rattle.std.proofs.Math.Option.{Option, none, some}
-use Rattle.definitions.specs.Lists.{if◌then◌else◌, ◌>>=◌, require, is_some, to_list, or_else, any, filter, find, count, first, fold, concat, range, up_to, member, ◌==◌, ends_with, ascii}
+use Rattle.definitions.specs.Lists.{◌>>=◌, require, is_some, to_list, or_else, any, filter, find, count, first, fold, concat, range, up_to, member, ◌≟◌, ends_with, ascii}
 use Rattle.definitions.specs.Model.{Token, Line, line}
 use Rattle.definitions.specs.Family.{names}
 use Rattle.definitions.specs.Statements.{defines, is_var}
@@ -21,13 +21,13 @@ abbrev pub from_line_1 : List Line → List ℕ
 from_line_1 L = range 1 (length L - 1)
 
 abbrev pub is_def_of : List ℕ → Line → Bool
-is_def_of f l = elim (defines l) [ none ↦ false | some g ↦ g == f ]
+is_def_of f l = elim (defines l) [ none ↦ false | some g ↦ g ≟ f ]
 
 abbrev pub def_lines : List Line → List ℕ → List ℕ
 def_lines L f = filter (λ i. is_def_of f (line L i)) (from_line_1 L)
 
 abbrev pub is_read_family : List ℕ → Bool
-is_read_family f = not (is_var f) && not (f == ascii "rsp")
+is_read_family f = not (is_var f) && not (f ≟ ascii "rsp")
 
 -- the tokens that are read: all but the defined register
 abbrev pub read_tokens : Line → List Token
@@ -88,7 +88,7 @@ webs_of L preds f =
 -- the families that have a definition, each once
 unfoldable pub distinct : List (List ℕ) → List (List ℕ)
 distinct [] = []
-distinct (f ∷ fs) = f ∷ filter (λ g. not (g == f)) (distinct fs)
+distinct (f ∷ fs) = f ∷ filter (λ g. not (g ≟ f)) (distinct fs)
 
 abbrev pub defined_families : List Line → List (List ℕ)
 defined_families L = distinct (concat (map (λ i. to_list (defines (line L i))) (from_line_1 L)))
@@ -109,7 +109,7 @@ abbrev pub read_number : Webs → ℕ → ℕ
 read_number w i = web_number w (or_else (first (get_or w.reaching i [])) 0)
 
 abbrev pub webs_for : List Webs → List ℕ → Option Webs
-webs_for ws f = find (λ w. w.family == f) ws
+webs_for ws f = find (λ w. w.family ≟ f) ws
 
 unfoldable pub is_def : List Webs → List ℕ → ℕ → Bool
 is_def ws f i = elim (webs_for ws f) [ none ↦ false | some w ↦ member i w.defs ]

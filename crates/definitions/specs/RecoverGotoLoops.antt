@@ -1,10 +1,10 @@
 -- Label and goto loops, to be read beside `recover_goto_loops` of pseudo_types.rs.
 --   recover_goto_loops L    the listing with `h: body; goto h;` made `while (..) { body }`, or `for`
 -- Assumes nothing.
-use Rattle.std.specs.Prelude.{ℕ, ◌+◌, Bool, false, ◌&&◌, ◌||◌, not, List, [], ◌∷◌, ◌++◌, eqb, ltb, take, drop, set}
+use Rattle.std.specs.Prelude.{if◌then◌else◌, ℕ, ◌+◌, Bool, false, ◌&&◌, ◌||◌, not, List, [], ◌∷◌, ◌++◌, eqb, ltb, take, drop, set}
 use Rattle.std.proofs.Math.Option.{Option, none, some, map}
 use Rattle.std.proofs.Math.ListN.{get_elem?}
-use Rattle.definitions.specs.Lists.{if◌then◌else◌, ◌>>=◌, require, is_some, or_else, any, all, filter, take_while, position, last_position, first, last, part, remove, insert, on_first, on_part, ◌==◌, starts_with, ends_with, ascii}
+use Rattle.definitions.specs.Lists.{◌>>=◌, require, is_some, or_else, any, all, filter, take_while, position, last_position, first, last, part, remove, insert, on_first, on_part, ◌≟◌, starts_with, ends_with, ascii}
 use Rattle.definitions.specs.Model.{Token, Line, tok, pseudo_line, token, line, text, Number, Keyword, Punct}
 use Rattle.definitions.specs.Statements.{is_kw, is_label, label, merge, goto_target}
 use Rattle.definitions.specs.Condition.{cut_front, cut, negate_cond}
@@ -22,7 +22,7 @@ abbrev pub in_block : ℕ → Line → Bool
 in_block ind l = ltb ind l.indent || (eqb l.indent ind && is_label l)
 
 abbrev pub is_back : List ℕ → ℕ → Line → Bool
-is_back head d l = eqb l.indent d && (text l.tokens == (ascii "goto " ++ (head ++ ascii ";")))
+is_back head d l = eqb l.indent d && (text l.tokens ≟ (ascii "goto " ++ (head ++ ascii ";")))
 
 abbrev pub back_edge : List Line → ℕ → Option ℕ
 back_edge L h =
@@ -32,7 +32,7 @@ back_edge L h =
 -- No goto outside h..b may target h or a label inside.
 abbrev pub enters : List Line → ℕ → ℕ → Bool
 enters L h b =
-    any (goes_to (λ t. (t == label (line L h)) || any (λ l. label l == t) (filter is_label (part (h + 1) b L)))) (take h L ++ drop (b + 1) L)
+    any (goes_to (λ t. (t ≟ label (line L h)) || any (λ l. label l ≟ t) (filter is_label (part (h + 1) b L)))) (take h L ++ drop (b + 1) L)
 
 -- Inside, goto h becomes continue, goto the label at b + 1 becomes break; everything from the goto on is dropped.
 
@@ -49,8 +49,8 @@ exit_label L b = do
 
 unfoldable pub jump : List ℕ → Option (List ℕ) → Line → Line
 jump head exit l =
-    if goes_to (λ t. t == head) l then jump_line (ascii "continue") l
-    else if goes_to (λ t. elim exit [ none ↦ false | some e ↦ t == e ]) l then jump_line (ascii "break") l
+    if goes_to (λ t. t ≟ head) l then jump_line (ascii "continue") l
+    else if goes_to (λ t. elim exit [ none ↦ false | some e ↦ t ≟ e ]) l then jump_line (ascii "break") l
     else l
 
 abbrev pub move_in : Line → Line
@@ -88,7 +88,7 @@ unfoldable pub headed : List Line → ℕ → ℕ → Turn
 headed M h d =
     let test = leading_test (line M (h + 1)) d in
     let header = pseudo_line (line M h).address d (merge (while_head (or_else test one))) in
-    let still_used = any (goes_to (λ t. t == label (line M h))) M in
+    let still_used = any (goes_to (λ t. t ≟ label (line M h))) M in
     let N = if is_some test then remove (h + 1) M else M in
     if still_used then go (h + 2) (to_for (insert (h + 1) header N) (h + 1))
     else go (h + 1) (to_for (set N h header) h)

@@ -1,9 +1,9 @@
 -- Guarded do-while loops, to be read beside `recover_loops` of pseudo_types.rs.
 --   recover_loops L    the listing with `if (C) { do { B } while (C); }` made `while (C) { B }`, or `for`
 -- Assumes nothing.
-use Rattle.std.specs.Prelude.{ℕ, ◌+◌, ◌-◌, Bool, ◌&&◌, not, List, eqb, leb, ltb, length, set}
+use Rattle.std.specs.Prelude.{if◌then◌else◌, ℕ, ◌+◌, ◌-◌, Bool, ◌&&◌, not, List, eqb, leb, ltb, length, set}
 use Rattle.std.proofs.Math.Option.{Option, none, some}
-use Rattle.definitions.specs.Lists.{if◌then◌else◌, ◌>>=◌, require, all, position_from, part, remove, on_part, ◌==◌, ends_with, ascii}
+use Rattle.definitions.specs.Lists.{◌>>=◌, require, all, position_from, part, remove, on_part, ◌≟◌, ends_with, ascii}
 use Rattle.definitions.specs.Model.{Token, Line, pseudo_line, token, line, text}
 use Rattle.definitions.specs.Statements.{is_kw, has_kw, is_label}
 use Rattle.definitions.specs.Condition.{condition}
@@ -22,7 +22,7 @@ guarded L i w = do
   c1 ← condition (line L i) (ascii "if")
   c2 ← condition (line L w) (ascii "while")
   _ ← require (eqb (line L w).indent (ind + 1) && ltb (w + 1) (length L))
-  _ ← require (eqb (line L (w + 1)).indent ind && lone_brace (line L (w + 1)) && (text c1 == text c2))
+  _ ← require (eqb (line L (w + 1)).indent ind && lone_brace (line L (w + 1)) && (text c1 ≟ text c2))
   some c1
 
 abbrev pub move_out : Line → Line

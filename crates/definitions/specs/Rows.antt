@@ -3,10 +3,10 @@
 --   Row, rows             the rows
 --   shown c L             what the call c answers of the listing L, web numbers as the web program prints them
 -- Assumes nothing.
-use Rattle.std.specs.Prelude.{ℕ, ◌+◌, List, [], ◌∷◌, ◌++◌, map, eqb, length, get_or, take}
+use Rattle.std.specs.Prelude.{if◌then◌else◌, ℕ, ◌+◌, List, [], ◌∷◌, ◌++◌, map, eqb, length, get_or, take}
 use Prim.Native.String.{String}
 use Rattle.std.proofs.Math.Option.{none, some}
-use Rattle.definitions.specs.Lists.{if◌then◌else◌, concat, up_to, ascii}
+use Rattle.definitions.specs.Lists.{concat, up_to, ascii}
 use Rattle.definitions.specs.Model.{Token, Line, tok, pseudo_line, token, line, Register, Number, Keyword, Symbol, Punct}
 use Rattle.definitions.specs.Family.{fam_of}
 use Rattle.definitions.specs.Columns.{all_tokens}

@@ -5,7 +5,7 @@
 -- Assumes nothing.
 use Rattle.std.specs.Prelude.{ℕ, Bool, ◌&&◌, ◌||◌, not, List, map, eqb, leb, ltb, length}
 use Rattle.std.proofs.Math.Option
-use Rattle.definitions.specs.Lists.{to_list, any, filter, count, concat, up_to, ◌==◌}
+use Rattle.definitions.specs.Lists.{to_list, any, filter, count, concat, up_to, ◌≟◌}
 use Rattle.definitions.specs.Model.{Line, line}
 use Rattle.definitions.specs.Statements.{defines}
 use Rattle.definitions.specs.FlowGraph.{jumps}
@@ -33,7 +33,7 @@ split_points L =
     (filter (λ k. eqb (line L k).indent 1 && not (any (crosses k) js)) (from_line_1 L)))
 
 abbrev pub split_key : List Split → List ℕ → ℕ → ℕ
-split_key ss f i = count (λ s. (s.family == f) && leb s.at i) ss
+split_key ss f i = count (λ s. (s.family ≟ f) && leb s.at i) ss
 
 abbrev pub split_starts : List Split → List ℕ → ℕ → Bool
-split_starts ss f i = any (λ s. (s.family == f) && eqb s.at i) ss
+split_starts ss f i = any (λ s. (s.family ≟ f) && eqb s.at i) ss

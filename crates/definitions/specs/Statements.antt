@@ -9,14 +9,14 @@
 --   goto_targets l     the same of each goto
 --   defines l          the family that line l defines
 -- Assumes nothing.
-use Rattle.std.specs.Prelude.{ℕ, ◌+◌, ◌-◌, Bool, ◌&&◌, ◌||◌, not, List, [], ◌∷◌, ◌++◌, eqb, leb, length, take, drop}
+use Rattle.std.specs.Prelude.{if◌then◌else◌, ℕ, ◌+◌, ◌-◌, Bool, ◌&&◌, ◌||◌, not, List, [], ◌∷◌, ◌++◌, eqb, leb, length, take, drop}
 use Rattle.std.proofs.Math.Option.{Option, none, some, map}
-use Rattle.definitions.specs.Lists.{if◌then◌else◌, ◌>>=◌, require, any, position, find, last, ◌==◌, starts_with, ends_with, ascii}
+use Rattle.definitions.specs.Lists.{◌>>=◌, require, any, position, find, last, ◌≟◌, starts_with, ends_with, ascii}
 use Rattle.definitions.specs.Model.{Token, Line, tok, token, Text, Register, Keyword, Symbol, Punct}
 use Rattle.definitions.specs.Family.{fam_of, names}
 
 abbrev pub is_kw : List ℕ → Token → Bool
-is_kw w t = eqb t.kind Keyword && (t.text == w)
+is_kw w t = eqb t.kind Keyword && (t.text ≟ w)
 
 unfoldable pub has_kw : Line → List ℕ → Bool
 has_kw l w = any (is_kw w) l.tokens
@@ -24,7 +24,7 @@ has_kw l w = any (is_kw w) l.tokens
 -- Label: two tokens, a symbol and text `:`.
 
 unfoldable pub is_label : Line → Bool
-is_label l = eqb (length l.tokens) 2 && ((token l 1).text == ascii ":") && eqb (token l 0).kind Symbol
+is_label l = eqb (length l.tokens) 2 && ((token l 1).text ≟ ascii ":") && eqb (token l 0).kind Symbol
 
 abbrev pub label : Line → List ℕ
 label l = (token l 0).text
@@ -51,7 +51,7 @@ pub record Assignment : Type 0 where
   pub expr : List Token
 
 abbrev pub is_empty : Token → Bool
-is_empty t = t.text == []
+is_empty t = t.text ≟ []
 
 -- the token in a list, or the empty list where its text is empty
 abbrev pub unless_empty : Token → List Token

@@ -6,8 +6,8 @@
 --   sweeps preds defs            the outgoing sets at the end, and the number of sweeps
 -- preds has the predecessors of each line, defs the defining lines in order, out the outgoing set of each line.
 -- Assumes nothing.
-use Rattle.std.specs.Prelude.{ℕ, zero, suc, Bool, true, false, ◌&&◌, List, [], ◌∷◌, length, get_or, set, replicate}
-use Rattle.definitions.specs.Lists.{if◌then◌else◌, any, filter, fold, up_to, member, ◌==◌}
+use Rattle.std.specs.Prelude.{if◌then◌else◌, ℕ, zero, suc, Bool, true, false, ◌&&◌, List, [], ◌∷◌, length, get_or, set, replicate}
+use Rattle.definitions.specs.Lists.{any, filter, fold, up_to, member, ◌≟◌}
 
 -- Each from its predecessors' newest outgoing sets; line 0 takes only the entry.
 unfoldable pub incoming : List (List ℕ) → List ℕ → List (List ℕ) → ℕ → List ℕ
@@ -24,7 +24,7 @@ unfoldable pub same_sets : List (List ℕ) → List (List ℕ) → Bool
 same_sets [] [] = true
 same_sets [] (t ∷ ts) = false
 same_sets (s ∷ ss) [] = false
-same_sets (s ∷ ss) (t ∷ ts) = (s == t) && same_sets ss ts
+same_sets (s ∷ ss) (t ∷ ts) = (s ≟ t) && same_sets ss ts
 
 pub record Swept : Type 0 where
   pub out : List (List ℕ)

@@ -2,9 +2,9 @@
 --   to_for L w    the listing with the while header at w made a for header, where its conditions hold
 --   pop s         a text without its last code point
 -- Assumes nothing.
-use Rattle.std.specs.Prelude.{ℕ, zero, suc, ◌+◌, ◌-◌, Bool, ◌&&◌, ◌||◌, not, List, [], ◌∷◌, ◌++◌, reverse, eqb, leb, ltb, drop, set}
+use Rattle.std.specs.Prelude.{if◌then◌else◌, ℕ, zero, suc, ◌+◌, ◌-◌, Bool, ◌&&◌, ◌||◌, not, List, [], ◌∷◌, ◌++◌, reverse, eqb, leb, ltb, drop, set}
 use Rattle.std.proofs.Math.Option.{Option, none, some}
-use Rattle.definitions.specs.Lists.{if◌then◌else◌, ◌>>=◌, require, is_some, or_else, any, position_from, first, part, remove, on_last, ◌==◌, starts_with, ascii}
+use Rattle.definitions.specs.Lists.{◌>>=◌, require, is_some, or_else, any, position_from, first, part, remove, on_last, ◌≟◌, starts_with, ascii}
 use Rattle.definitions.specs.Model.{Token, Line, tok, pseudo_line, line, text, Keyword, Punct}
 use Rattle.definitions.specs.Family.{fam_of, names}
 use Rattle.definitions.specs.Statements.{has_kw, is_label, call_at, assignment, merge}
@@ -12,7 +12,7 @@ use Rattle.definitions.specs.Condition.{condition}
 
 -- A step: `++;`, `--;`, ` += ` or ` -= ` behind the register.
 abbrev pub is_step : List ℕ → Bool
-is_step s = (s == ascii "++;") || (s == ascii "--;") || starts_with (ascii " += ") s || starts_with (ascii " -= ") s
+is_step s = (s ≟ ascii "++;") || (s ≟ ascii "--;") || starts_with (ascii " += ") s || starts_with (ascii " -= ") s
 
 -- An initialiser of v at indent ind among the n lines before line k, its right side free of v; the lines between are assignments at that
 -- indent that neither name v nor call.
@@ -54,7 +54,7 @@ for_loop L w = do
   _ ← require (ltb 0 w)
   c ← condition (line L w) (ascii "while")
   end ← position_from (w + 1) (λ l. leb l.indent ind && not (is_label l)) L
-  _ ← require (leb (w + 2) end && eqb (line L end).indent ind && (text (line L end).tokens == ascii "}"))
+  _ ← require (leb (w + 2) end && eqb (line L end).indent ind && (text (line L end).tokens ≟ ascii "}"))
   let step = line L (end - 1)
   t ← first step.tokens
   v ← fam_of t

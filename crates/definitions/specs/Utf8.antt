@@ -1,9 +1,8 @@
 -- UTF-8 as RFC 3629, section 4, has it: no overlong form, no surrogate, nothing above U+10FFFF, nothing cut short.
 --   is_utf8 s    the bytes s are UTF-8
 -- Assumes nothing.
-use Rattle.std.specs.Prelude.{ℕ, Bool, true, false, ◌&&◌, List, [], ◌∷◌, eqb, leb}
+use Rattle.std.specs.Prelude.{if◌then◌else◌, ℕ, Bool, true, false, ◌&&◌, List, [], ◌∷◌, eqb, leb}
 use Rattle.std.proofs.Math.Option.{Option, none, some}
-use Rattle.definitions.specs.Lists.{if◌then◌else◌}
 
 pub record Range : Type 0 where
   pub low : ℕ

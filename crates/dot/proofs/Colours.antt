@@ -21,7 +21,7 @@ use Rattle.definitions.specs.Family.{Family, fam_of}
 use Rattle.definitions.specs.Answers.{mark}
 use Rattle.family.specs.Register.{same_name}
 use Rattle.model.proofs.Ands.{both}
-use Rattle.text.proofs.Texts.{==-eq, eq-==}
+use Rattle.text.proofs.Texts.{≟_eq, eq_≟}
 use Rattle.rows.specs.Rows.{name_of}
 use Rattle.dot.specs.Dot.{digit, hue, has_web, same_web, first_of, appears, before, colour}
 
@@ -35,12 +35,12 @@ record SameFamily (o p : Option Family) : Type 0 where
 to_family : (o p : Option Family) → same_name o p ≡ true → SameFamily o p
 to_family none p e = let z : ◌≡◌ {A = ℕ} 0 1 = cc in absurd (omega arith)
 to_family (some f) none e = let z : ◌≡◌ {A = ℕ} 0 1 = cc in absurd (omega arith)
-to_family (some f) (some g) e = record { left = refl; right = refl; name = ==-eq f.name g.name e }
+to_family (some f) (some g) e = record { left = refl; right = refl; name = ≟_eq f.name g.name e }
 
 from_family : (o p : Option Family) → SameFamily o p → same_name o p ≡ true
 from_family none p s = let q = s.left in let z : ◌≡◌ {A = ℕ} 0 1 = cc in absurd (omega arith)
 from_family (some f) none s = let q = s.right in let z : ◌≡◌ {A = ℕ} 0 1 = cc in absurd (omega arith)
-from_family (some f) (some g) s = eq-== f.name g.name s.name
+from_family (some f) (some g) s = eq_≟ f.name g.name s.name
 
 -- Hues
 

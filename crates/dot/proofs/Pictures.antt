@@ -5,6 +5,7 @@
 --   dot_drawn                                    the flow graph is drawn
 --   no_flow, dot_brace, dot_label                there is none
 -- Assumes nothing.
+use Rattle.std.specs.Prelude.{if◌then◌else◌}
 use Prim.Native.Nat.{ℕ, ◌+◌, ◌*◌, ◌-◌, ◌<◌}
 use mathlib.Core.Path.{◌≡◌, refl, sym, ap, ◌∙◌}
 use mathlib.Core.Bool.{Bool, true, false, not}
@@ -13,7 +14,7 @@ use mathlib.Core.Option.{Option, none, some}
 use native.Mathlib.Omega.{arith}
 use lib.ListN.{length}
 use lib.Seq.{length-take-le}
-use Rattle.definitions.specs.Lists.{if◌then◌else◌, ◌>>=◌, require, is_some, up_to, ascii}
+use Rattle.definitions.specs.Lists.{◌>>=◌, require, is_some, up_to, ascii}
 use Rattle.definitions.specs.Model.{Token, Line, line}
 use Rattle.definitions.specs.Columns.{token_list, listing, all_tokens}
 use Rattle.definitions.specs.Questions.{covers}

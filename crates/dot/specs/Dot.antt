@@ -22,9 +22,9 @@
 --   drawn L N g                    the picture with the flow graph g, nothing where there is none
 --   dot_text L N                   the picture
 -- Assumes nothing.
-use Rattle.std.specs.Prelude.{ℕ, zero, suc, ◌+◌, ◌*◌, ◌-◌, ◌/◌, ◌%◌, max, Bool, ◌&&◌, not, List, [], ◌∷◌, ◌++◌, map, eqb, leb, ltb, length, take, get_or}
+use Rattle.std.specs.Prelude.{if◌then◌else◌, ℕ, zero, suc, ◌+◌, ◌*◌, ◌-◌, ◌/◌, ◌%◌, max, Bool, ◌&&◌, not, List, [], ◌∷◌, ◌++◌, map, eqb, leb, ltb, length, take, get_or}
 use Rattle.std.proofs.Math.Option.{Option, none, some}
-use Rattle.definitions.specs.Lists.{if◌then◌else◌, or_else, find, concat, range, up_to, ascii}
+use Rattle.definitions.specs.Lists.{or_else, find, concat, range, up_to, ascii}
 use Rattle.definitions.specs.Model.{Token, Line, no_token, line}
 use Rattle.definitions.specs.Columns.{all_tokens}
 use Rattle.definitions.specs.Family.{fam_of}

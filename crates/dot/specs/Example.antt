@@ -13,7 +13,7 @@ use Rattle.definitions.specs.Computed.{Result, refused, rewritten, by_webs, by_s
 use Rattle.definitions.specs.Blocks.{close, brace, braces, blocks_from, blocks}
 use Rattle.definitions.specs.Family.{legacy, legacy_family, suffix_width, other_family, family, fam_of}
 use Rattle.definitions.specs.FlowGraph.{chain_end, falls, past_end, loops_back, cases, leaves, label_line, jumps, gotos_lead, successors, flow_graph}
-use Rattle.definitions.specs.Lists.{fold, any, all, filter, take_while, position, last_position, find, concat, range, ◌==◌, starts_with, ascii}
+use Rattle.definitions.specs.Lists.{fold, any, all, filter, take_while, position, last_position, find, concat, range, ◌≟◌, starts_with, ascii}
 use Rattle.definitions.specs.Statements.{has_kw, is_label, first_symbol, targets}
 use Rattle.json_definitions.specs.Writer.{digits_of, decimal}
 use Rattle.dot.specs.Dot.{character, characters, digit, hue, font, blanks, below, web_text, has_web, same_web, first_of, appears, before, token_text, line_text, sum, greatest, token_cells, cells, node_head, number_cell, text_cell, node_start, node_text, start, width, node, arrow, down, aside, edge, edges, drawn, dot_text}
@@ -61,5 +61,5 @@ unfolding answer
 loop_webs = refl
 
 pub example : dot_text loop loop_numbers ≡ loop_picture
-unfolding fold text close any all filter take_while position last_position find concat range ◌==◌ starts_with legacy legacy_family suffix_width other_family family fam_of has_kw is_label first_symbol targets brace braces blocks_from blocks chain_end falls past_end loops_back cases leaves label_line jumps gotos_lead successors flow_graph digits_of decimal character characters digit hue font blanks below web_text has_web same_web first_of appears before token_text line_text sum greatest token_cells cells node_head number_cell text_cell node_start node_text start width node arrow down aside edge edges drawn dot_text
+unfolding fold text close any all filter take_while position last_position find concat range ◌≟◌ starts_with legacy legacy_family suffix_width other_family family fam_of has_kw is_label first_symbol targets brace braces blocks_from blocks chain_end falls past_end loops_back cases leaves label_line jumps gotos_lead successors flow_graph digits_of decimal character characters digit hue font blanks below web_text has_web same_web first_of appears before token_text line_text sum greatest token_cells cells node_head number_cell text_cell node_start node_text start width node arrow down aside edge edges drawn dot_text
 example = refl

@@ -20,12 +20,12 @@ use native.Mathlib.Decide.{dec_le}
 use native.Mathlib.Omega.{arith}
 use lib.ListN.{length, get_or, set, take, drop}
 use lib.Seq.{length-take-le, take-suc-set}
-use Rattle.definitions.specs.Lists.{any, all, filter, part, ◌==◌}
+use Rattle.definitions.specs.Lists.{any, all, filter, part, ◌≟◌}
 use Rattle.definitions.specs.Model.{Line, token, line, no_token}
 use Rattle.definitions.specs.Statements.{is_label, label, goto_target}
 use Rattle.definitions.specs.RecoverGotoLoops.{goes_to, enters}
 use Rattle.text.proofs.Parts.{drop_step, drop_end, part_step, part_tail, part_part}
-use Rattle.text.proofs.Texts.{==-sym}
+use Rattle.text.proofs.Texts.{≟_sym}
 use Rattle.loop_theory.proofs.Cases.{true_false, and_split}
 use Rattle.loop_theory.proofs.AnyAll.{all_halves}
 use Rattle.plan.specs.Plan.{header_at, piece_at, line_of, render}
@@ -60,7 +60,7 @@ module _ (C : List Line) (w : ℕ) (is : is_label (line_of C w) ≡ true) where
   label_text =
       ap (λ ts. (get_or ts 0 no_token).text) (sym (no_header_line C w (header_at w) refl no_header ∙ kept_piece C (piece_at w) whole_line))
 
-pub names_at : (C : List Line) (i k : ℕ) (x s : List ℕ) (r : Bool) → k ≡ i → x ≡ (token (line C k) 0).text → r ≡ (x == s) → r ≡ names C s i
+pub names_at : (C : List Line) (i k : ℕ) (x s : List ℕ) (r : Bool) → k ≡ i → x ≡ (token (line C k) 0).text → r ≡ (x ≟ s) → r ≡ names C s i
 names_at C i k x s r e q g = g ∙ ap (◌== s) (q ∙ ap (λ j. (token (line C j) 0).text) e)
 
 -- The labels listed
@@ -170,13 +170,13 @@ goes_same p q e l = go (goto_target l)
     go none = refl
     go (some t) = e t
 
-named : (C : List Line) (t : List ℕ) (ws : List ℕ) → any (λ l. label l == t) (filter is_label (map (line_of C) ws)) ≡ any (names C t) (labels C ws)
+named : (C : List Line) (t : List ℕ) (ws : List ℕ) → any (λ l. label l ≟ t) (filter is_label (map (line_of C) ws)) ≡ any (names C t) (labels C ws)
 unfolding any filter labels
 named C t [] = refl
 named C t (w ∷ ws) = go (is_label (line_of C w)) refl (named C t ws)
   where
-    go : (b : Bool) → is_label (line_of C w) ≡ b → any (λ l. label l == t) (filter is_label (map (line_of C) ws)) ≡ any (names C t) (labels C ws)
-        → any (λ l. label l == t) (cond b (line_of C w ∷ filter is_label (map (line_of C) ws)) (filter is_label (map (line_of C) ws)))
+    go : (b : Bool) → is_label (line_of C w) ≡ b → any (λ l. label l ≟ t) (filter is_label (map (line_of C) ws)) ≡ any (names C t) (labels C ws)
+        → any (λ l. label l ≟ t) (cond b (line_of C w ∷ filter is_label (map (line_of C) ws)) (filter is_label (map (line_of C) ws)))
         ≡ any (names C t) (map source (cond b (w ∷ filter (λ w. is_label (line_of C w)) ws) (filter (λ w. is_label (line_of C w)) ws)))
     go true is e = ap₂ ◌||◌ (ap (◌== t) (sym (label_text C w is))) e
     go false is e = e
@@ -205,15 +205,15 @@ module _ (ws : List ℕ) (n : ℕ) (fit : n ≤ length ws) where
       gotos_behind = rw (← drop_taken (b + 1)) (all_halves is_goto (b + 1) (take n ws) e).1
 
     module _ (C : List Line) (is : is_label (line_of C (get_or ws h 0)) ≡ true) where
-      inside_is : (t : List ℕ) → ((t == label (line (render C (take n ws)) h)) || any (λ l. label l == t) (filter is_label (part (h + 1) b (render C (take n ws)))))
+      inside_is : (t : List ℕ) → ((t ≟ label (line (render C (take n ws)) h)) || any (λ l. label l ≟ t) (filter is_label (part (h + 1) b (render C (take n ws)))))
           ≡ any (names C t) (labels C (part h b ws))
       unfolding any filter labels
       inside_is t =
           let between : part (h + 1) b (render C (take n ws)) ≡ map (line_of C) (part (h + 1) b ws) =
           sym (map_part (line_of C) (h + 1) b (take n ws)) ∙ ap (map (line_of C)) (part_taken (h + 1) b (omega arith)) in
-          let head : (t == label (line (render C (take n ws)) h)) ≡ names C t (piece_at (get_or ws h 0) / 4) =
-          ap (t ==◌) (ap label (line_at C ws n h (omega arith) fit) ∙ sym (label_text C (get_or ws h 0) is)) ∙ ==-sym t _ in
-          ap₂ ◌||◌ head (ap (λ M. any (λ l. label l == t) (filter is_label M)) between ∙ named C t (part (h + 1) b ws))
+          let head : (t ≟ label (line (render C (take n ws)) h)) ≡ names C t (piece_at (get_or ws h 0) / 4) =
+          ap (t ==◌) (ap label (line_at C ws n h (omega arith) fit) ∙ sym (label_text C (get_or ws h 0) is)) ∙ ≟_sym t _ in
+          ap₂ ◌||◌ head (ap (λ M. any (λ l. label l ≟ t) (filter is_label M)) between ∙ named C t (part (h + 1) b ws))
           ∙ sym (ap (λ vs. any (names C t) (labels C vs)) (part_step 0 ws h b hb (omega arith)) ∙ rw is)
 
       enters_is : enters (render C (take n ws)) h b
@@ -223,8 +223,8 @@ module _ (ws : List ℕ) (n : ℕ) (fit : n ≤ length ws) where
           let inside : List ℕ → Bool = λ t. any (names C t) (labels C (part h b ws)) in
           let before : take h L ≡ map (line_of C) (take h ws) = sym (map_take (line_of C) h (take n ws)) ∙ ap (map (line_of C)) (take_taken h (omega arith)) in
           let behind : drop (b + 1) L ≡ map (line_of C) (part (b + 1) n ws) = sym (map_drop (line_of C) (b + 1) (take n ws)) ∙ ap (map (line_of C)) (drop_taken (b + 1)) in
-          any_same (goes_to (λ t. (t == label (line L h)) || any (λ l. label l == t) (filter is_label (part (h + 1) b L)))) (goes_to inside)
-          (goes_same (λ t. (t == label (line L h)) || any (λ l. label l == t) (filter is_label (part (h + 1) b L))) inside inside_is) (take h L ++ drop (b + 1) L)
+          any_same (goes_to (λ t. (t ≟ label (line L h)) || any (λ l. label l ≟ t) (filter is_label (part (h + 1) b L)))) (goes_to inside)
+          (goes_same (λ t. (t ≟ label (line L h)) || any (λ l. label l ≟ t) (filter is_label (part (h + 1) b L))) inside inside_is) (take h L ++ drop (b + 1) L)
           ∙ any_append (goes_to inside) (take h L) (drop (b + 1) L)
           ∙ ap₂ ◌||◌ (ap (any (goes_to inside)) before ∙ map_any (line_of C) (goes_to inside) (take h ws))
           (ap (any (goes_to inside)) behind ∙ map_any (line_of C) (goes_to inside) (part (b + 1) n ws))

@@ -14,7 +14,7 @@ use native.Mathlib.Omega.{arith}
 use borrow.Author.Tests.{eq-eqb, ne_eqb}
 use lib.Dec.{eqb, leb, ltb}
 use lib.ListN.{length, get_or, take, drop, take-append-drop}
-use Rattle.definitions.specs.Lists.{or_else, require, any, all, position, take_while, first, last, part, contains, on_first, on_last, ◌==◌, starts_with, ends_with, ascii}
+use Rattle.definitions.specs.Lists.{or_else, require, any, all, position, take_while, first, last, part, contains, on_first, on_last, ◌≟◌, starts_with, ends_with, ascii}
 use Rattle.definitions.specs.Model.{Token, Line, tok, no_token, token, Keyword, Punct}
 use Rattle.definitions.specs.Columns.{listing}
 use Rattle.definitions.specs.Statements.{is_kw, is_empty, first_symbol, goto_target}
@@ -22,7 +22,7 @@ use Rattle.definitions.specs.Condition.{cut_front, cut_end, cut}
 use Rattle.definitions.specs.ToFor.{pop_reversed, pop, popped}
 use Rattle.definitions.specs.RecoverGotoLoops.{is_leading_test, leading_test, one}
 use Rattle.model.proofs.Decode.{line_past}
-use Rattle.loop_theory.proofs.Cases.{true_false, false_unless, and_split, none_some, some_same, if_has, IfSome, do_has, ==-true}
+use Rattle.loop_theory.proofs.Cases.{true_false, false_unless, and_split, none_some, some_same, if_has, IfSome, do_has, ≟_true}
 use Rattle.loop_theory.proofs.AnyAll.{none_append, none_split, all_cons, all_nil, all_append, all_halves, all_filter, all_on_first, all_on_last}
 use Rattle.pieces.specs.Pieces.{piece, origin, cut_place}
 use Rattle.pieces.proofs.Forms.{place_before, kept_piece, continued_piece, broken_piece, closed_piece}
@@ -35,10 +35,10 @@ use Rattle.goto_targets.proofs.SeekLaws.{seek_negate, seek_one}
 clean_kw : (t : Token) → clean t ≡ true → is_kw (ascii "goto") t ≡ false
 clean_kw t h = go (eqb t.kind Keyword) h
   where
-    go : (k : Bool) → not (k && contains 103 t.text) ≡ true → (k && (t.text == ascii "goto")) ≡ false
+    go : (k : Bool) → not (k && contains 103 t.text) ≡ true → (k && (t.text ≟ ascii "goto")) ≡ false
     go false h = refl
-    go true h = false_unless (t.text == ascii "goto") λ e.
-        true_false (subst (λ s. not (contains 103 s) ≡ true) (==-true t.text (ascii "goto") e) h) (unfold any in refl)
+    go true h = false_unless (t.text ≟ ascii "goto") λ e.
+        true_false (subst (λ s. not (contains 103 s) ≡ true) (≟_true t.text (ascii "goto") e) h) (unfold any in refl)
 
 pub clean_seek : (ts : List Token) → all clean ts ≡ true → seek looking ts ≡ looking
 unfolding seek step
@@ -50,11 +50,11 @@ clean_seek (t ∷ ts) h = let s = all_cons clean t ts h in rw (clean_kw t s.0) (
 -- 0 where the tokens ts are clean, 1 where the first that is not is goto, else 2
 unfoldable mark_of : List Token → ℕ
 mark_of [] = 0
-mark_of (t ∷ ts) = let later = mark_of ts in cond (has_g t) (cond (t.text == ascii "goto") 1 2) later
+mark_of (t ∷ ts) = let later = mark_of ts in cond (has_g t) (cond (t.text ≟ ascii "goto") 1 2) later
 
 abbrev marked : List Token → Option ℕ → ℕ
 marked ts none = 0
-marked ts (some k) = cond ((get_or ts k no_token).text == ascii "goto") 1 2
+marked ts (some k) = cond ((get_or ts k no_token).text ≟ ascii "goto") 1 2
 
 mark_place : (ts : List Token) → mark_of ts ≡ marked ts (position has_g ts)
 unfolding mark_of position
@@ -62,13 +62,13 @@ mark_place [] = refl
 mark_place (t ∷ ts) = go (has_g t) (position has_g ts) (mark_place ts)
   where
     go : (b : Bool) (o : Option ℕ) → mark_of ts ≡ marked ts o
-        → cond b (cond (t.text == ascii "goto") 1 2) (mark_of ts) ≡ marked (t ∷ ts) (cond b (some 0) (map suc o))
+        → cond b (cond (t.text ≟ ascii "goto") 1 2) (mark_of ts) ≡ marked (t ∷ ts) (cond b (some 0) (map suc o))
     go true o e = refl
     go false none e = e
     go false (some k) e = e
 
-never_zero : (s : List ℕ) → ◌≡◌ {A = ℕ} (cond (s == ascii "goto") 1 2) 0 → ⊥
-never_zero s e = go (s == ascii "goto") e
+never_zero : (s : List ℕ) → ◌≡◌ {A = ℕ} (cond (s ≟ ascii "goto") 1 2) 0 → ⊥
+never_zero s e = go (s ≟ ascii "goto") e
   where
     go : (b : Bool) → ◌≡◌ {A = ℕ} (cond b 1 2) 0 → ⊥
     go true e = omega arith
@@ -79,14 +79,14 @@ unfolding mark_of all
 clean_line [] e = refl
 clean_line (t ∷ ts) e = go (has_g t) (clean_line ts) e
   where
-    go : (b : Bool) → (mark_of ts ≡ 0 → all clean ts ≡ true) → cond b (cond (t.text == ascii "goto") 1 2) (mark_of ts) ≡ 0 → (not b && all clean ts) ≡ true
+    go : (b : Bool) → (mark_of ts ≡ 0 → all clean ts ≡ true) → cond b (cond (t.text ≟ ascii "goto") 1 2) (mark_of ts) ≡ 0 → (not b && all clean ts) ≡ true
     go true f e = absurd (never_zero t.text e)
     go false f e = f e
 
 clean_before : (ts : List Token) → ltb (mark_of ts) 2 ≡ true → all clean (before ts) ≡ true
 unfolding mark_of all take_while
 clean_before [] e = refl
-clean_before (t ∷ ts) e = go (eqb t.kind Keyword) (contains 103 t.text) (t.text == ascii "goto") (clean_before ts) e refl refl
+clean_before (t ∷ ts) e = go (eqb t.kind Keyword) (contains 103 t.text) (t.text ≟ ascii "goto") (clean_before ts) e refl refl
   where
     go : (k g z : Bool) → (ltb (mark_of ts) 2 ≡ true → all clean (before ts) ≡ true) → ltb (cond (k && g) (cond z 1 2) (mark_of ts)) 2 ≡ true
         → eqb t.kind Keyword ≡ k → contains 103 t.text ≡ g → all clean (cond (not (k && z)) (t ∷ before ts) []) ≡ true
@@ -96,14 +96,14 @@ clean_before (t ∷ ts) e = go (eqb t.kind Keyword) (contains 103 t.text) (t.tex
     go false g z f e p q = rw p (f e)
 
 -- the first keyword with the letter g is goto: the first goto is there
-goto_place : (ts : List Token) (g : ℕ) → position has_g ts ≡ some g → ((get_or ts g no_token).text == ascii "goto") ≡ true → position (is_kw (ascii "goto")) ts ≡ some g
+goto_place : (ts : List Token) (g : ℕ) → position has_g ts ≡ some g → ((get_or ts g no_token).text ≟ ascii "goto") ≡ true → position (is_kw (ascii "goto")) ts ≡ some g
 unfolding position
 goto_place [] g e q = none_some e
 goto_place (t ∷ ts) g e q = go (has_g t) refl (position has_g ts) (goto_place ts) refl g e q
   where
     go : (b : Bool) → has_g t ≡ b → (o : Option ℕ)
-        → ((g : ℕ) → position has_g ts ≡ some g → ((get_or ts g no_token).text == ascii "goto") ≡ true → position (is_kw (ascii "goto")) ts ≡ some g) → position has_g ts ≡ o
-        → (g : ℕ) → cond b (some 0) (map suc o) ≡ some g → ((get_or (t ∷ ts) g no_token).text == ascii "goto") ≡ true
+        → ((g : ℕ) → position has_g ts ≡ some g → ((get_or ts g no_token).text ≟ ascii "goto") ≡ true → position (is_kw (ascii "goto")) ts ≡ some g) → position has_g ts ≡ o
+        → (g : ℕ) → cond b (some 0) (map suc o) ≡ some g → ((get_or (t ∷ ts) g no_token).text ≟ ascii "goto") ≡ true
         → cond (is_kw (ascii "goto") t) (some 0) (map suc (position (is_kw (ascii "goto")) ts)) ≡ some g
     go true h o f i zero e q = rw ((and_split (eqb t.kind Keyword) (contains 103 t.text) h).0, q)
     go true h o f i (suc g) e q = absurd (let z : ◌≡◌ {A = ℕ} 0 (suc g) = some_same e in omega arith)
@@ -122,7 +122,7 @@ module _ (l : Line) where
   pub marked_unknown : Mark l 2
   marked_unknown = record { none = λ e. absurd (omega arith); cut = λ h. absurd (h refl); target = λ h. absurd (omega arith) }
 
-  module _ (g : ℕ) (e : position has_g l.tokens ≡ some g) (q : ((token l g).text == ascii "goto") ≡ true) where
+  module _ (g : ℕ) (e : position has_g l.tokens ≡ some g) (q : ((token l g).text ≟ ascii "goto") ≡ true) where
     clean_cut_off : all clean (before l.tokens) ≡ true
     clean_cut_off = let z : mark_of l.tokens ≡ 1 = mark_place l.tokens ∙ rw (e, q) in clean_before l.tokens (rw z)
 

@@ -18,7 +18,7 @@ use borrow.Author.Tests.{eq-eqb, ne_eqb, eqb-true, lt-ltb, le-ltb, ltb-true}
 use lib.Dec.{eqb, ltb}
 use lib.ListN.{length, get_or, set, drop, length-set}
 use lib.Seq.{get_or-set_same, get_or-set_other}
-use Rattle.definitions.specs.Lists.{any, all, contains, position, ◌==◌, ascii}
+use Rattle.definitions.specs.Lists.{any, all, contains, position, ◌≟◌, ascii}
 use Rattle.definitions.specs.Model.{Token, Line, pseudo_line, token, line}
 use Rattle.definitions.specs.Columns.{listing}
 use Rattle.definitions.specs.Statements.{first_symbol, goto_target}
@@ -55,12 +55,12 @@ module _ (l : Line) where
     pub mark_none : f ≡ Nothing → Mark l 0
     mark_none q = marked_none l (sym e ∙ rw q)
 
-    module _ (g : ℕ) (q : f ≡ At g) (s : List ℕ) (d : s ≡ (token l g).text) (b : Bool) (h : b ≡ (s == ascii "goto")) (y : b ≡ true)
+    module _ (g : ℕ) (q : f ≡ At g) (s : List ℕ) (d : s ≡ (token l g).text) (b : Bool) (h : b ≡ (s ≟ ascii "goto")) (y : b ≡ true)
         (o : Found) (u : text_at l o ≡ first_symbol (drop (g + 1) l.tokens)) where
       at : position has_g l.tokens ≡ some g
       at = sym e ∙ rw q
 
-      is : ((token l g).text == ascii "goto") ≡ true
+      is : ((token l g).text ≟ ascii "goto") ≡ true
       is = rw (← d) (sym h ∙ y)
 
       pub mark_goto : o ≡ Nothing → Mark l 1

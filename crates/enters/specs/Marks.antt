@@ -12,9 +12,9 @@
 --   silent ms w        so are those of all pieces that the line of w is made of
 --   Passed ms ws k r   the words of ws from place k up to r are silent: a test that no silent word passes holds of one from k on, if it does of one from r on
 -- Assumes nothing.
-use Rattle.std.specs.Prelude.{ℕ, ◌+◌, ◌-◌, ◌/◌, ◌%◌, ◌≤◌, ◌<◌, ◌≡◌, Bool, true, false, ◌&&◌, not, List, eqb, ltb, length, get_or, drop}
+use Rattle.std.specs.Prelude.{if◌then◌else◌, ℕ, ◌+◌, ◌-◌, ◌/◌, ◌%◌, ◌≤◌, ◌<◌, ◌≡◌, Bool, true, false, ◌&&◌, not, List, eqb, ltb, length, get_or, drop}
 use Rattle.std.proofs.Math.Option.{some}
-use Rattle.definitions.specs.Lists.{if◌then◌else◌, any, all, take_while, contains, ascii}
+use Rattle.definitions.specs.Lists.{any, all, take_while, contains, ascii}
 use Rattle.definitions.specs.Model.{Token, Line, token, line, Keyword}
 use Rattle.definitions.specs.Columns.{listing}
 use Rattle.definitions.specs.Statements.{is_kw, goto_target}

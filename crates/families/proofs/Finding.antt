@@ -20,13 +20,13 @@ use lib.Dec.{eqb, ltb}
 use borrow.Author.Tests.{eqb-true, eqb-false, lt-ltb, le-ltb, ltb-true}
 use lib.ListN.{length, get_or, take, length-take}
 use lib.Seq.{get_or-take, length-take-le}
-use Rattle.definitions.specs.Lists.{filter, position, ◌==◌}
+use Rattle.definitions.specs.Lists.{filter, position, ◌≟◌}
 use Rattle.definitions.specs.Model.{Token, Line, token, line}
 use Rattle.definitions.specs.Family.{Family, family, fam_of, names}
 use Rattle.definitions.specs.Statements.{defines}
 use Rattle.definitions.specs.Recover.{distinct, defined_families}
 use Rattle.theory.proofs.Bools.{not_so, lt_or_ge}
-use Rattle.theory.proofs.ListLaws.{==-true, ==-self}
+use Rattle.theory.proofs.ListLaws.{≟_true, ≟_self}
 use Rattle.theory.proofs.Lines.{defines_first}
 use Rattle.family.specs.declared.Register.{Register}
 use Rattle.family.specs.declared.Register.TheVariants.{Legacy}
@@ -84,29 +84,29 @@ filter_unique p (f ∷ fs) u = go (p f) (filter_unique p fs (λ j k hj hk e. ome
 distinct_unique : (fs : List (List ℕ)) → Unique (distinct fs)
 unfolding distinct
 distinct_unique [] = λ j k hj hk e. absurd (omega arith)
-distinct_unique (f ∷ fs) = cons_unique f rest (filter_unique (λ g. not (g == f)) (distinct fs) (distinct_unique fs)) apart
+distinct_unique (f ∷ fs) = cons_unique f rest (filter_unique (λ g. not (g ≟ f)) (distinct fs) (distinct_unique fs)) apart
   where
     rest : List (List ℕ)
-    rest = filter (λ g. not (g == f)) (distinct fs)
+    rest = filter (λ g. not (g ≟ f)) (distinct fs)
 
     apart : (k : ℕ) → k < length rest → f ≡ get_or rest k [] → ⊥
     apart k h e =
-        let q : (get_or rest k [] == f) ≡ true = ap (◌== f) (sym e) ∙ ==-self f in
-        false≢true (sym (ap not q) ∙ filter_elements (λ g. not (g == f)) (distinct fs) k h)
+        let q : (get_or rest k [] ≟ f) ≡ true = ap (◌== f) (sym e) ∙ ≟_self f in
+        false≢true (sym (ap not q) ∙ filter_elements (λ g. not (g ≟ f)) (distinct fs) k h)
 
 pub unique_families : (L : List Line) → Unique (defined_families L)
 unique_families L = distinct_unique _
 
 -- The place of a family
 
-position_here : (fs : List (List ℕ)) (f : List ℕ) (k : ℕ) → k < length fs → ((j : ℕ) → j < k → (get_or fs j [] == f) ≡ false) → (get_or fs k [] == f) ≡ true
-    → position (λ g. g == f) fs ≡ some k
+position_here : (fs : List (List ℕ)) (f : List ℕ) (k : ℕ) → k < length fs → ((j : ℕ) → j < k → (get_or fs j [] ≟ f) ≡ false) → (get_or fs k [] ≟ f) ≡ true
+    → position (λ g. g ≟ f) fs ≡ some k
 unfolding position
 position_here [] f k h n e = absurd (omega arith)
 position_here (g ∷ gs) f zero h n e = rw e
 position_here (g ∷ gs) f (suc k) h n e = rw (n 0 (omega arith), position_here gs f k (omega arith) (λ j l. n (suc j) (omega arith)) e)
 
-position_none : (fs : List (List ℕ)) (f : List ℕ) → ((j : ℕ) → j < length fs → (get_or fs j [] == f) ≡ false) → position (λ g. g == f) fs ≡ none
+position_none : (fs : List (List ℕ)) (f : List ℕ) → ((j : ℕ) → j < length fs → (get_or fs j [] ≟ f) ≡ false) → position (λ g. g ≟ f) fs ≡ none
 unfolding position
 position_none [] f n = refl
 position_none (g ∷ gs) f n = rw (n 0 (omega arith), position_none gs f (λ j l. n (suc j) (omega arith)))
@@ -117,9 +117,9 @@ place_at o = elim o [ none ↦ 0 | some k ↦ suc k ]
 pub place_here : (fs : List (List ℕ)) (f : List ℕ) (k : ℕ) → Unique fs → k < length fs → get_or fs k [] ≡ f → place fs f ≡ suc k
 unfolding place place_at
 place_here fs f k u h e =
-    ap place_at (position_here fs f k h (λ j l. not_so _ (λ q. omega (arith, u j k (omega arith) h (==-true _ f q ∙ sym e)))) (rw e (==-self f)))
+    ap place_at (position_here fs f k h (λ j l. not_so _ (λ q. omega (arith, u j k (omega arith) h (≟_true _ f q ∙ sym e)))) (rw e (≟_self f)))
 
-pub place_none : (fs : List (List ℕ)) (f : List ℕ) → ((j : ℕ) → j < length fs → (get_or fs j [] == f) ≡ false) → place fs f ≡ 0
+pub place_none : (fs : List (List ℕ)) (f : List ℕ) → ((j : ℕ) → j < length fs → (get_or fs j [] ≟ f) ≡ false) → place fs f ≡ 0
 unfolding place place_at
 place_none fs f n = ap place_at (position_none fs f n)
 
@@ -159,11 +159,11 @@ latest_above m fs h (suc n) k l g e = go (eqb (hash m (get_or fs n [])) h) refl 
 
 abbrev matches : Option Family → List ℕ → Bool
 matches none g = false
-matches (some f) g = g == f.name
+matches (some f) g = g ≟ f.name
 
 matches_hash : (m : ℕ) (o : Option Family) (g : List ℕ) → matches o g ≡ true → hash m g ≡ hash_of m o
 matches_hash m none g e = absurd (false≢true e)
-matches_hash m (some f) g e = ap (hash m) (==-true g f.name e)
+matches_hash m (some f) g e = ap (hash m) (≟_true g f.name e)
 
 names_matches : (o : Option Family) (l : Line) (g : List ℕ) → defines l ≡ some g → names_family o (token l 0) ≡ matches o g
 unfolding names
@@ -203,8 +203,8 @@ place_taken L count few f k h e = place_here (take count (defined_families L)) f
         let b : k < count = omega (arith, size) in
         unique_families L j k (omega arith) (omega arith) (sym (here j a) ∙ e ∙ here k b)
 
-position_more : (fs : List (List ℕ)) (f : List ℕ) (k : ℕ) → (get_or fs k [] == f) ≡ false
-    → position (λ g. g == f) (take (suc k) fs) ≡ position (λ g. g == f) (take k fs)
+position_more : (fs : List (List ℕ)) (f : List ℕ) (k : ℕ) → (get_or fs k [] ≟ f) ≡ false
+    → position (λ g. g ≟ f) (take (suc k) fs) ≡ position (λ g. g ≟ f) (take k fs)
 unfolding position
 position_more [] f zero e = refl
 position_more [] f (suc k) e = refl
@@ -212,7 +212,7 @@ position_more (g ∷ gs) f zero e = rw e
 position_more (g ∷ gs) f (suc k) e = rw (position_more gs f k e)
 
 -- one more, that is another
-pub place_more : (fs : List (List ℕ)) (f : List ℕ) (k : ℕ) → (get_or fs k [] == f) ≡ false → place (take (suc k) fs) f ≡ place (take k fs) f
+pub place_more : (fs : List (List ℕ)) (f : List ℕ) (k : ℕ) → (get_or fs k [] ≟ f) ≡ false → place (take (suc k) fs) f ≡ place (take k fs) f
 unfolding place place_at
 place_more fs f k e = ap place_at (position_more fs f k e)
 
@@ -231,7 +231,7 @@ module _ (L : List Line) (count : ℕ) (t : List ℕ) (T : Table L count t) (o :
       where
         go : (o : Option Family) → matches o (get_or (defined_families L) (c - 1) []) ≡ true → c ≡ place_of (take count (defined_families L)) o
         go none m = absurd (false≢true m)
-        go (some x) m = omega (arith, place_taken L count T.size x.name (c - 1) (omega (arith, s.bound)) (==-true _ x.name m))
+        go (some x) m = omega (arith, place_taken L count T.size x.name (c - 1) (omega (arith, s.bound)) (≟_true _ x.name m))
 
     pub searching_next : (y : Bool) (next : ℕ) → y ≡ names_family o (token (line L (get_or t (257 + 2 * (c - 1)) 0)) 0) → y ≡ false
         → next ≡ get_or t (256 + 2 * (c - 1)) 0 → Searching (multiplier t) (defined_families L) count o next
@@ -301,12 +301,12 @@ module _ (L : List Line) (count : ℕ) (t s : List ℕ) (r : Register) (T : Tabl
   pub last_inside : 0 < c → count ≤ 1024 → c - 1 < 1024
   last_inside p few = omega (arith, last_few)
 
-  pub found_text : 0 < c → (y : Bool) → y ≡ ((token (line L (get_or t (257 + 2 * (c - 1)) 0)) 0).text == s) → y ≡ true
+  pub found_text : 0 < c → (y : Bool) → y ≡ ((token (line L (get_or t (257 + 2 * (c - 1)) 0)) 0).text ≟ s) → y ≡ true
       → c ≡ place_of (take count (defined_families L)) (family_of s r)
   found_text p y e f =
       let l = line L (get_or t (257 + 2 * (c - 1)) 0) in
       let w = defines_first l (get_or (defined_families L) (c - 1) []) (T.first (c - 1) (omega (arith, last_few))) in
-      let same : (token l 0).text ≡ s = ==-true (token l 0).text s (sym e ∙ f) in
+      let same : (token l 0).text ≡ s = ≟_true (token l 0).text s (sym e ∙ f) in
       let is : family_of s r ≡ some w.0 = answer ∙ ap family (sym same) ∙ family_some (token l 0) w.0 w.1 in
       rw is (omega (arith, place_taken L count T.size w.0.name (c - 1) (omega (arith, last_few)) (sym w.2)))
 

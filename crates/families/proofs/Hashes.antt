@@ -15,7 +15,7 @@ use native.Mathlib.Omega.{arith}
 use lib.Dec.{ltb}
 use borrow.Author.Tests.{lt-ltb, le-ltb}
 use lib.ListN.{get_or}
-use Rattle.definitions.specs.Lists.{part, is_some, ◌==◌}
+use Rattle.definitions.specs.Lists.{part, is_some, ◌≟◌}
 use Rattle.definitions.specs.Model.{Line, token, line}
 use Rattle.definitions.specs.Family.{Family, legacy, family}
 use Rattle.family.specs.declared.Register.{Register}
@@ -84,8 +84,8 @@ pub first_token : (L : List Line) (o : Option Family) (y : Bool) (t : List ℕ) 
     → y ≡ names_family o (token (line L (get_or t (257 + 2 * k) 0)) 0)
 first_token L o y t k i e q = rw (← e) q
 
-pub text_same : (L : List Line) (t s x : List ℕ) (k i : ℕ) (y : Bool) → i ≡ get_or t (257 + 2 * k) 0 → x ≡ (token (line L i) 0).text → y ≡ (x == s)
-    → y ≡ ((token (line L (get_or t (257 + 2 * k) 0)) 0).text == s)
+pub text_same : (L : List Line) (t s x : List ℕ) (k i : ℕ) (y : Bool) → i ≡ get_or t (257 + 2 * k) 0 → x ≡ (token (line L i) 0).text → y ≡ (x ≟ s)
+    → y ≡ ((token (line L (get_or t (257 + 2 * k) 0)) 0).text ≟ s)
 text_same L t s x k i y e q f = rw (← e, ← q) f
 
 pub family_hash : (L : List Line) (t s : List ℕ) (r : Register) (k i m h : ℕ) → i ≡ get_or t (257 + 2 * k) 0 → s ≡ (token (line L i) 0).text → family_of s r ≡ family s

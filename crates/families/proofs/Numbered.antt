@@ -27,13 +27,13 @@ use lib.Dec.{eqb, ltb}
 use borrow.Author.Tests.{eqb-true, eq-eqb, lt-ltb, le-ltb, ltb-true}
 use lib.ListN.{length, get_or, set, take, drop, replicate, length-append, length-drop, length-set, length-replicate, get_or-append}
 use lib.Seq.{take-append_seam, get_or-append_seam, get_or-append-add, get_or-drop, length-take-le, get_or-set_same, get_or-set_other}
-use Rattle.definitions.specs.Lists.{any, filter, concat, range, position, to_list, is_some, ◌==◌}
+use Rattle.definitions.specs.Lists.{any, filter, concat, range, position, to_list, is_some, ◌≟◌}
 use Rattle.definitions.specs.Model.{Line, token, line}
 use Rattle.definitions.specs.Family.{Family, family}
 use Rattle.definitions.specs.Statements.{defines}
 use Rattle.definitions.specs.Recover.{distinct, defined_families}
 use Rattle.theory.proofs.Bools.{clash, same_test, eq_or_lt}
-use Rattle.theory.proofs.ListLaws.{replicate_default, any_filter, ==-true, ==-self}
+use Rattle.theory.proofs.ListLaws.{replicate_default, any_filter, ≟_true, ≟_self}
 use Rattle.text.specs.Zeroed.{zeroed}
 use Rattle.definitions.specs.Columns.{listing}
 use Rattle.model.proofs.Decode.{length_listing}
@@ -50,10 +50,10 @@ use Rattle.families.proofs.Finding.{unique_families, place_here, place_taken, pl
 -- Each once, with one more at the end
 
 abbrev is : List ℕ → List ℕ → Bool
-is f g = g == f
+is f g = g ≟ f
 
-is_flip : (f g : List ℕ) → (g == f) ≡ (f == g)
-is_flip f g = same_test _ _ (λ e. rw (==-true g f e) (==-self f)) (λ e. rw (==-true f g e) (==-self g))
+is_flip : (f g : List ℕ) → (g ≟ f) ≡ (f ≟ g)
+is_flip f g = same_test _ _ (λ e. rw (≟_true g f e) (≟_self f)) (λ e. rw (≟_true f g e) (≟_self g))
 
 filter_append : (p : List ℕ → Bool) (xs : List (List ℕ)) (x : List ℕ) → filter p (xs ++ (x ∷ [])) ≡ filter p xs ++ cond (p x) (x ∷ []) []
 unfolding filter
@@ -68,30 +68,30 @@ filter_append p (y ∷ xs) x = go (p y) (filter_append p xs x)
 distinct_snoc : (xs : List (List ℕ)) (x : List ℕ) → distinct (xs ++ (x ∷ [])) ≡ cond (any (is x) xs) (distinct xs) (distinct xs ++ (x ∷ []))
 unfolding distinct any filter
 distinct_snoc [] x = refl
-distinct_snoc (y ∷ xs) x = ap (λ (l : List (List ℕ)). y ∷ filter (λ g. not (g == y)) l) (distinct_snoc xs x) ∙ go (any (is x) xs) (y == x) refl
+distinct_snoc (y ∷ xs) x = ap (λ (l : List (List ℕ)). y ∷ filter (λ g. not (g ≟ y)) l) (distinct_snoc xs x) ∙ go (any (is x) xs) (y ≟ x) refl
   where
     rest : List (List ℕ)
-    rest = filter (λ g. not (g == y)) (distinct xs)
+    rest = filter (λ g. not (g ≟ y)) (distinct xs)
 
-    go : (b c : Bool) → (y == x) ≡ c
-        → ◌≡◌ {A = List (List ℕ)} (y ∷ filter (λ g. not (g == y)) (cond b (distinct xs) (distinct xs ++ (x ∷ [])))) (cond (c || b) (y ∷ rest) ((y ∷ rest) ++ (x ∷ [])))
+    go : (b c : Bool) → (y ≟ x) ≡ c
+        → ◌≡◌ {A = List (List ℕ)} (y ∷ filter (λ g. not (g ≟ y)) (cond b (distinct xs) (distinct xs ++ (x ∷ [])))) (cond (c || b) (y ∷ rest) ((y ∷ rest) ++ (x ∷ [])))
     go true true e = refl
     go true false e = refl
-    go false c e = ap (y ∷◌) (filter_append (λ g. not (g == y)) (distinct xs) x) ∙ last c e
+    go false c e = ap (y ∷◌) (filter_append (λ g. not (g ≟ y)) (distinct xs) x) ∙ last c e
       where
-        last : (c : Bool) → (y == x) ≡ c → ◌≡◌ {A = List (List ℕ)} (y ∷ (rest ++ cond (not (x == y)) (x ∷ []) [])) (cond (c || false) (y ∷ rest) ((y ∷ rest) ++ (x ∷ [])))
+        last : (c : Bool) → (y ≟ x) ≡ c → ◌≡◌ {A = List (List ℕ)} (y ∷ (rest ++ cond (not (x ≟ y)) (x ∷ []) [])) (cond (c || false) (y ∷ rest) ((y ∷ rest) ++ (x ∷ [])))
         last true e = rw (is_flip y x, e) (ap (y ∷◌) (append-nil rest))
         last false e = rw (is_flip y x, e)
 
 any_distinct : (f : List ℕ) (xs : List (List ℕ)) → any (is f) (distinct xs) ≡ any (is f) xs
 unfolding any distinct
 any_distinct f [] = refl
-any_distinct f (y ∷ ys) = go (y == f) refl (any_distinct f ys)
+any_distinct f (y ∷ ys) = go (y ≟ f) refl (any_distinct f ys)
   where
-    go : (b : Bool) → (y == f) ≡ b → any (is f) (distinct ys) ≡ any (is f) ys
-        → (b || any (is f) (filter (λ g. not (g == y)) (distinct ys))) ≡ (b || any (is f) ys)
+    go : (b : Bool) → (y ≟ f) ≡ b → any (is f) (distinct ys) ≡ any (is f) ys
+        → (b || any (is f) (filter (λ g. not (g ≟ y)) (distinct ys))) ≡ (b || any (is f) ys)
     go true e r = refl
-    go false e r = any_filter (is f) (λ g. not (g == y)) f (λ g q. sym (==-true g f q)) (distinct ys) ∙ rw (r, is_flip y f, e) (and-true (any (is f) ys))
+    go false e r = any_filter (is f) (λ g. not (g ≟ y)) f (λ g q. sym (≟_true g f q)) (distinct ys) ∙ rw (r, is_flip y f, e) (and-true (any (is f) ys))
 
 -- The families of the lines before a line
 
@@ -177,16 +177,16 @@ pub place_cases : (fs : List (List ℕ)) (f : List ℕ)
     → ((place fs f ≡ 0) × (any (is f) fs ≡ false)) ⊎ ((k : ℕ) × (place fs f ≡ suc k) × (k < length fs) × (get_or fs k [] ≡ f) × (any (is f) fs ≡ true))
 unfolding place position any
 place_cases [] f = inl (refl, refl)
-place_cases (g ∷ gs) f = go (g == f) refl (position (λ g. g == f) gs) (place_cases gs f)
+place_cases (g ∷ gs) f = go (g ≟ f) refl (position (λ g. g ≟ f) gs) (place_cases gs f)
   where
     at : Option ℕ → ℕ
     at o = elim o [ none ↦ 0 | some k ↦ suc k ]
 
-    go : (b : Bool) → (g == f) ≡ b → (o : Option ℕ)
+    go : (b : Bool) → (g ≟ f) ≡ b → (o : Option ℕ)
         → ((at o ≡ 0) × (any (is f) gs ≡ false)) ⊎ ((k : ℕ) × (at o ≡ suc k) × (k < length gs) × (get_or gs k [] ≡ f) × (any (is f) gs ≡ true))
         → ((at (cond b (some 0) (Option.map suc o)) ≡ 0) × ((b || any (is f) gs) ≡ false))
         ⊎ ((k : ℕ) × (at (cond b (some 0) (Option.map suc o)) ≡ suc k) × (k < suc (length gs)) × (get_or (g ∷ gs) k [] ≡ f) × ((b || any (is f) gs) ≡ true))
-    go true e o r = inr (0, refl, omega arith, ==-true g f e, refl)
+    go true e o r = inr (0, refl, omega arith, ≟_true g f e, refl)
     go false e none (inl r) = inl (refl, r.1)
     go false e (some k) (inl r) = absurd (omega (arith, r.0))
     go false e none (inr r) = absurd (omega (arith, r.1))
@@ -206,7 +206,7 @@ more_has fs f = go (any (is f) fs) refl
   where
     go : (b : Bool) → any (is f) fs ≡ b → any (is f) (cond b fs (fs ++ (f ∷ []))) ≡ true
     go true e = e
-    go false e = any_snoc (is f) fs f ∙ rw (e, ==-self f)
+    go false e = any_snoc (is f) fs f ∙ rw (e, ≟_self f)
 
 -- the family that a line defines is among all
 pub defined_known : (L : List Line) (i : ℕ) → 0 < i → i < length L → (f : List ℕ) → defines (line L i) ≡ some f → place (defined_families L) f ≡ 0 → ⊥
@@ -286,7 +286,7 @@ module _ (t : List ℕ) (k c : ℕ) where
 -- the row and the line of one family more are written
 module _ (L : List Line) (count : ℕ) (t : List ℕ) (T : Table L count t) (f : List ℕ) (i row : ℕ) (room : 256 + 2 * suc count ≤ length t)
     (at_count : get_or (defined_families L) count [] ≡ f) (inside : count < length (defined_families L)) (defines_f : defines (line L i) ≡ some f)
-    (row_is : (j : ℕ) → j < 8 → (f == row_name j) ≡ eqb row j) where
+    (row_is : (j : ℕ) → j < 8 → (f ≟ row_name j) ≡ eqb row j) where
   abbrev with_row : List ℕ
   with_row = kept t row (count + 1)
 
@@ -302,7 +302,7 @@ module _ (L : List Line) (count : ℕ) (t : List ℕ) (T : Table L count t) (f :
   row_at : (j : ℕ) → j < 8 → (b : Bool) → eqb row j ≡ b → get_or with_row (248 + j) 0 ≡ place (take (suc count) (defined_families L)) (row_name j)
   row_at j l true e =
       let z : row ≡ j = eqb-true row j e in
-      let named : f ≡ row_name j = ==-true f (row_name j) (row_is j l ∙ e) in
+      let named : f ≡ row_name j = ≟_true f (row_name j) (row_is j l ∙ e) in
       rw (← z) (kept_same t row (count + 1) (omega arith) (omega arith))
       ∙ add-one count ∙ sym (place_taken L (suc count) inside (row_name j) count (omega arith) (at_count ∙ named))
   row_at j l false e =

@@ -11,7 +11,7 @@ use mathlib.Core.Option.{Option, none, some}
 use native.Mathlib.Omega.{arith}
 use native.Mathlib.Nat.{zero-add, add-zero}
 use lib.ListN.{length, get_or, take, length-take}
-use Rattle.definitions.specs.Lists.{position, range, up_to, ◌==◌}
+use Rattle.definitions.specs.Lists.{position, range, up_to, ◌≟◌}
 use Rattle.definitions.specs.Model.{Line}
 use Rattle.definitions.specs.Family.{Family}
 use Rattle.definitions.specs.Recover.{defined_families}
@@ -33,10 +33,10 @@ map_places g d xs = go xs xs 0 (λ k. ap (λ (i : ℕ). get_or xs i d) (sym (zer
 place_at : Option ℕ → ℕ
 place_at o = elim o [ none ↦ 0 | some k ↦ suc k ]
 
-position_most : (f : List ℕ) (fs : List (List ℕ)) → place_at (position (λ g. g == f) fs) ≤ length fs
+position_most : (f : List ℕ) (fs : List (List ℕ)) → place_at (position (λ g. g ≟ f) fs) ≤ length fs
 unfolding place_at position
 position_most f [] = omega arith
-position_most f (g ∷ gs) = go (g == f) (position (λ g. g == f) gs) (position_most f gs)
+position_most f (g ∷ gs) = go (g ≟ f) (position (λ g. g ≟ f) gs) (position_most f gs)
   where
     go : (b : Bool) (o : Option ℕ) → place_at o ≤ length gs → place_at (cond b (some 0) (Option.map suc o)) ≤ suc (length gs)
     go true o h = omega arith

@@ -26,10 +26,10 @@
 --   Ready L i count t   line i is next, `count` families being in the table t
 --   Placed L i count c t    line i is done: c is the place of the family that it defines
 -- Assumes nothing.
-use Rattle.std.specs.Prelude.{ℕ, zero, suc, ◌+◌, ◌*◌, ◌-◌, ◌%◌, ◌<◌, ◌≤◌, max, ◌≡◌, List, [], ◌++◌, map, eqb, ltb, length, get_or, set, take, drop, replicate}
+use Rattle.std.specs.Prelude.{if◌then◌else◌, ℕ, zero, suc, ◌+◌, ◌*◌, ◌-◌, ◌%◌, ◌<◌, ◌≤◌, max, ◌≡◌, List, [], ◌++◌, map, eqb, ltb, length, get_or, set, take, drop, replicate}
 use Rattle.std.proofs.Math.Option
 use Rattle.std.proofs.Math.Option.{Option, none, some}
-use Rattle.definitions.specs.Lists.{if◌then◌else◌, position, concat, range, to_list, ◌==◌}
+use Rattle.definitions.specs.Lists.{position, concat, range, to_list, ◌≟◌}
 use Rattle.definitions.specs.Model.{Line, token, line}
 use Rattle.definitions.specs.Family.{Family}
 use Rattle.definitions.specs.Statements.{defines}
@@ -51,7 +51,7 @@ latest m fs h zero = 0
 latest m fs h (suc k) = if eqb (hash m (get_or fs k [])) h then suc k else latest m fs h k
 
 unfoldable pub place : List (List ℕ) → List ℕ → ℕ
-place fs f = elim (position (λ g. g == f) fs) [ none ↦ 0 | some k ↦ suc k ]
+place fs f = elim (position (λ g. g ≟ f) fs) [ none ↦ 0 | some k ↦ suc k ]
 
 abbrev pub place_of : List (List ℕ) → Option Family → ℕ
 place_of fs none = 0

@@ -17,7 +17,7 @@
 #![tactic(auto)]
 
 ghost use Rattle.std.specs.Prelude.{◌≡◌, List, ℕ, ◌+◌, ◌*◌, ◌<◌, ◌≤◌, length, take, get_or};
-ghost use Rattle.definitions.specs.Lists.{is_some, ◌==◌};
+ghost use Rattle.definitions.specs.Lists.{is_some, ◌≟◌};
 ghost use Rattle.definitions.specs.Family.{family};
 ghost use Rattle.definitions.specs.Model.{token, line};
 ghost use Rattle.definitions.specs.Statements.{defines};
@@ -125,7 +125,7 @@ fn search_chain(
 // The first definition of family k writes its register as s.
 fn has_text(lines: &[u32], tokens: &[u32], text: &[u8], table: &[u16], k: usize, s: &[u8]) -> bool
     requires { k < 1024 }
-    ensures { result ≡ ((token (line (listing lines.now tokens.now text.now) (get_or table.now (257 + 2 * k) 0)) 0).text == s.now) }
+    ensures { result ≡ ((token (line (listing lines.now tokens.now text.now) (get_or table.now (257 + 2 * k) 0)) 0).text ≟ s.now) }
 {
     let i = number(table, 257 + 2 * k);
     text::equal(text_at(lines, tokens, text, i, 0), s)

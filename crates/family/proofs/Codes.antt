@@ -14,9 +14,9 @@ use native.Mathlib.Omega.{arith}
 use borrow.Author.Tests.{ne_eqb}
 use lib.Dec.{eqb}
 use lib.ListN.{length}
-use Rattle.definitions.specs.Lists.{◌==◌, ascii, part}
+use Rattle.definitions.specs.Lists.{◌≟◌, ascii, part}
 use Rattle.definitions.specs.Family.{Family, suffix_width, numbered_family}
-use Rattle.text.proofs.Texts.{==-eq}
+use Rattle.text.proofs.Texts.{≟_eq}
 use Rattle.text.proofs.Parts.{length_part}
 use Rattle.family.specs.declared.Register.TheVariants.{Legacy, Numbered, Var, Nothing}
 use Rattle.family.specs.Register.{number_end, above_zero, family_of, number_length, decoded}
@@ -69,18 +69,18 @@ module _ (n : ℕ) where
 -- The letter behind the digits says the width
 suffix_length : (x : List ℕ) (w : ℕ) → above_zero w ≡ suffix_width x → (w ≡ 0 → ⊥) → length x ≡ cond (eqb w 64) 0 1
 unfolding suffix_width
-suffix_length x w q f = go (x == []) refl (x == ascii "d") refl (x == ascii "w") refl (x == ascii "b") refl (x == ascii "l") refl (rw (ne_eqb w 0 f) at q)
+suffix_length x w q f = go (x ≟ []) refl (x ≟ ascii "d") refl (x ≟ ascii "w") refl (x ≟ ascii "b") refl (x ≟ ascii "l") refl (rw (ne_eqb w 0 f) at q)
   where
     is : (v : ℕ) → some w ≡ some v → w ≡ v
     is v e = cc
 
-    go : (a : Bool) → (x == []) ≡ a → (b : Bool) → (x == ascii "d") ≡ b → (c : Bool) → (x == ascii "w") ≡ c → (d : Bool) → (x == ascii "b") ≡ d → (e : Bool) → (x == ascii "l") ≡ e
+    go : (a : Bool) → (x ≟ []) ≡ a → (b : Bool) → (x ≟ ascii "d") ≡ b → (c : Bool) → (x ≟ ascii "w") ≡ c → (d : Bool) → (x ≟ ascii "b") ≡ d → (e : Bool) → (x ≟ ascii "l") ≡ e
         → some w ≡ cond a (some 64) (cond b (some 32) (cond c (some 16) (cond (d || e) (some 8) none))) → length x ≡ cond (eqb w 64) 0 1
-    go true p b _ c _ d _ e _ z = rw (is 64 z) (ap length (==-eq x [] p))
-    go false _ true p c _ d _ e _ z = rw (is 32 z) (ap length (==-eq x (ascii "d") p))
-    go false _ false _ true p d _ e _ z = rw (is 16 z) (ap length (==-eq x (ascii "w") p))
-    go false _ false _ false _ true p e _ z = rw (is 8 z) (ap length (==-eq x (ascii "b") p))
-    go false _ false _ false _ false _ true p z = rw (is 8 z) (ap length (==-eq x (ascii "l") p))
+    go true p b _ c _ d _ e _ z = rw (is 64 z) (ap length (≟_eq x [] p))
+    go false _ true p c _ d _ e _ z = rw (is 32 z) (ap length (≟_eq x (ascii "d") p))
+    go false _ false _ true p d _ e _ z = rw (is 16 z) (ap length (≟_eq x (ascii "w") p))
+    go false _ false _ false _ true p e _ z = rw (is 8 z) (ap length (≟_eq x (ascii "b") p))
+    go false _ false _ false _ false _ true p z = rw (is 8 z) (ap length (≟_eq x (ascii "l") p))
     go false _ false _ false _ false _ false _ z = cc
 
 -- so it says how long the name is

@@ -15,7 +15,7 @@ use native.Mathlib.Omega.{arith}
 use borrow.Author.Tests.{le-leb, lt-leb, lt-ltb, le-ltb, ne_eqb, eqb-true}
 use lib.Dec.{leb, eqb, ltb}
 use lib.ListN.{length, get_or, take, drop}
-use Rattle.definitions.specs.Lists.{◌==◌, starts_with, ascii, part, take_while}
+use Rattle.definitions.specs.Lists.{◌≟◌, starts_with, ascii, part, take_while}
 use Rattle.definitions.specs.Family.{digits, suffix_width, is_numbered, numbered_family}
 use Rattle.text.proofs.Parts.{drop_step, drop_end, part_tail}
 use Rattle.family.specs.declared.Register.{Register}
@@ -58,8 +58,8 @@ module _ (s : List ℕ) (i : ℕ) where
 
 -- `r` and digits
 
-some_digits : (xs : List ℕ) → ltb 1 (1 + length xs) ≡ not (xs == [])
-unfolding ◌==◌
+some_digits : (xs : List ℕ) → ltb 1 (1 + length xs) ≡ not (xs ≟ [])
+unfolding ◌≟◌
 some_digits [] = refl
 some_digits (x ∷ xs) = lt-ltb 1 (1 + suc (length xs)) (omega arith)
 
@@ -104,7 +104,7 @@ module _ (s : List ℕ) (n : ℕ) (e : n ≡ number_end s) where
   unfolding digit_count
   is_numbered_by = go (starts_with (ascii "r") s) e
     where
-      go : (b : Bool) → n ≡ cond b (1 + digit_count (drop 1 s)) 0 → ltb 1 n ≡ (b && not (digits (drop 1 s) == []))
+      go : (b : Bool) → n ≡ cond b (1 + digit_count (drop 1 s)) 0 → ltb 1 n ≡ (b && not (digits (drop 1 s) ≟ []))
       go true q = rw q (some_digits (digits (drop 1 s)))
       go false q = rw q
 
@@ -113,7 +113,7 @@ module _ (s : List ℕ) (n : ℕ) (e : n ≡ number_end s) where
     flag = sym is_numbered_by ∙ lt-ltb 1 n h
 
     starts : starts_with (ascii "r") s ≡ true
-    starts = first_part (starts_with (ascii "r") s) (not (digits (drop 1 s) == [])) flag
+    starts = first_part (starts_with (ascii "r") s) (not (digits (drop 1 s) ≟ [])) flag
 
     ends : n ≡ 1 + digit_count (drop 1 s)
     ends = e ∙ rw starts

@@ -18,11 +18,11 @@ use native.Mathlib.Decide.{dec_lt}
 use native.Mathlib.Omega.{arith}
 use borrow.Author.Tests.{lt-ltb, le-ltb, ltb-true, eq-eqb, ne_eqb}
 use lib.Dec.{eqb, leb, ltb}
-use Rattle.definitions.specs.Lists.{◌==◌, all, range, up_to, part, starts_with, ascii}
+use Rattle.definitions.specs.Lists.{◌≟◌, all, range, up_to, part, starts_with, ascii}
 use Rattle.definitions.specs.Model.{Token, tok}
 use Rattle.definitions.specs.Family.{Family, legacy, family, fam_of, names}
 use Rattle.definitions.specs.Statements.{is_var}
-use Rattle.text.proofs.Texts.{==-eq, ==-sym}
+use Rattle.text.proofs.Texts.{≟_eq, ≟_sym}
 use Rattle.legacy.proofs.Table.{below}
 use Rattle.family.specs.declared.Register.{Register}
 use Rattle.family.specs.declared.Register.TheVariants.{Legacy, Numbered, Var, Nothing}
@@ -125,11 +125,11 @@ agreed false true e = e
 agreed false false e = refl
 
 module _ (i : ℕ) (h : i < 8) where
-  rows_differ : (j : ℕ) → j < 8 → (row_name i == row_name j) ≡ eqb i j
-  unfolding all range ◌==◌ legacy agree
+  rows_differ : (j : ℕ) → j < 8 → (row_name i ≟ row_name j) ≡ eqb i j
+  unfolding all range ◌≟◌ legacy agree
   rows_differ j g =
-      agreed (row_name i == row_name j) (eqb i j)
-      (below (λ j. agree (row_name i == row_name j) (eqb i j)) 8 j (below (λ i. all (λ j. agree (row_name i == row_name j) (eqb i j)) (up_to 8)) 8 i refl h) g)
+      agreed (row_name i ≟ row_name j) (eqb i j)
+      (below (λ j. agree (row_name i ≟ row_name j) (eqb i j)) 8 j (below (λ i. all (λ j. agree (row_name i ≟ row_name j) (eqb i j)) (up_to 8)) 8 i refl h) g)
 
   rows_var : starts_with (ascii "var_") (row_name i) ≡ false
   unfolding all range starts_with legacy agree
@@ -140,7 +140,7 @@ module _ (i : ℕ) (h : i < 8) where
 equal_names : Option (List ℕ) → Option (List ℕ) → Bool
 equal_names none q = false
 equal_names (some x) none = false
-equal_names (some x) (some y) = x == y
+equal_names (some x) (some y) = x ≟ y
 
 same_by : (o p : Option Family) → same_name o p ≡ equal_names (name_of o) (name_of p)
 unfolding equal_names
@@ -153,7 +153,7 @@ none_right none = refl
 none_right (some f) = refl
 
 module _ (a b : List ℕ) (ra rb : Register) (i j : ℕ) (p : i ≡ row ra) (q : j ≡ row rb) where
-  same_named : (x y : List ℕ) → name_of (family_of a ra) ≡ some x → name_of (family_of b rb) ≡ some y → same_name (family_of a ra) (family_of b rb) ≡ (x == y)
+  same_named : (x y : List ℕ) → name_of (family_of a ra) ≡ some x → name_of (family_of b rb) ≡ some y → same_name (family_of a ra) (family_of b rb) ≡ (x ≟ y)
   unfolding equal_names
   same_named x y e f = same_by (family_of a ra) (family_of b rb) ∙ rw (e, f)
 
@@ -161,13 +161,13 @@ module _ (a b : List ℕ) (ra rb : Register) (i j : ℕ) (p : i ≡ row ra) (q :
   same_rows h g = sym (same_named (row_name i) (row_name j) (at_row a ra i p h) (at_row b rb j q g) ∙ rows_differ i h j g)
 
   module _ (r : Bool) where
-    pub same_row_text : (y : List ℕ) → i < 8 → j ≡ 8 → y ≡ own_name b rb → r ≡ (y == row_name i) → r ≡ same_name (family_of a ra) (family_of b rb)
-    same_row_text y h g f e = e ∙ ==-sym y (row_name i) ∙ sym (same_named (row_name i) y (at_row a ra i p h) (at_text b rb j q y g f))
+    pub same_row_text : (y : List ℕ) → i < 8 → j ≡ 8 → y ≡ own_name b rb → r ≡ (y ≟ row_name i) → r ≡ same_name (family_of a ra) (family_of b rb)
+    same_row_text y h g f e = e ∙ ≟_sym y (row_name i) ∙ sym (same_named (row_name i) y (at_row a ra i p h) (at_text b rb j q y g f))
 
-    pub same_text_row : (x : List ℕ) → i ≡ 8 → x ≡ own_name a ra → j < 8 → r ≡ (x == row_name j) → r ≡ same_name (family_of a ra) (family_of b rb)
+    pub same_text_row : (x : List ℕ) → i ≡ 8 → x ≡ own_name a ra → j < 8 → r ≡ (x ≟ row_name j) → r ≡ same_name (family_of a ra) (family_of b rb)
     same_text_row x h f g e = e ∙ sym (same_named x (row_name j) (at_text a ra i p x h f) (at_row b rb j q g))
 
-    pub same_texts : (x y : List ℕ) → i ≡ 8 → x ≡ own_name a ra → j ≡ 8 → y ≡ own_name b rb → r ≡ (x == y) → r ≡ same_name (family_of a ra) (family_of b rb)
+    pub same_texts : (x y : List ℕ) → i ≡ 8 → x ≡ own_name a ra → j ≡ 8 → y ≡ own_name b rb → r ≡ (x ≟ y) → r ≡ same_name (family_of a ra) (family_of b rb)
     same_texts x y h f g k e = e ∙ sym (same_named x y (at_text a ra i p x h f) (at_text b rb j q y g k))
 
 module _ (a b : List ℕ) (ra rb : Register) (k : ℕ) where
@@ -179,7 +179,7 @@ module _ (a b : List ℕ) (ra rb : Register) (k : ℕ) where
 
 -- A token names a family
 
-same_names : (o p : Option Family) → same_name o p ≡ elim p [ none ↦ false | some f ↦ elim o [ none ↦ false | some x ↦ x.name == f.name ] ]
+same_names : (o p : Option Family) → same_name o p ≡ elim p [ none ↦ false | some f ↦ elim o [ none ↦ false | some x ↦ x.name ≟ f.name ] ]
 same_names none none = refl
 same_names none (some f) = refl
 same_names (some x) none = refl
@@ -202,18 +202,18 @@ named_by p (some f) x q = let e : f.name ≡ x = cc in ap p e
 
 -- `row_named`
 
-module _ (x : List ℕ) (k : ℕ) (y : Bool) (e : y ≡ (x == row_name k)) where
-  pub named_here : k < 8 → y ≡ true → (i : ℕ) → i < 8 → (x == row_name i) ≡ eqb k i
-  named_here h q i g = rw (==-eq x (row_name k) (sym e ∙ q)) (rows_differ k h i g)
+module _ (x : List ℕ) (k : ℕ) (y : Bool) (e : y ≡ (x ≟ row_name k)) where
+  pub named_here : k < 8 → y ≡ true → (i : ℕ) → i < 8 → (x ≟ row_name i) ≡ eqb k i
+  named_here h q i g = rw (≟_eq x (row_name k) (sym e ∙ q)) (rows_differ k h i g)
 
-  pub named_next : ((j : ℕ) → j < k → (x == row_name j) ≡ false) → y ≡ false → (j : ℕ) → j < k + 1 → (x == row_name j) ≡ false
+  pub named_next : ((j : ℕ) → j < k → (x ≟ row_name j) ≡ false) → y ≡ false → (j : ℕ) → j < k + 1 → (x ≟ row_name j) ≡ false
   named_next inv q j h = go (dec_lt j k)
     where
-      go : Dec (j < k) → (x == row_name j) ≡ false
+      go : Dec (j < k) → (x ≟ row_name j) ≡ false
       go (yes g) = inv j g
       go (no g) = let z : k ≡ j = omega arith in rw z at (sym e ∙ q)
 
-pub named_nowhere : (x : List ℕ) (k : ℕ) → ((j : ℕ) → j < k → (x == row_name j) ≡ false) → 8 ≤ k → (i : ℕ) → i < 8 → (x == row_name i) ≡ eqb 8 i
+pub named_nowhere : (x : List ℕ) (k : ℕ) → ((j : ℕ) → j < k → (x ≟ row_name j) ≡ false) → 8 ≤ k → (i : ℕ) → i < 8 → (x ≟ row_name i) ≡ eqb 8 i
 named_nowhere x k inv h i g = inv i (omega arith) ∙ sym (ne_eqb 8 i (λ q. omega arith))
 
 -- `row_of`
@@ -223,7 +223,7 @@ module _ (s : List ℕ) (r : Register) (k : ℕ) (e : k ≡ row r) where
     pub row_is : k < 8 → named (◌== row_name i) (family_of s r) ≡ eqb k i
     row_is h = named_by (◌== row_name i) (family_of s r) (row_name k) (at_row s r k e h) ∙ rows_differ k h i g
 
-    pub row_text : (x : List ℕ) (j : ℕ) → k ≡ 8 → x ≡ own_name s r → ((i : ℕ) → i < 8 → (x == row_name i) ≡ eqb j i) → named (◌== row_name i) (family_of s r) ≡ eqb j i
+    pub row_text : (x : List ℕ) (j : ℕ) → k ≡ 8 → x ≡ own_name s r → ((i : ℕ) → i < 8 → (x ≟ row_name i) ≡ eqb j i) → named (◌== row_name i) (family_of s r) ≡ eqb j i
     row_text x j h q f = named_by (◌== row_name i) (family_of s r) x (at_text s r k e x h q) ∙ f i g
 
     pub row_none : 8 ≤ k → (k ≡ 8 → ⊥) → named (◌== row_name i) (family_of s r) ≡ eqb 8 i

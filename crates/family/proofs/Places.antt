@@ -12,9 +12,9 @@ use native.Mathlib.Omega.{arith}
 use lib.Dec.{eqb}
 use borrow.Author.Tests.{eqb-true, lt-ltb, le-ltb}
 use lib.ListN.{get_or}
-use Rattle.definitions.specs.Lists.{◌==◌, all, range, position, concat, ascii, take_while, starts_with}
+use Rattle.definitions.specs.Lists.{◌≟◌, all, range, position, concat, ascii, take_while, starts_with}
 use Rattle.definitions.specs.Family.{Family, legacy, widths, legacy_family, is_high, other_family, is_numbered, numbered_family, family}
-use Rattle.text.proofs.Texts.{==-eq}
+use Rattle.text.proofs.Texts.{≟_eq}
 use Rattle.family.specs.declared.Register.{Register}
 use Rattle.family.specs.declared.Register.TheVariants.{Legacy}
 use Rattle.legacy.specs.Table.{all_names, name_at, found}
@@ -27,7 +27,7 @@ use Rattle.family.proofs.Digits.{flag, other_numbered}
 same : Option Family → Option Family → Bool
 same none p = false
 same (some f) none = false
-same (some f) (some g) = (f.name == g.name) && eqb f.width g.width
+same (some f) (some g) = (f.name ≟ g.name) && eqb f.width g.width
 
 both : (a b : Bool) → (a && b) ≡ true → (a ≡ true) × (b ≡ true)
 both true b h = (refl, h)
@@ -42,17 +42,17 @@ unfolding same
 same_eq none p e = let z : ◌≡◌ {A = ℕ} 0 1 = cc in absurd (omega arith)
 same_eq (some f) none e = let z : ◌≡◌ {A = ℕ} 0 1 = cc in absurd (omega arith)
 same_eq (some f) (some g) e =
-    let y = both (f.name == g.name) (eqb f.width g.width) e in
-    family_eq f.name g.name f.width g.width (==-eq f.name g.name y.0) (eqb-true f.width g.width y.1)
+    let y = both (f.name ≟ g.name) (eqb f.width g.width) e in
+    family_eq f.name g.name f.width g.width (≟_eq f.name g.name y.0) (eqb-true f.width g.width y.1)
 
 row_family : (p : ℕ) → p < 32 → family_of [] (Legacy (p / 4) (get_or widths (p % 4) 0)) ≡ family (name_at p)
-unfolding all range ◌==◌ concat legacy all_names same family legacy_family position
+unfolding all range ◌≟◌ concat legacy all_names same family legacy_family position
 row_family p h =
     same_eq (family_of [] (Legacy (p / 4) (get_or widths (p % 4) 0))) (family (name_at p))
     (below (λ p. same (family_of [] (Legacy (p / 4) (get_or widths (p % 4) 0))) (family (name_at p))) 32 p refl h)
 
 high_family : (k : ℕ) → k < 4 → family_of [] (Legacy k 8) ≡ family (name_at (32 + k))
-unfolding all range ◌==◌ concat legacy all_names same family legacy_family position other_family
+unfolding all range ◌≟◌ concat legacy all_names same family legacy_family position other_family
 high_family k h =
     same_eq (family_of [] (Legacy k 8)) (family (name_at (32 + k)))
     (below (λ k. same (family_of [] (Legacy k 8)) (family (name_at (32 + k)))) 4 k refl h)
@@ -61,7 +61,7 @@ module _ (s : List ℕ) (p : ℕ) (e : found 36 p ≡ position (s ==◌) all_nam
   is_name : p < 36 → s ≡ name_at p
   is_name h =
       let q : position (s ==◌) all_names ≡ some p = sym e ∙ rw (lt-ltb p 36 h) in
-      ==-eq s (name_at p) (position_at (s ==◌) [] all_names p q).1
+      ≟_eq s (name_at p) (position_at (s ==◌) [] all_names p q).1
 
   pub family_row : (w : ℕ) → w ≡ get_or widths (p % 4) 0 → p < 32 → family_of s (Legacy (p / 4) w) ≡ family s
   family_row w e h = rw e (row_family p h ∙ ap family (sym (is_name (omega arith))))
@@ -122,7 +122,7 @@ family_other s p e h r q =
     q ∙ sym (family_rest s (legacy_none s legacy y.0) (high_none s y.1))
 
 not_numbered : (p : ℕ) → p < 36 → is_numbered (name_at p) ≡ false
-unfolding all range ◌==◌ concat legacy all_names starts_with take_while
+unfolding all range ◌≟◌ concat legacy all_names starts_with take_while
 not_numbered p h = go (is_numbered (name_at p)) (below (λ p. not (is_numbered (name_at p))) 36 p refl h)
   where
     go : (b : Bool) → not b ≡ true → b ≡ false
@@ -136,7 +136,7 @@ family_numbered s n e h r q = family_other s 36 (go (position (s ==◌) all_name
     go none f = refl
     go (some k) f =
         let y = position_at (s ==◌) [] all_names k f in
-        let same : s ≡ name_at k = ==-eq s (name_at k) y.1 in
+        let same : s ≡ name_at k = ≟_eq s (name_at k) y.1 in
         let z : true ≡ false = sym (flag s n e h) ∙ ap is_numbered same ∙ not_numbered k (omega (arith, name_count)) in
         let x : ◌≡◌ {A = ℕ} 0 1 = cc in
         absurd (omega arith)

@@ -13,9 +13,9 @@
 --   named p o            o is a family, and p holds of its name
 --   is_var_family o, is_wide o    o is a `var_`; a family, of width 32 or more
 -- Assumes nothing.
-use Rattle.std.specs.Prelude.{ℕ, ◌+◌, ◌-◌, ◌/◌, ◌%◌, Bool, false, List, [], eqb, leb, ltb, length, drop}
+use Rattle.std.specs.Prelude.{if◌then◌else◌, ℕ, ◌+◌, ◌-◌, ◌/◌, ◌%◌, Bool, false, List, [], eqb, leb, ltb, length, drop}
 use Rattle.std.proofs.Math.Option.{Option, none, some}
-use Rattle.definitions.specs.Lists.{if◌then◌else◌, part, ◌==◌, starts_with, ascii}
+use Rattle.definitions.specs.Lists.{part, ◌≟◌, starts_with, ascii}
 use Rattle.definitions.specs.Model.{Token}
 use Rattle.definitions.specs.Family.{Family, digits, is_numbered, numbered_family, names}
 use Rattle.definitions.specs.Statements.{is_var}
@@ -69,7 +69,7 @@ own_name s Nothing = []
 abbrev pub same_name : Option Family → Option Family → Bool
 same_name none p = false
 same_name (some f) none = false
-same_name (some f) (some g) = f.name == g.name
+same_name (some f) (some g) = f.name ≟ g.name
 
 abbrev pub names_family : Option Family → Token → Bool
 names_family none t = false

@@ -9,7 +9,7 @@
 #![tactic(auto)]
 
 ghost use Rattle.std.specs.Prelude.{◌≡◌, false, ℕ, ◌+◌, ◌<◌, eqb, length, drop};
-ghost use Rattle.definitions.specs.Lists.{◌==◌};
+ghost use Rattle.definitions.specs.Lists.{◌≟◌};
 ghost use Rattle.definitions.specs.Model.{tok};
 ghost use Rattle.definitions.specs.Family.{suffix_width, is_numbered, numbered_family, family, fam_of};
 ghost use Rattle.legacy.specs.Table.{row_name};
@@ -235,7 +235,7 @@ pub fn names(kind: usize, s: &[u8], a: &[u8], r: Register) -> bool
 
 // The row of the table that has this name of a family, 8 where none has it. It is asked once a family, so row by row.
 fn row_named(name: &[u8]) -> usize
-    ensures { (i : ℕ) → i < 8 → (name.now == row_name i) ≡ eqb result i }
+    ensures { (i : ℕ) → i < 8 → (name.now ≟ row_name i) ≡ eqb result i }
 {
     let mut i = 0;
     while i < 8 {

@@ -3,9 +3,9 @@
 --   flow_refusal L             questions 8 and 9: does every brace match, and does every goto lead to a label?
 --   refused f                  the refusal that the code answers
 -- Assumes nothing.
-use Rattle.std.specs.Prelude.{ℕ, ◌+◌, ◌*◌, ◌<◌, ◌≤◌, ◌≡◌, not, List, get_or}
+use Rattle.std.specs.Prelude.{if◌then◌else◌, ℕ, ◌+◌, ◌*◌, ◌<◌, ◌≤◌, ◌≡◌, not, List, get_or}
 use Rattle.std.proofs.Math.Option.{Option, none, some}
-use Rattle.definitions.specs.Lists.{if◌then◌else◌, is_some}
+use Rattle.definitions.specs.Lists.{is_some}
 use Rattle.definitions.specs.Model.{Line}
 use Rattle.definitions.specs.Blocks.{blocks}
 use Rattle.definitions.specs.FlowGraph.{gotos_lead, flow_graph, steps}

@@ -15,7 +15,7 @@ use borrow.Author.Tests.{eqb-true, eqb-false, leb-true, le-leb, le-ltb}
 use lib.Dec.{eqb, leb}
 use lib.ListN.{length, take, drop, get_or, set}
 use lib.Seq.{get_or-take, drop-set-lt}
-use Rattle.definitions.specs.Lists.{◌>>=◌, any, all, part, position_from, remove, ◌==◌, ascii}
+use Rattle.definitions.specs.Lists.{◌>>=◌, any, all, part, position_from, remove, ◌≟◌, ascii}
 use Rattle.definitions.specs.Model.{Token, Line, no_token, pseudo_line, token, line, text}
 use Rattle.definitions.specs.Columns.{listing}
 use Rattle.definitions.specs.Family.{Family, fam_of}
@@ -82,7 +82,7 @@ unfolding closed_words
 closed_far C ws w e q =
     leb-true (w + 2) e
     (and_split (leb (w + 2) e) (eqb (indent_at (get_or ws e 0)) (indent_at (get_or ws w 0)))
-    (and_split (leb (w + 2) e && eqb (indent_at (get_or ws e 0)) (indent_at (get_or ws w 0))) (text (word_line C (get_or ws e 0)).tokens == ascii "}") q).0).0
+    (and_split (leb (w + 2) e && eqb (indent_at (get_or ws e 0)) (indent_at (get_or ws w 0))) (text (word_line C (get_or ws e 0)).tokens ≟ ascii "}") q).0).0
 
 module _ (C : List Line) (ws : List ℕ) (w e k : ℕ) (f : some k ≡ place_words C ws w e) where
   pub place_facts : (k < w) × (header_at (get_or ws k 0) ≡ 0) × (w + 2 ≤ e)

@@ -14,7 +14,7 @@ use mathlib.Core.Option.{Option, none, some}
 use native.Mathlib.Decide.{dec_le}
 use native.Mathlib.Omega.{arith}
 use lib.Dec.{eqb}
-use Rattle.definitions.specs.Lists.{require, or_else, all, filter, position, first, last, part, on_first, on_last, starts_with, ends_with, ◌==◌, ascii}
+use Rattle.definitions.specs.Lists.{require, or_else, all, filter, position, first, last, part, on_first, on_last, starts_with, ends_with, ◌≟◌, ascii}
 use Rattle.definitions.specs.Model.{Token, Line, pseudo_line, line}
 use Rattle.definitions.specs.Columns.{listing}
 use Rattle.definitions.specs.Statements.{is_kw, merge}
@@ -111,7 +111,7 @@ test_filled m d =
     P c = all filled c ≡ true
 
 pub head_filled : (C : List Line) (v : ℕ) → all filled (head_test C v) ≡ true
-unfolding head_test all ◌==◌
+unfolding head_test all ◌≟◌
 head_filled C v = go (eqb (header_at v) 3) (leading_test (piece C (test_at v)) 0) (test_filled (piece C (test_at v)) 0)
   where
     go : (b : Bool) (o : Option (List Token)) → IfSome (λ c. all filled c ≡ true) o → all filled (cond b (or_else o one) one) ≡ true

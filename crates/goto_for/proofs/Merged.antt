@@ -16,13 +16,13 @@ use borrow.Author.Tests.{eqb-true, le-leb}
 use lib.Dec.{eqb}
 use lib.ListN.{length, take, length-append}
 use lib.Seq.{take-append-add, drop-append_seam}
-use Rattle.definitions.specs.Lists.{filter, all, first, last, on_first, on_last, position, starts_with, ◌==◌, ascii}
+use Rattle.definitions.specs.Lists.{filter, all, first, last, on_first, on_last, position, starts_with, ◌≟◌, ascii}
 use Rattle.definitions.specs.Model.{Token, tok, pseudo_line, Keyword, Punct, Text}
 use Rattle.definitions.specs.Statements.{is_empty, joins, glue, merge}
 use Rattle.definitions.specs.Condition.{cut_front, cut_end, cut, closing, condition}
 use Rattle.definitions.specs.ToFor.{popped, for_head}
 use Rattle.definitions.specs.Passes.{while_head}
-use Rattle.text.proofs.Texts.{eq-==}
+use Rattle.text.proofs.Texts.{eq_≟}
 use Rattle.loop_theory.proofs.Cases.{true_false, none_some, some_same, if_has}
 use Rattle.loop_theory.proofs.AnyAll.{all_cons, all_and}
 
@@ -93,8 +93,8 @@ for_head_merged init c step =
 abbrev pub filled : Token → Bool
 filled t = not (is_empty t)
 
-filled_append : (s u : List ℕ) → not (s == []) ≡ true → not ((s ++ u) == []) ≡ true
-unfolding ◌==◌
+filled_append : (s u : List ℕ) → not (s ≟ []) ≡ true → not ((s ++ u) ≟ []) ≡ true
+unfolding ◌≟◌
 filled_append [] u h = true_false {b = false} h refl
 filled_append (b ∷ s) u h = refl
 
@@ -180,7 +180,7 @@ module _ (n : ℕ) where
 -- an empty bracket in front or behind goes with the empty tokens
 
 nothing_before : (M : List Token) → filter filled (glue (bracket []) M) ≡ filter filled M
-unfolding filter glue ◌==◌
+unfolding filter glue ◌≟◌
 nothing_before [] = refl
 nothing_before (u ∷ us) = go (joins (bracket []) u) refl
   where
@@ -220,7 +220,7 @@ filter_append (x ∷ xs) ys = rw (filter_append xs ys) (go (filled x))
 
 module _ (c : List Token) (h : all filled c ≡ true) where
   nothing_behind : filter filled (merge (c ++ (bracket [] ∷ []))) ≡ merge c
-  unfolding filter ◌==◌
+  unfolding filter ◌≟◌
   nothing_behind =
       let whole = filter_all (merge c) (all_merge c h) in
       ⊎_elim (λ e. ap (filter filled) e ∙ whole)
@@ -280,7 +280,7 @@ unfolding closing
 closing_brace x =
     let n : length (x ++ ascii ") {") ≡ length x + 3 = length-append x (ascii ") {") in
     let k : length (x ++ ascii ") {") - 3 ≡ length x = omega arith in
-    rw (le-leb 3 (length (x ++ ascii ") {")) (omega arith), k, drop-append_seam x (ascii ") {"), eq-== (ascii ") {") (ascii ") {") refl)
+    rw (le-leb 3 (length (x ++ ascii ") {")) (omega arith), k, drop-append_seam x (ascii ") {"), eq_≟ (ascii ") {") (ascii ") {") refl)
 
 glue_keyword : (s : List ℕ) (us : List Token) → glue (tok s Keyword) us ≡ tok s Keyword ∷ us
 unfolding glue
@@ -301,7 +301,7 @@ last_cons t (v ∷ ts) u e = e
 
 pub condition_merged : (a : Option ℕ) (i : ℕ) (c : List Token) → all filled c ≡ true
     → condition (pseudo_line a i (merge (while_head c))) (ascii "while") ≡ some (merge c)
-unfolding condition position ◌==◌ merge
+unfolding condition position ◌≟◌ merge
 condition_merged a i c h =
     let M = merge (c ++ (bracket (ascii ") {") ∷ [])) in
     let N = glue (bracket (ascii " (")) M in

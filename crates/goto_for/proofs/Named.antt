@@ -16,12 +16,12 @@ use borrow.Author.Tests.{eqb-true, leb-true}
 use lib.Dec.{eqb, leb}
 use lib.ListN.{length, get_or, take, drop, length-append, take-append-drop}
 use lib.Seq.{drop-drop, get_or-drop}
-use Rattle.definitions.specs.Lists.{any, all, on_first, on_part, starts_with, ◌==◌, ascii}
+use Rattle.definitions.specs.Lists.{any, all, on_first, on_part, starts_with, ◌≟◌, ascii}
 use Rattle.definitions.specs.Model.{Token, tok, no_token, Punct, Text, Keyword, Register}
 use Rattle.definitions.specs.Family.{Family, fam_of, names}
 use Rattle.definitions.specs.Statements.{joins, glue, merge}
 use Rattle.definitions.specs.Condition.{Comparison, comparisons, Found, Seen, nothing_seen, at_depth_0, add_found, see_logical, comparison_at, see_bracket, scan_text, scan_token, scan, flip, only_comparison, negate_cond}
-use Rattle.text.proofs.Texts.{==-length}
+use Rattle.text.proofs.Texts.{≟_length}
 use Rattle.loop_theory.proofs.Cases.{true_false, none_some, some_same, and_split, if_has, case_has, IfSome}
 use Rattle.loop_theory.proofs.Places.{on_part_one}
 use Rattle.loop_theory.proofs.AnyAll.{all_cons, all_and, all_append, all_halves}
@@ -168,7 +168,7 @@ flipped_filled c f h t =
     let tail = drop (f.pos + length f.comparison.op) t.text in
     let n : 1 ≤ length (flip f t).text =
     omega (arith, length-append (take f.pos t.text) (f.comparison.flipped ++ tail), length-append f.comparison.flipped tail) in
-    ap not (==-length (flip f t).text [] (λ e. omega arith))
+    ap not (≟_length (flip f t).text [] (λ e. omega arith))
 
 first_filled : (f : Token → Token) → ((t : Token) → filled (f t) ≡ true) → (ts : List Token) → all filled ts ≡ true → all filled (on_first f ts) ≡ true
 unfolding on_first
@@ -190,4 +190,4 @@ negated_filled c h = go (only_comparison (scan 0 c nothing_seen)) (comparison_st
     go none s = all_merge (tok (ascii "!(") Punct ∷ (c ++ (tok (ascii ")") Punct ∷ []))) (bracketed_filled c h)
       where
         bracketed_filled : (c : List Token) → all filled c ≡ true → all filled (tok (ascii "!(") Punct ∷ (c ++ (tok (ascii ")") Punct ∷ []))) ≡ true
-        bracketed_filled c h = unfold all ◌==◌ in all_append filled c (tok (ascii ")") Punct ∷ []) h refl
+        bracketed_filled c h = unfold all ◌≟◌ in all_append filled c (tok (ascii ")") Punct ∷ []) h refl

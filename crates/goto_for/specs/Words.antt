@@ -8,9 +8,9 @@
 --   counted_words C ws w e p   the same, where the header at w counts p
 --   place_words C ws w e       the place of the initialiser, where the header at w becomes a for header
 -- Assumes nothing.
-use Rattle.std.specs.Prelude.{ℕ, zero, suc, ◌+◌, ◌-◌, Bool, ◌&&◌, not, List, eqb, leb, get_or}
+use Rattle.std.specs.Prelude.{if◌then◌else◌, ℕ, zero, suc, ◌+◌, ◌-◌, Bool, ◌&&◌, not, List, eqb, leb, get_or}
 use Rattle.std.proofs.Math.Option.{Option, none, some}
-use Rattle.definitions.specs.Lists.{if◌then◌else◌, or_else, any, part}
+use Rattle.definitions.specs.Lists.{or_else, any, part}
 use Rattle.definitions.specs.Model.{Token, Line, token}
 use Rattle.definitions.specs.Family.{fam_of}
 use Rattle.definitions.specs.Statements.{is_label}

@@ -16,7 +16,7 @@ use native.Mathlib.Decide.{dec_le}
 use native.Mathlib.Omega.{arith}
 use borrow.Author.Tests.{eq-eqb, ne_eqb, leb-true}
 use lib.ListN.{length, take}
-use Rattle.definitions.specs.Lists.{or_else, part, ◌==◌, ascii}
+use Rattle.definitions.specs.Lists.{or_else, part, ◌≟◌, ascii}
 use Rattle.definitions.specs.Model.{Line, token}
 use Rattle.definitions.specs.Statements.{is_kw, goto_target}
 use Rattle.definitions.specs.ToFor.{popped}
@@ -50,10 +50,10 @@ module _ (C : List Line) (p : ℕ) (s : Seek) where
     before = q ∙ ap (λ m. seek s (take m (origin C p).tokens)) (sub-zero g ∙ c)
 
     pub popped_continued : p % 4 ≡ 1 → r ≡ seek s (popped (piece C p).tokens)
-    popped_continued e = before ∙ sym (ap (λ ts. seek s (popped ts)) (continued_piece C p e) ∙ popped_jumped s (take (cut_place (origin C p)) (origin C p).tokens) (ascii "continue") (unfold ◌==◌ in refl))
+    popped_continued e = before ∙ sym (ap (λ ts. seek s (popped ts)) (continued_piece C p e) ∙ popped_jumped s (take (cut_place (origin C p)) (origin C p).tokens) (ascii "continue") (unfold ◌≟◌ in refl))
 
     pub popped_broken : p % 4 ≡ 2 → r ≡ seek s (popped (piece C p).tokens)
-    popped_broken e = before ∙ sym (ap (λ ts. seek s (popped ts)) (broken_piece C p e) ∙ popped_jumped s (take (cut_place (origin C p)) (origin C p).tokens) (ascii "break") (unfold ◌==◌ in refl))
+    popped_broken e = before ∙ sym (ap (λ ts. seek s (popped ts)) (broken_piece C p e) ∙ popped_jumped s (take (cut_place (origin C p)) (origin C p).tokens) (ascii "break") (unfold ◌≟◌ in refl))
 
   pub popped_other : (p % 4 ≡ 0 → ⊥) → (p % 4 ≡ 1 → ⊥) → (p % 4 ≡ 2 → ⊥) → s ≡ seek s (popped (piece C p).tokens)
   popped_other a b c = sym (ap (λ ts. seek s (popped ts)) (closed_piece C p a b c) ∙ popped_closed s)

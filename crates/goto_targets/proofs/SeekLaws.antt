@@ -17,7 +17,7 @@ use native.Mathlib.Omega.{arith}
 use borrow.Author.Tests.{eqb-true}
 use lib.Dec.{eqb}
 use lib.ListN.{length, get_or, take, drop}
-use Rattle.definitions.specs.Lists.{◌>>=◌, position, find, on_first, on_last, starts_with, count, ◌==◌, ascii}
+use Rattle.definitions.specs.Lists.{◌>>=◌, position, find, on_first, on_last, starts_with, count, ◌≟◌, ascii}
 use Rattle.definitions.specs.Model.{Token, Line, tok, no_token, Text, Keyword, Symbol, Punct}
 use Rattle.definitions.specs.Statements.{is_kw, joins, glue, merge, first_symbol, goto_target}
 use Rattle.definitions.specs.Condition.{Comparison, Found, Seen, nothing_seen, at_depth_0, add_found, see_logical, comparison_at, see_bracket, scan_text, scan_token, scan, flip, only_comparison, negate_cond}
@@ -190,7 +190,7 @@ seek_one (found x) = refl
 abbrev word : List ℕ → Token
 word w = tok w Keyword
 
-step_word : (s : Seek) (w : List ℕ) → (w == ascii "goto") ≡ false → step s (word w) ≡ s
+step_word : (s : Seek) (w : List ℕ) → (w ≟ ascii "goto") ≡ false → step s (word w) ≡ s
 unfolding step
 step_word looking w e = rw e
 step_word waiting w e = refl
@@ -205,16 +205,16 @@ module _ (s : Seek) where
       ended r = unfold seek in step_plain r (tok x Punct) refl
 
   -- a keyword and punctuation in front
-  seek_front : (w x : List ℕ) (ts : List Token) → (w == ascii "goto") ≡ false → seek s (word w ∷ (tok x Punct ∷ ts)) ≡ seek s ts
+  seek_front : (w x : List ℕ) (ts : List Token) → (w ≟ ascii "goto") ≡ false → seek s (word w ∷ (tok x Punct ∷ ts)) ≡ seek s ts
   unfolding seek
   seek_front w x ts e = ap (λ r. seek (step r (tok x Punct)) ts) (step_word s w e) ∙ ap (λ r. seek r ts) (step_plain s (tok x Punct) refl)
 
   pub seek_while : (c : List Token) → seek s (merge (while_head c)) ≡ seek s c
-  unfolding ◌==◌
+  unfolding ◌≟◌
   seek_while c = seek_merge s (while_head c) ∙ seek_front (ascii "while") (ascii " (") (c ++ (tok (ascii ") {") Punct ∷ [])) refl ∙ seek_end c (ascii ") {")
 
   pub seek_for : (a c z : List Token) → seek s (for_head a c z) ≡ seek (seek (seek s (popped a)) c) (popped z)
-  unfolding ◌==◌
+  unfolding ◌≟◌
   seek_for a c z =
       let A : List Token = word (ascii "for") ∷ tok (ascii " (") Punct ∷ popped a in
       let B : List Token = tok (ascii "; ") Punct ∷ c in
@@ -244,7 +244,7 @@ module _ (s : Seek) where
   popped_behind (a ∷ (b ∷ ts)) t u = ap (λ us. a ∷ us) (popped_behind (b ∷ ts) t u)
 
   -- a run cut at its first goto, with `kw;` behind
-  pub popped_jumped : (ts : List Token) (kw : List ℕ) → (kw == ascii "goto") ≡ false → seek s (popped (ts ++ (word kw ∷ tok (ascii ";") Punct ∷ []))) ≡ seek s ts
+  pub popped_jumped : (ts : List Token) (kw : List ℕ) → (kw ≟ ascii "goto") ≡ false → seek s (popped (ts ++ (word kw ∷ tok (ascii ";") Punct ∷ []))) ≡ seek s ts
   popped_jumped ts kw e = ap (seek s) (popped_behind ts (word kw) (tok (ascii ";") Punct)) ∙ seek_append s ts (word kw ∷ (tok (pop (ascii ";")) Punct ∷ [])) ∙ ended (seek s ts)
     where
       ended : (r : Seek) → seek r (word kw ∷ (tok (pop (ascii ";")) Punct ∷ [])) ≡ r

@@ -14,7 +14,7 @@ use native.Mathlib.Nat.{sub-zero}
 use native.Mathlib.Omega.{arith}
 use borrow.Author.Tests.{eq-eqb, ne_eqb}
 use lib.ListN.{length, get_or, take}
-use Rattle.definitions.specs.Lists.{part, filter, on_last, ◌==◌, ascii}
+use Rattle.definitions.specs.Lists.{part, filter, on_last, ◌≟◌, ascii}
 use Rattle.definitions.specs.Model.{Token, Line, tok, no_token, token, line}
 use Rattle.definitions.specs.Statements.{is_kw}
 use Rattle.definitions.specs.ToFor.{popped, pop}
@@ -29,7 +29,7 @@ use Rattle.goto_targets.proofs.SeekLaws.{seek_append, popped_end}
 
 -- One token
 
-pub goto_is : (t : Token) (a e k : ℕ) (x y : List ℕ) (b : Bool) → k ≡ t.kind → k ≡ 3 → x ≡ t.text → y ≡ part a e x → b ≡ (y == ascii "goto")
+pub goto_is : (t : Token) (a e k : ℕ) (x y : List ℕ) (b : Bool) → k ≡ t.kind → k ≡ 3 → x ≡ t.text → y ≡ part a e x → b ≡ (y ≟ ascii "goto")
     → b ≡ is_kw (ascii "goto") (tok (part a e t.text) t.kind)
 goto_is t a e k x y b c d f g h = rw (← c, eq-eqb k 3 d, ← f, ← g) h
 
@@ -110,7 +110,7 @@ module _ (s : Seek) (l : Line) (m k : ℕ) (x : List ℕ) (e : x ≡ (test_token
   token_empty z = go (test_token l m k) (ap length (sym e) ∙ z)
     where
       none_of : (k : ℕ) → s ≡ seek s (whole (tok [] k ∷ []))
-      none_of k = unfold seek filter ◌==◌ in refl
+      none_of k = unfold seek filter ◌≟◌ in refl
 
       go : (t : Token) → length t.text ≡ 0 → s ≡ seek s (whole (t ∷ []))
       go t z = by t.text t.kind z
@@ -125,7 +125,7 @@ module _ (s : Seek) (l : Line) (m k : ℕ) (x : List ℕ) (e : x ≡ (test_token
       q ∙ (rw (f, i, d, g) (unfold test_token in refl)) ∙ go (test_token l m k) (λ z. h (ap length e ∙ z))
     where
       some_of : (b : ℕ) (y : List ℕ) (k : ℕ) → step s (tok (b ∷ y) k) ≡ seek s (whole (tok (b ∷ y) k ∷ []))
-      some_of b y k = unfold seek filter ◌==◌ in refl
+      some_of b y k = unfold seek filter ◌≟◌ in refl
 
       go : (t : Token) → (length t.text ≡ 0 → ⊥) → step s t ≡ seek s (whole (t ∷ []))
       go t h = by t.text t.kind h
@@ -138,7 +138,7 @@ pub ruleset parts = (token_empty, token_full)
 
 whole_cons : (t : Token) (ts : List Token) → whole (t ∷ ts) ≡ whole (t ∷ []) ++ whole ts
 unfolding filter
-whole_cons t ts = go (t.text == [])
+whole_cons t ts = go (t.text ≟ [])
   where
     go : (b : Bool) → cond (not b) (t ∷ whole ts) (whole ts) ≡ cond (not b) (t ∷ []) [] ++ whole ts
     go true = refl

@@ -5,9 +5,9 @@
 --   target s         the target that was found
 --   told C s         what the code's answer s says of the listing C
 -- Assumes nothing.
-use Rattle.std.specs.Prelude.{ℕ, List, [], ◌∷◌, eqb}
+use Rattle.std.specs.Prelude.{if◌then◌else◌, ℕ, List, [], ◌∷◌, eqb}
 use Rattle.std.proofs.Math.Option.{Option, none, some}
-use Rattle.definitions.specs.Lists.{if◌then◌else◌, part, ascii}
+use Rattle.definitions.specs.Lists.{part, ascii}
 use Rattle.definitions.specs.Model.{Token, Line, token, line, Symbol}
 use Rattle.definitions.specs.Statements.{is_kw}
 use Rattle.goto_targets.specs.declared.seeking.State.{State}

@@ -12,7 +12,7 @@ use mathlib.Core.List.{List, [], ◌∷◌, ◌++◌, map}
 use mathlib.Core.Option
 use mathlib.Core.Option.{Option, none, some}
 use lib.ListN.{take, drop, get_elem?}
-use Rattle.definitions.specs.Lists.{◌>>=◌, require, any, filter, part, take_while, last_position, ◌==◌}
+use Rattle.definitions.specs.Lists.{◌>>=◌, require, any, filter, part, take_while, last_position, ◌≟◌}
 use Rattle.definitions.specs.Model.{Line, pseudo_line, line}
 use Rattle.definitions.specs.Columns.{listing}
 use Rattle.definitions.specs.Statements.{is_label, label, goto_target}
@@ -130,14 +130,14 @@ back_without L g ind d j =
 
 -- the targets that lead to the label at h or to a label behind it, before b
 abbrev inner : List Line → ℕ → ℕ → List ℕ → Bool
-inner L h b t = (t == label (line L h)) || any (λ l. label l == t) (filter is_label (part (h + 1) b L))
+inner L h b t = (t ≟ label (line L h)) || any (λ l. label l ≟ t) (filter is_label (part (h + 1) b L))
 
 inner_without : (L : List Line) (h b : ℕ) (t : List ℕ) → inner (map bare L) h b t ≡ inner L h b t
 inner_without L h b t =
-    ap₂ (λ m c. (t == label m) || c) (line_bare L h)
-    (ap (λ M. any (λ l. label l == t) (filter is_label M)) (sym (map_part bare (h + 1) b L))
-    ∙ (ap (any (λ l. label l == t)) (filter_test is_label label_test (part (h + 1) b L))
-    ∙ any_test (λ l. label l == t) (λ m. refl) (filter is_label (part (h + 1) b L))))
+    ap₂ (λ m c. (t ≟ label m) || c) (line_bare L h)
+    (ap (λ M. any (λ l. label l ≟ t) (filter is_label M)) (sym (map_part bare (h + 1) b L))
+    ∙ (ap (any (λ l. label l ≟ t)) (filter_test is_label label_test (part (h + 1) b L))
+    ∙ any_test (λ l. label l ≟ t) (λ m. refl) (filter is_label (part (h + 1) b L))))
 
 goes_other : (p q : List ℕ → Bool) → ((t : List ℕ) → p t ≡ q t) → (m : Line) → goes_to p m ≡ goes_to q m
 unfolding goes_to

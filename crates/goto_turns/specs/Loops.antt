@@ -7,8 +7,8 @@
 --   Loop l t x n h b ws        with a back edge at b, a body, and no goto that leads in from outside
 --   Headed l t x n h ws k vs   k lines are left, those with the header made
 -- Assumes nothing.
-use Rattle.std.specs.Prelude.{ℕ, ◌+◌, ◌*◌, ◌/◌, ◌≤◌, ◌<◌, ◌≡◌, true, false, List, length, take, get_or, set}
-use Rattle.definitions.specs.Lists.{if◌then◌else◌, is_some, or_else, remove, on_part}
+use Rattle.std.specs.Prelude.{if◌then◌else◌, ℕ, ◌+◌, ◌*◌, ◌/◌, ◌≤◌, ◌<◌, ◌≡◌, true, false, List, length, take, get_or, set}
+use Rattle.definitions.specs.Lists.{is_some, or_else, remove, on_part}
 use Rattle.definitions.specs.Model.{Line, pseudo_line, line}
 use Rattle.definitions.specs.Columns.{listing}
 use Rattle.definitions.specs.Questions.{question_2}

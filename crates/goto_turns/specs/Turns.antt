@@ -5,8 +5,8 @@
 --   TurnOf l t x f n h ws r vs    the answer r says what f gives of the lines
 --   Emitted n vs r             the words that the pass answers, no more than n, have headers of this pass only
 -- Assumes nothing.
-use Rattle.std.specs.Prelude.{ℕ, ◌+◌, ◌≤◌, ◌≡◌, true, ◌&&◌, not, List, ltb, take}
-use Rattle.definitions.specs.Lists.{if◌then◌else◌, all}
+use Rattle.std.specs.Prelude.{if◌then◌else◌, ℕ, ◌+◌, ◌≤◌, ◌≡◌, true, ◌&&◌, not, List, ltb, take}
+use Rattle.definitions.specs.Lists.{all}
 use Rattle.definitions.specs.Model.{Line}
 use Rattle.definitions.specs.Passes.{Turn, go, beyond}
 use Rattle.definitions.specs.RecoverGotoLoops.{enters, rewritten}

@@ -16,7 +16,7 @@ use native.Mathlib.Decide.{dec_le}
 use borrow.Author.Tests.{lt-ltb, le-ltb}
 use lib.ListN.{length, get_or, take, set, length-set, length-take}
 use lib.Seq.{take-set-lt, get_or-take}
-use Rattle.definitions.specs.Lists.{all, part, on_part, ◌==◌, ascii}
+use Rattle.definitions.specs.Lists.{all, part, on_part, ◌≟◌, ascii}
 use Rattle.definitions.specs.Model.{Line, pseudo_line, token, line}
 use Rattle.definitions.specs.Columns.{listing}
 use Rattle.definitions.specs.Statements.{goto_target}
@@ -42,32 +42,32 @@ goes_by p l o e = rw (e, goes_to)
 module _ (C : List Line) (p : ℕ) (h x : List ℕ) (b : Bool) (f : Found) (e : text_at (origin C p) f ≡ goto_target (piece C p)) where
   pub form_none : f ≡ Nothing → 0 ≡ jump_form h (exit b x) (piece C p)
   unfolding jump_form
-  form_none q = let g : goto_target (piece C p) ≡ none = sym e ∙ rw q in rw (goes_by (λ t. t == h) (piece C p) none g, goes_by (leaves (exit b x)) (piece C p) none g)
+  form_none q = let g : goto_target (piece C p) ≡ none = sym e ∙ rw q in rw (goes_by (λ t. t ≟ h) (piece C p) none g, goes_by (leaves (exit b x)) (piece C p) none g)
 
-  module _ (j : ℕ) (q : f ≡ At j) (s : List ℕ) (t : s ≡ (token (origin C p) j).text) (y : Bool) (z : y ≡ (s == h)) where
+  module _ (j : ℕ) (q : f ≡ At j) (s : List ℕ) (t : s ≡ (token (origin C p) j).text) (y : Bool) (z : y ≡ (s ≟ h)) where
     target : goto_target (piece C p) ≡ some s
     target = sym e ∙ rw (q, t)
 
     pub form_continue : y ≡ true → 1 ≡ jump_form h (exit b x) (piece C p)
     unfolding jump_form
-    form_continue g = rw (goes_by (λ t. t == h) (piece C p) (some s) target, ← z, g)
+    form_continue g = rw (goes_by (λ t. t ≟ h) (piece C p) (some s) target, ← z, g)
 
     module _ (g : y ≡ false) where
       pub form_stays : b ≡ false → 0 ≡ jump_form h (exit b x) (piece C p)
       unfolding jump_form
-      form_stays k = rw (goes_by (λ t. t == h) (piece C p) (some s) target, ← z, g, goes_by (leaves (exit b x)) (piece C p) (some s) target, k)
+      form_stays k = rw (goes_by (λ t. t ≟ h) (piece C p) (some s) target, ← z, g, goes_by (leaves (exit b x)) (piece C p) (some s) target, k)
 
-      module _ (k : b ≡ true) (u : List ℕ) (v : u ≡ (token (origin C p) j).text) (m : Bool) (w : m ≡ (u == x)) where
-        same : m ≡ (s == x)
-        same = w ∙ ap (λ a. a == x) (v ∙ sym t)
+      module _ (k : b ≡ true) (u : List ℕ) (v : u ≡ (token (origin C p) j).text) (m : Bool) (w : m ≡ (u ≟ x)) where
+        same : m ≡ (s ≟ x)
+        same = w ∙ ap (λ a. a ≟ x) (v ∙ sym t)
 
         pub form_break : m ≡ true → 2 ≡ jump_form h (exit b x) (piece C p)
         unfolding jump_form
-        form_break n = rw (goes_by (λ t. t == h) (piece C p) (some s) target, ← z, g, goes_by (leaves (exit b x)) (piece C p) (some s) target, k, ← same, n)
+        form_break n = rw (goes_by (λ t. t ≟ h) (piece C p) (some s) target, ← z, g, goes_by (leaves (exit b x)) (piece C p) (some s) target, k, ← same, n)
 
         pub form_other : m ≡ false → 0 ≡ jump_form h (exit b x) (piece C p)
         unfolding jump_form
-        form_other n = rw (goes_by (λ t. t == h) (piece C p) (some s) target, ← z, g, goes_by (leaves (exit b x)) (piece C p) (some s) target, k, ← same, n)
+        form_other n = rw (goes_by (λ t. t ≟ h) (piece C p) (some s) target, ← z, g, goes_by (leaves (exit b x)) (piece C p) (some s) target, k, ← same, n)
 
 pub ruleset forms = (form_none, form_continue, form_stays, form_break, form_other)
 
@@ -138,7 +138,7 @@ goes_same : (q : List ℕ → Bool) (l m : Line) → l.tokens ≡ m.tokens → g
 unfolding goes_to goto_target
 goes_same q l m e = rw (e, goes_to, goto_target)
 
-exits : (o : Option (List ℕ)) (l : Line) → goes_to (λ t. elim o [ none ↦ false | some e ↦ t == e ]) l ≡ goes_to (leaves o) l
+exits : (o : Option (List ℕ)) (l : Line) → goes_to (λ t. elim o [ none ↦ false | some e ↦ t ≟ e ]) l ≡ goes_to (leaves o) l
 exits none l = refl
 exits (some e) l = refl
 
@@ -196,11 +196,11 @@ module _ (l t x : List ℕ) (S : List Line) (R : Source S l t x) where
 
     pub body_line : line_of S (body_word (listing l t x) h o w) ≡ move_in (jump h o (line_of S w))
     unfolding body_word jump_form jump
-    body_line = rw (goes (λ t. t == h), exits o (line_of S w), goes (leaves o)) (go (goes_to (λ t. t == h) (piece (listing l t x) (piece_at w))) (goes_to (leaves o) (piece (listing l t x) (piece_at w))) refl refl)
+    body_line = rw (goes (λ t. t ≟ h), exits o (line_of S w), goes (leaves o)) (go (goes_to (λ t. t ≟ h) (piece (listing l t x) (piece_at w))) (goes_to (leaves o) (piece (listing l t x) (piece_at w))) refl refl)
       where
-        go : (a b : Bool) → goes_to (λ t. t == h) (piece (listing l t x) (piece_at w)) ≡ a → goes_to (leaves o) (piece (listing l t x) (piece_at w)) ≡ b
+        go : (a b : Bool) → goes_to (λ t. t ≟ h) (piece (listing l t x) (piece_at w)) ≡ a → goes_to (leaves o) (piece (listing l t x) (piece_at w)) ≡ b
             → line_of S (indent_at w + 1 + 2048 * (piece_at w + cond a 1 (cond b 2 0)))
             ≡ move_in (cond a (jump_line (ascii "continue") (line_of S w)) (cond b (jump_line (ascii "break") (line_of S w)) (line_of S w)))
-        go true b e f = continued_line (whole (λ t. t == h) e)
+        go true b e f = continued_line (whole (λ t. t ≟ h) e)
         go false true e f = broken_line (whole (leaves o) f)
         go false false e f = kept_as

@@ -13,13 +13,13 @@ use borrow.Author.Tests.{eq-eqb, ne_eqb, eqb-true, lt-ltb, le-ltb}
 use lib.Dec.{eqb, ltb}
 use lib.ListN.{length, get_or, length-append}
 use lib.Seq.{get_or-append-add}
-use Rattle.definitions.specs.Lists.{◌==◌, ascii}
+use Rattle.definitions.specs.Lists.{◌≟◌, ascii}
 use Rattle.definitions.specs.Model.{Token, Line, tok, token, no_token, text, Keyword, Symbol, Punct, Text}
 use Rattle.definitions.specs.Statements.{is_label, joins, glue, merge}
 use Rattle.definitions.specs.ToFor.{for_head, popped}
 use Rattle.definitions.specs.Passes.{while_head}
 use Rattle.definitions.specs.RecoverGotoLoops.{in_block, is_back}
-use Rattle.text.proofs.Texts.{ne-==}
+use Rattle.text.proofs.Texts.{ne_≟}
 use Rattle.plan.specs.Plan.{Test, Test.guard, Test.always, Test.leading, Header, Header.while_over, Header.for_over, Piece, piece_of, piece_tokens, test_tokens, while_tokens, header_tokens, header_of, planned, plan_of, indent_at, header_at, piece_at, test_at, initialiser_at, step_at, line_of}
 use Rattle.pieces.specs.Pieces.{piece, piece_text}
 
@@ -126,8 +126,8 @@ module _ (S : List Line) (p t a z : Piece) (h : ℕ) (e : h ≡ 0 → ⊥) where
           let D : List Token = tok (ascii "; ") Punct ∷ popped (piece_tokens S z) in
           ends_merge (((A ++ B) ++ D) ++ (tok (ascii ") {") Punct ∷ [])) (ends_append ((A ++ B) ++ D) (tok (ascii ") {") Punct ∷ []) ends_last)
 
-never_back : (X h : List ℕ) → ((X ++ ascii ") {") == (ascii "goto " ++ (h ++ ascii ";"))) ≡ false
-never_back X h = ne-== (X ++ ascii ") {") (ascii "goto " ++ (h ++ ascii ";")) (λ q. clash q)
+never_back : (X h : List ℕ) → ((X ++ ascii ") {") ≟ (ascii "goto " ++ (h ++ ascii ";"))) ≡ false
+never_back X h = ne_≟ (X ++ ascii ") {") (ascii "goto " ++ (h ++ ascii ";")) (λ q. clash q)
   where
     clash : X ++ ascii ") {" ≡ ascii "goto " ++ (h ++ ascii ";") → ⊥
     clash q =
@@ -157,11 +157,11 @@ module _ (C : List Line) (w h : ℕ) (q : h ≡ header_at w) where
   label_header e =
       let f : eqb (token (line_of C w) 0).kind Symbol ≡ false =
       ap (λ ts. eqb (get_or ts 0 no_token).kind Symbol) tokens_of ∙ header_first C (piece_of (piece_at w)) (piece_of (test_at w)) (piece_of (initialiser_at w)) (piece_of (step_at w)) h e in
-      rw f (sym (and-false (eqb (length (line_of C w).tokens) 2 && ((token (line_of C w) 1).text == ascii ":"))))
+      rw f (sym (and-false (eqb (length (line_of C w).tokens) 2 && ((token (line_of C w) 1).text ≟ ascii ":"))))
 
   module _ (g : List ℕ) (d i : ℕ) (k : i ≡ indent_at w) where
     module _ (f : i ≡ d) where
-      at_indent : is_back g d (line_of C w) ≡ (text (line_of C w).tokens == (ascii "goto " ++ (g ++ ascii ";")))
+      at_indent : is_back g d (line_of C w) ≡ (text (line_of C w).tokens ≟ (ascii "goto " ++ (g ++ ascii ";")))
       at_indent =
           let e : eqb (line_of C w).indent d ≡ true = indent_is ∙ eq-eqb i d f in
           rw e
@@ -169,13 +169,13 @@ module _ (C : List Line) (w h : ℕ) (q : h ≡ header_at w) where
           indent_is : eqb (line_of C w).indent d ≡ eqb i d
           indent_is = unfold planned plan_of in rw k
 
-      pub back_piece : h ≡ 0 → (p : ℕ) (r : Bool) → p ≡ piece_at w → r ≡ (piece_text C p == (ascii "goto " ++ (g ++ ascii ";"))) → r ≡ is_back g d (line_of C w)
-      back_piece e p r x y = y ∙ sym (at_indent ∙ ap (λ ts. text ts == (ascii "goto " ++ (g ++ ascii ";"))) (no_header_line e ∙ rw (← x)))
+      pub back_piece : h ≡ 0 → (p : ℕ) (r : Bool) → p ≡ piece_at w → r ≡ (piece_text C p ≟ (ascii "goto " ++ (g ++ ascii ";"))) → r ≡ is_back g d (line_of C w)
+      back_piece e p r x y = y ∙ sym (at_indent ∙ ap (λ ts. text ts ≟ (ascii "goto " ++ (g ++ ascii ";"))) (no_header_line e ∙ rw (← x)))
 
       pub back_header : (h ≡ 0 → ⊥) → false ≡ is_back g d (line_of C w)
       back_header e =
           let u = header_end C (piece_of (piece_at w)) (piece_of (test_at w)) (piece_of (initialiser_at w)) (piece_of (step_at w)) h e in
-          sym (at_indent ∙ ap (λ s. s == (ascii "goto " ++ (g ++ ascii ";"))) (ap text tokens_of ∙ u.is) ∙ never_back u.front g)
+          sym (at_indent ∙ ap (λ s. s ≟ (ascii "goto " ++ (g ++ ascii ";"))) (ap text tokens_of ∙ u.is) ∙ never_back u.front g)
 
 pub back_other : (C : List Line) (w : ℕ) (g : List ℕ) (d i : ℕ) → i ≡ indent_at w → (i ≡ d → ⊥) → false ≡ is_back g d (line_of C w)
 unfolding planned plan_of

@@ -3,9 +3,9 @@
 --   or_later o x             the place x, or the place o where x is none
 --   back_from L h ind d j    the last line from place j on that stands at indent d and reads `goto h;`, before the first that leaves the block
 -- Assumes nothing.
-use Rattle.std.specs.Prelude.{ℕ, ◌+◌, Bool, List, drop}
+use Rattle.std.specs.Prelude.{if◌then◌else◌, ℕ, ◌+◌, Bool, List, drop}
 use Rattle.std.proofs.Math.Option.{Option, none, some, map}
-use Rattle.definitions.specs.Lists.{if◌then◌else◌, last_position, take_while}
+use Rattle.definitions.specs.Lists.{last_position, take_while}
 use Rattle.definitions.specs.Model.{Line}
 use Rattle.definitions.specs.RecoverGotoLoops.{in_block, is_back}
 

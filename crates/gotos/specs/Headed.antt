@@ -3,8 +3,8 @@
 --   headed_words b h ws     the label at h made a header, over the leading test behind it where b is true, which then goes
 --   fewer b                 how many lines fewer that are
 -- Assumes nothing.
-use Rattle.std.specs.Prelude.{ℕ, ◌+◌, ◌*◌, Bool, List, get_or, set}
-use Rattle.definitions.specs.Lists.{if◌then◌else◌, remove}
+use Rattle.std.specs.Prelude.{if◌then◌else◌, ℕ, ◌+◌, ◌*◌, Bool, List, get_or, set}
+use Rattle.definitions.specs.Lists.{remove}
 use Rattle.plan.specs.Plan.{indent_at, piece_at}
 
 unfoldable pub head_word : ℕ → ℕ → ℕ → ℕ

@@ -15,8 +15,8 @@
 --   word_answer w out c           what the word w answers; `check` prints as it goes, and nothing after that
 --   answer w out n                what the word w answers to the first n bytes of the slice
 -- Assumes nothing.
-use Rattle.std.specs.Prelude.{ℕ, ◌≡◌, true, List, [], ◌++◌, leb, length, take}
-use Rattle.definitions.specs.Lists.{if◌then◌else◌, ascii}
+use Rattle.std.specs.Prelude.{if◌then◌else◌, ℕ, ◌≡◌, true, List, [], ◌++◌, leb, length, take}
+use Rattle.definitions.specs.Lists.{ascii}
 use Rattle.definitions.specs.Columns.{listing}
 use Rattle.definitions.specs.Questions.{Limits, limits, question_1, question_2}
 use Rattle.definitions.specs.Model.{Line}

@@ -2,9 +2,8 @@
 --   read_call s out     the reader: question 10; refused, everything lent is zero; accepted, the columns are packed and zero behind
 --   write_call c out    the writer: questions 1 to 4; refused, nothing is written; accepted, the text's length, the text and zeros behind
 -- Assumes nothing.
-use Rattle.std.specs.Prelude.{ℕ, Bool, ◌&&◌, List, [], ◌∷◌, eqb, leb, length}
+use Rattle.std.specs.Prelude.{if◌then◌else◌, ℕ, Bool, ◌&&◌, List, [], ◌∷◌, eqb, leb, length}
 use Rattle.std.proofs.Math.Option.{Option, none, some}
-use Rattle.definitions.specs.Lists.{if◌then◌else◌}
 use Rattle.definitions.specs.Model.{Line}
 use Rattle.definitions.specs.Columns.{listing, with_addresses, line_words, address_words, token_words, text_bytes}
 use Rattle.definitions.specs.Questions.{limits, question_1, question_2, question_3, refusal}

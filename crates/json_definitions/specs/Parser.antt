@@ -7,9 +7,9 @@
 --   lexeme w              white space, then the bytes w
 --   array p               "[", what p gives, as often as it stands there, with "," between, and "]"
 -- Assumes nothing.
-use Rattle.std.specs.Prelude.{ℕ, zero, suc, Bool, ◌||◌, List, [], ◌∷◌, eqb, length}
+use Rattle.std.specs.Prelude.{if◌then◌else◌, ℕ, zero, suc, Bool, ◌||◌, List, [], ◌∷◌, eqb, length}
 use Rattle.std.proofs.Math.Option.{Option, none, some}
-use Rattle.definitions.specs.Lists.{if◌then◌else◌, ascii}
+use Rattle.definitions.specs.Lists.{ascii}
 
 pub record Got (A : Type 0) : Type 0 where
   pub value : A

@@ -6,9 +6,9 @@
 --   token, line a token, a line
 --   read s      the listing that the text s writes, none where it writes none
 -- Assumes nothing.
-use Rattle.std.specs.Prelude.{ℕ, suc, ◌+◌, ◌*◌, ◌-◌, ◌^◌, Bool, true, false, List, [], ◌∷◌, eqb, leb}
+use Rattle.std.specs.Prelude.{if◌then◌else◌, ℕ, suc, ◌+◌, ◌*◌, ◌-◌, ◌^◌, Bool, true, false, List, [], ◌∷◌, eqb, leb}
 use Rattle.std.proofs.Math.Option.{Option, none, some}
-use Rattle.definitions.specs.Lists.{if◌then◌else◌, ascii}
+use Rattle.definitions.specs.Lists.{ascii}
 use Rattle.definitions.specs.Utf8.{within}
 use Rattle.definitions.specs.Model.{Token, Line, tok, pseudo_line}
 use Rattle.json_definitions.specs.Parser.{Got, got, Parser, pure, after, or_try, ◌>>=◌, ◌>>◌, skip_white_space, lexeme, array}

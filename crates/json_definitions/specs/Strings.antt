@@ -5,9 +5,9 @@
 --   character       one code point of a string
 --   string          white space, a quote, characters, a quote
 -- Assumes nothing.
-use Rattle.std.specs.Prelude.{ℕ, zero, suc, ◌+◌, ◌*◌, ◌-◌, ◌/◌, ◌%◌, List, [], ◌∷◌, ◌++◌, eqb, leb, ltb, length}
+use Rattle.std.specs.Prelude.{if◌then◌else◌, ℕ, zero, suc, ◌+◌, ◌*◌, ◌-◌, ◌/◌, ◌%◌, List, [], ◌∷◌, ◌++◌, eqb, leb, ltb, length}
 use Rattle.std.proofs.Math.Option.{none, some}
-use Rattle.definitions.specs.Lists.{if◌then◌else◌, ascii}
+use Rattle.definitions.specs.Lists.{ascii}
 use Rattle.definitions.specs.Utf8.{Range, within, following}
 use Rattle.json_definitions.specs.Parser.{got, Parser, pure, after, or_try, ◌>>=◌, ◌>>◌, literal, lexeme}
 

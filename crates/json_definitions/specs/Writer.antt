@@ -6,9 +6,9 @@
 --   token_text t, line_text l
 --   write L           the JSON text of the listing L
 -- Assumes nothing.
-use Rattle.std.specs.Prelude.{ℕ, zero, suc, ◌+◌, ◌/◌, ◌%◌, ◌||◌, List, [], ◌∷◌, ◌++◌, eqb, ltb, get_or}
+use Rattle.std.specs.Prelude.{if◌then◌else◌, ℕ, zero, suc, ◌+◌, ◌/◌, ◌%◌, ◌||◌, List, [], ◌∷◌, ◌++◌, eqb, ltb, get_or}
 use Rattle.std.proofs.Math.Option.{Option, none, some}
-use Rattle.definitions.specs.Lists.{if◌then◌else◌, ascii}
+use Rattle.definitions.specs.Lists.{ascii}
 use Rattle.definitions.specs.Model.{Token, Line}
 use Rattle.json_definitions.specs.Reader.{kinds}
 

@@ -3,6 +3,7 @@
 --   line_no_head, line_no_tokens, line_no_end    no line
 --   indent_small, line_whole                     a line
 -- Assumes nothing.
+use Rattle.std.specs.Prelude.{if◌then◌else◌}
 use mathlib.Core.Path.{◌≡◌, sym, ap, ◌∙◌}
 use mathlib.Core.List.{List, [], ◌∷◌}
 use mathlib.Core.Option.{Option, none, some}
@@ -10,7 +11,7 @@ use Prim.Native.Nat.{ℕ, ◌+◌, ◌≤◌, zero-le}
 use native.Mathlib.Nat.{le_refl}
 use native.Mathlib.Omega.{arith}
 use lib.ListN.{drop}
-use Rattle.definitions.specs.Lists.{ascii, if◌then◌else◌, is_some, or_else}
+use Rattle.definitions.specs.Lists.{ascii, is_some, or_else}
 use Rattle.definitions.specs.Model.{Token, Line, pseudo_line}
 use Rattle.model.specs.Addresses.{address}
 use Rattle.model.specs.declared.columns.Address.{Address}

@@ -6,9 +6,9 @@
 --   token_rest t             a token behind its text t
 --   later_kinds              the kinds from 4 on
 -- Assumes nothing.
-use Rattle.std.specs.Prelude.{ℕ, ◌≤◌, Bool, true, false, List, [], ◌∷◌, leb, length, drop}
+use Rattle.std.specs.Prelude.{if◌then◌else◌, ℕ, ◌≤◌, Bool, true, false, List, [], ◌∷◌, leb, length, drop}
 use Rattle.std.proofs.Math.Option.{Option, none, some}
-use Rattle.definitions.specs.Lists.{if◌then◌else◌, ascii, part}
+use Rattle.definitions.specs.Lists.{ascii, part}
 use Rattle.definitions.specs.Model.{Token, tok}
 use Rattle.model.specs.Addresses.{address}
 use Rattle.json_definitions.specs.Parser.{Got, got, Parser, pure, ◌>>=◌}

@@ -5,9 +5,9 @@
 -- o is what the definition gives; tk₀ and tx₀ are the columns of tokens and text at entry, of which nt words and nx bytes stand; tk and tx are the
 -- columns at exit, of which n words and x bytes stand; l is the place of the text s behind what was read.
 -- Assumes nothing.
-use Rattle.std.specs.Prelude.{ℕ, ◌+◌, ◌≤◌, ◌<◌, ◌≡◌, List, ◌++◌, length, take, drop}
+use Rattle.std.specs.Prelude.{if◌then◌else◌, ℕ, ◌+◌, ◌≤◌, ◌<◌, ◌≡◌, List, ◌++◌, length, take, drop}
 use Rattle.std.proofs.Math.Option.{Option, some}
-use Rattle.definitions.specs.Lists.{if◌then◌else◌, is_some, or_else}
+use Rattle.definitions.specs.Lists.{is_some, or_else}
 use Rattle.definitions.specs.Model.{Token, Line, text}
 use Rattle.definitions.specs.Columns.{token_words_from}
 use Rattle.json_definitions.specs.Parser.{Got, got}

@@ -2,6 +2,7 @@
 --   Going       the columns hold the lines L, and what is left decides
 --   start, full, full_ad, room_n, room_x, limit_x, less, no_line, pack_n, pack_f, no_sep, closes, goes_on
 -- Assumes nothing.
+use Rattle.std.specs.Prelude.{if◌then◌else◌}
 use mathlib.Core.Path.{◌≡◌, refl, sym, ap, ◌∙◌}
 use mathlib.Core.List.{List, [], ◌∷◌, ◌++◌, append_assoc}
 use mathlib.Core.Option.{Option, none, some}
@@ -11,7 +12,7 @@ use native.Mathlib.Numerals.{add-one}
 use native.Mathlib.Omega.{arith}
 use lib.ListN.{length, take, drop, set, length-append, length-set}
 use lib.Seq.{take-suc-set}
-use Rattle.definitions.specs.Lists.{concat, if◌then◌else◌, is_some}
+use Rattle.definitions.specs.Lists.{concat, is_some}
 use Rattle.definitions.specs.Model.{Token, Line, text}
 use Rattle.definitions.specs.Columns.{all_tokens, token_words_from, line_words_from, line_words, address_words, token_words, text_bytes}
 use Rattle.write.proofs.Words.{text_append, all_tokens_snoc, line_words_snoc, address_words_snoc}

@@ -6,9 +6,8 @@
 -- o is what the definition gives; the columns have room for a lines, b addresses, c tokens and d bytes; at exit k lines, n tokens and x bytes stand in
 -- the columns ln, ad, tk and tx; l is the place of the text s behind what was read.
 -- Assumes nothing.
-use Rattle.std.specs.Prelude.{ℕ, ◌≤◌, ◌≡◌, List, length, take, drop}
+use Rattle.std.specs.Prelude.{if◌then◌else◌, ℕ, ◌≤◌, ◌≡◌, List, length, take, drop}
 use Rattle.std.proofs.Math.Option.{Option, none, some}
-use Rattle.definitions.specs.Lists.{if◌then◌else◌}
 use Rattle.definitions.specs.Model.{Line}
 use Rattle.definitions.specs.Columns.{all_tokens, line_words, address_words, token_words, text_bytes}
 use Rattle.json_definitions.specs.Parser.{Got, got, skip_white_space}

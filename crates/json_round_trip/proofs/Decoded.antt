@@ -2,6 +2,7 @@
 --   words_formed    its address words have 64 bits
 --   listing_back    the columns' listing is the listing they were made of
 -- Assumes nothing.
+use Rattle.std.specs.Prelude.{if◌then◌else◌}
 use Prim.Native.Nat.{ℕ, ◌+◌, ◌*◌, ◌-◌, ◌/◌, ◌%◌, ◌≤◌}
 use mathlib.Core.Path.{◌≡◌, refl, ap, ◌∙◌}
 use mathlib.Core.Bool.{true}
@@ -13,7 +14,7 @@ use borrow.Author.Tests.{leb-true}
 use lib.Dec.{leb}
 use lib.ListN.{length, length-append}
 use lib.Seq.{take_at, drop_at}
-use Rattle.definitions.specs.Lists.{all, part, concat, if◌then◌else◌, is_some, or_else}
+use Rattle.definitions.specs.Lists.{all, part, concat, is_some, or_else}
 use Rattle.definitions.specs.Utf8.{is_utf8}
 use Rattle.definitions.specs.Model.{Token, Line, tok, pseudo_line, text}
 use Rattle.definitions.specs.Columns.{pieces, token_of, line_of, token_list, listing, address_of, with_addresses, token_words_from, line_words_from, all_tokens, line_words, address_words, token_words, text_bytes}

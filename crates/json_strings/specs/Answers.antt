@@ -5,9 +5,9 @@
 --   Within n from r        those bytes end at a place from `from` to n
 --   limited room o         what o gave, if it has at most `room` bytes
 -- Assumes nothing.
-use Rattle.std.specs.Prelude.{ℕ, ◌≤◌, List, [], ◌∷◌, leb, length, take, drop}
+use Rattle.std.specs.Prelude.{if◌then◌else◌, ℕ, ◌≤◌, List, [], ◌∷◌, leb, length, take, drop}
 use Rattle.std.proofs.Math.Option.{Option, none, some}
-use Rattle.definitions.specs.Lists.{if◌then◌else◌, part}
+use Rattle.definitions.specs.Lists.{part}
 use Rattle.json_definitions.specs.Parser.{Got, got}
 use Rattle.json_strings.specs.declared.points.Bytes.{Bytes}
 use Rattle.json_strings.specs.declared.points.Piece.{Piece}

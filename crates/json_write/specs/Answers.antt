@@ -6,8 +6,8 @@
 --   fourth w out       question 4 for the text w, and what the call then answers and leaves
 --   written r out      the answer and the lent text at exit
 -- Assumes nothing.
-use Rattle.std.specs.Prelude.{ℕ, List, ◌++◌, leb, length}
-use Rattle.definitions.specs.Lists.{if◌then◌else◌, ascii}
+use Rattle.std.specs.Prelude.{if◌then◌else◌, ℕ, List, ◌++◌, leb, length}
+use Rattle.definitions.specs.Lists.{ascii}
 use Rattle.definitions.specs.Model.{Line}
 use Rattle.definitions.specs.Answers.{refused, accepted}
 use Rattle.definitions.specs.Answers as defined

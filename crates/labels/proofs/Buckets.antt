@@ -18,11 +18,11 @@ use lib.Dec.{ltb}
 use borrow.Author.Tests.{lt-ltb, le-ltb, ltb-false}
 use lib.ListN.{length, get_or, set, take, length-set}
 use lib.Seq.{get_or-set_same, get_or-set_other, take_all}
-use Rattle.definitions.specs.Lists.{find, last_position, ◌==◌}
+use Rattle.definitions.specs.Lists.{find, last_position, ◌≟◌}
 use Rattle.definitions.specs.Model.{Line, line, no_line, token}
 use Rattle.definitions.specs.Statements.{is_label, label}
 use Rattle.definitions.specs.FlowGraph.{label_line}
-use Rattle.text.proofs.Texts.{==-eq, ne-==}
+use Rattle.text.proofs.Texts.{≟_eq, ne_≟}
 use Rattle.text.proofs.Loops.{last_found, last_next}
 use Rattle.names.specs.Hash.{hash}
 use Rattle.labels.specs.Buckets.{size, bucket, lookup, behind, Follows, Indexed}
@@ -75,7 +75,7 @@ bucket_is hs s c h r e g q room =
 -- The last of equal labels
 
 abbrev named : List ℕ → Line → Bool
-named s l = is_label l && (label l == s)
+named s l = is_label l && (label l ≟ s)
 
 label_at : (L : List Line) (i : ℕ) (s : List ℕ) → i < length L
     → label_line (take (i + 1) L) s ≡ cond (named s (line L i)) (some i) (label_line (take i L) s)
@@ -93,14 +93,14 @@ label_at L i s h = go (named s (line L i)) refl
 
 module _ (L : List Line) (s : List ℕ) where
   module _ (ns : List ℕ) (p n : ℕ) (r : Option ℕ) (inv : r ≡ lookup L ns p p s) (low : (j : ℕ) → j < n → get_or ns j 0 ≤ j) (le : p ≤ n) (z : p ≡ 0 → ⊥)
-      (b : Bool) (t : List ℕ) (eb : b ≡ (t == s)) (et : t ≡ (token (line L (p - 1)) 0).text) where
+      (b : Bool) (t : List ℕ) (eb : b ≡ (t ≟ s)) (et : t ≡ (token (line L (p - 1)) 0).text) where
     lookup_step : r ≡ cond b (some (p - 1)) (lookup L ns (get_or ns (p - 1) 0) (get_or ns (p - 1) 0) s)
     unfolding lookup linked find
     lookup_step =
         let e : p ≡ suc (p - 1) = omega arith in
         let q = low (p - 1) (omega arith) in
         inv ∙ ap (λ (x : ℕ). lookup L ns x x s) e
-        ∙ rw (eb, et) (ap (λ (hs : List ℕ). cond (label (line L (p - 1)) == s) (some (p - 1)) (find (λ h. label (line L h) == s) hs))
+        ∙ rw (eb, et) (ap (λ (hs : List ℕ). cond (label (line L (p - 1)) ≟ s) (some (p - 1)) (find (λ h. label (line L h) ≟ s) hs))
         (linked_fuel ns (p - 1) (get_or ns (p - 1) 0) (get_or ns (p - 1) 0) q (omega arith) (λ j g. low j (omega arith))))
 
     pub lookup_found : b ≡ true → some (p - 1) ≡ r
@@ -120,7 +120,7 @@ module _ (L : List Line) (ns s : List ℕ) (p : ℕ) where
   unfolding behind
   behind_none e = rw e
 
-  module _ (z : p ≡ 0 → ⊥) (b : Bool) (t : List ℕ) (eb : b ≡ (t == s)) (et : t ≡ (token (line L (p - 1)) 0).text) where
+  module _ (z : p ≡ 0 → ⊥) (b : Bool) (t : List ℕ) (eb : b ≡ (t ≟ s)) (et : t ≡ (token (line L (p - 1)) 0).text) where
     behind_step : behind L ns s p ≡ cond b (get_or ns (p - 1) 0) p
     unfolding behind
     behind_step = let e : p ≡ suc (p - 1) = omega arith in ap (behind L ns s) e ∙ rw (eb, et, ← e)
@@ -157,7 +157,7 @@ module _ (L : List Line) (hs ns : List ℕ) where
       let b : p ≤ n = rw q (I.below (bucket hs s) (bucket_low hs s)) in (
         b,
         ap (λ (M : List Line). label_line M s) (sym (take_all n L (omega arith))) ∙ sym (I.found s)
-            ∙ rw (← q) (ap (find (λ h. label (line L h) == s)) (linked_fuel ns n p p b (omega arith) (λ j g. I.back j (omega arith)))),
+            ∙ rw (← q) (ap (find (λ h. label (line L h) ≟ s)) (linked_fuel ns n p p b (omega arith) (λ j g. I.back j (omega arith)))),
       )
 
   module _ (i : ℕ) (I : Indexed L hs ns i) (h : i < length L) (g : i < length ns) where
@@ -170,7 +170,7 @@ module _ (L : List Line) (hs ns : List ℕ) where
     unfolding lookup
     kept v s =
         let b = I.below (bucket hs s) (bucket_low hs s) in
-        ap (find (λ h. label (line L h) == s)) (walk v (i + 1) (get_or hs (bucket hs s) 0) b (omega arith)) ∙ I.found s
+        ap (find (λ h. label (line L h) ≟ s)) (walk v (i + 1) (get_or hs (bucket hs s) 0) b (omega arith)) ∙ I.found s
 
     pub indexed_other : (t : Bool) → t ≡ is_label (line L i) → t ≡ false → Indexed L hs (set ns i 0) (i + 1)
     indexed_other t u v = record {
@@ -183,24 +183,24 @@ module _ (L : List Line) (hs ns : List ℕ) where
     behind_low : (x : List ℕ) (p : ℕ) → p ≤ i → behind L ns x p ≤ p
     unfolding behind
     behind_low x zero b = omega arith
-    behind_low x (suc j) b = go (label (line L j) == x)
+    behind_low x (suc j) b = go (label (line L j) ≟ x)
       where
         go : (t : Bool) → cond t (get_or ns j 0) (suc j) ≤ suc j
         go true = omega (arith, I.back j (omega arith))
         go false = omega arith
 
-    behind_same : (x s : List ℕ) (p : ℕ) → p ≤ i → (x == s) ≡ false → lookup L ns i (behind L ns x p) s ≡ lookup L ns i p s
+    behind_same : (x s : List ℕ) (p : ℕ) → p ≤ i → (x ≟ s) ≡ false → lookup L ns i (behind L ns x p) s ≡ lookup L ns i p s
     unfolding behind lookup linked find
     behind_same x s zero b e = refl
-    behind_same x s (suc j) b e = go (label (line L j) == x) refl
+    behind_same x s (suc j) b e = go (label (line L j) ≟ x) refl
       where
-        go : (t : Bool) → (label (line L j) == x) ≡ t → lookup L ns i (cond t (get_or ns j 0) (suc j)) s ≡ lookup L ns i (suc j) s
+        go : (t : Bool) → (label (line L j) ≟ x) ≡ t → lookup L ns i (cond t (get_or ns j 0) (suc j)) s ≡ lookup L ns i (suc j) s
         go true z =
             let w = I.back j (omega arith) in
             let k : i ≡ suc (i - 1) = omega arith in
-            let o : (label (line L j) == s) ≡ false = rw (==-eq (label (line L j)) x z) e in
+            let o : (label (line L j) ≟ s) ≡ false = rw (≟_eq (label (line L j)) x z) e in
             sym (ap (λ (v : ℕ). lookup L ns v (suc j) s) k
-            ∙ rw o (ap (find (λ h. label (line L h) == s)) (linked_fuel ns (i - 1) i (get_or ns j 0) (omega arith) (omega arith) (λ a q. I.back a (omega arith)))))
+            ∙ rw o (ap (find (λ h. label (line L h) ≟ s)) (linked_fuel ns (i - 1) i (get_or ns j 0) (omega arith) (omega arith) (λ a q. I.back a (omega arith)))))
         go false z = refl
 
     pub indexed_label : is_label (line L i) ≡ true → (b : ℕ) (x : List ℕ) → b ≡ bucket hs x → x ≡ label (line L i) → 256 ≤ length hs → (p : ℕ) → Follows L ns x (get_or hs b 0) p
@@ -222,13 +222,13 @@ module _ (L : List Line) (hs ns : List ℕ) where
         small = let w = I.below b low in ⊎_elim (λ e. omega arith) (λ e. omega (arith, behind_low x (get_or hs b 0) w)) r
 
         -- the labels behind the new one
-        rest : (s : List ℕ) → bucket hs s ≡ b → (x == s) ≡ false → lookup L (set ns i p) i p s ≡ label_line (take i L) s
+        rest : (s : List ℕ) → bucket hs s ≡ b → (x ≟ s) ≡ false → lookup L (set ns i p) i p s ≡ label_line (take i L) s
         rest s z e =
-            ap (find (λ h. label (line L h) == s)) (walk p i p small small)
+            ap (find (λ h. label (line L h) ≟ s)) (walk p i p small small)
             ∙ ⊎_elim (λ k. ap (λ (v : ℕ). lookup L ns i v s) k) (λ k. ap (λ (v : ℕ). lookup L ns i v s) k ∙ behind_same x s (get_or hs b 0) (I.below b low) e) r
             ∙ ap (λ (v : ℕ). lookup L ns i (get_or hs v 0) s) (sym z) ∙ I.found s
 
-        front : (s : List ℕ) → bucket hs s ≡ b → (t : Bool) → (x == s) ≡ t → cond t (some i) (lookup L (set ns i p) i p s) ≡ cond t (some i) (label_line (take i L) s)
+        front : (s : List ℕ) → bucket hs s ≡ b → (t : Bool) → (x ≟ s) ≡ t → cond t (some i) (lookup L (set ns i p) i p s) ≡ cond t (some i) (label_line (take i L) s)
         front s z true e = refl
         front s z false e = rest s z e
 
@@ -237,10 +237,10 @@ module _ (L : List Line) (hs ns : List ℕ) where
         go s (yes z) =
             let last : label_line (take (suc i) L) s ≡ cond (named s (line L i)) (some i) (label_line (take i L) s) = rw (add-one i) at (label_at L i s h) in
             rw (z, get_or-set_same hs b (i + 1) 0 inside, add-one i, get_or-set_same ns i p 0 g)
-            (rw y at (front s z (x == s) refl)
+            (rw y at (front s z (x ≟ s) refl)
             ∙ sym (last ∙ rw u))
         go s (no z) =
             rw (get_or-set_other hs b (bucket hs s) (i + 1) 0 z)
-            (kept p s ∙ sym (label_at L i s h ∙ rw (u, ne-== (label (line L i)) s (λ e. z (sym (q ∙ ap (bucket hs) (y ∙ e)))))))
+            (kept p s ∙ sym (label_at L i s h ∙ rw (u, ne_≟ (label (line L i)) s (λ e. z (sym (q ∙ ap (bucket hs) (y ∙ e)))))))
 
 pub ruleset buckets = (size_few, size_many, bucket_few, bucket_many, behind_none, behind_equal, behind_other, lookup_found, lookup_next, lookup_end)

@@ -8,9 +8,9 @@
 --   Indexed L hs ns i       the labels of the first i lines are in their buckets
 --   line_of r               the line that the code answers
 -- Assumes nothing.
-use Rattle.std.specs.Prelude.{ℕ, zero, suc, ◌%◌, ◌<◌, ◌≤◌, ◌≡◌, ◌⊎◌, List, ltb, length, get_or, take}
+use Rattle.std.specs.Prelude.{if◌then◌else◌, ℕ, zero, suc, ◌%◌, ◌<◌, ◌≤◌, ◌≡◌, ◌⊎◌, List, ltb, length, get_or, take}
 use Rattle.std.proofs.Math.Option.{Option, none, some}
-use Rattle.definitions.specs.Lists.{if◌then◌else◌, find, ◌==◌}
+use Rattle.definitions.specs.Lists.{find, ◌≟◌}
 use Rattle.definitions.specs.Model.{Line, line}
 use Rattle.definitions.specs.Statements.{label}
 use Rattle.definitions.specs.FlowGraph.{label_line}
@@ -26,11 +26,11 @@ unfoldable pub bucket : List ℕ → List ℕ → ℕ
 bucket hs s = hash (get_or hs (size (length hs)) 0) s % size (length hs)
 
 unfoldable pub lookup : List Line → List ℕ → ℕ → ℕ → List ℕ → Option ℕ
-lookup L ns k p s = find (λ h. label (line L h) == s) (linked ns k p)
+lookup L ns k p s = find (λ h. label (line L h) ≟ s) (linked ns k p)
 
 unfoldable pub behind : List Line → List ℕ → List ℕ → ℕ → ℕ
 behind L ns s zero = zero
-behind L ns s (suc h) = if label (line L h) == s then get_or ns h 0 else suc h
+behind L ns s (suc h) = if label (line L h) ≟ s then get_or ns h 0 else suc h
 
 abbrev pub Follows : List Line → List ℕ → List ℕ → ℕ → ℕ → Type 0
 Follows L ns s p r = (r ≡ p) ⊎ (r ≡ behind L ns s p)

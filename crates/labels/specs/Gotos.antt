@@ -3,9 +3,9 @@
 --   targets_at us k e    the first symbols behind the goto at place k and behind those after it, none from place e on
 --   goto_line L us k e   the line of the label that the first symbol from place k on names
 -- Assumes nothing.
-use Rattle.std.specs.Prelude.{ℕ, ◌+◌, List, [], ◌∷◌, ltb, get_or}
+use Rattle.std.specs.Prelude.{if◌then◌else◌, ℕ, ◌+◌, List, [], ◌∷◌, ltb, get_or}
 use Rattle.std.proofs.Math.Option.{Option, none, some}
-use Rattle.definitions.specs.Lists.{if◌then◌else◌, ◌>>=◌, part}
+use Rattle.definitions.specs.Lists.{◌>>=◌, part}
 use Rattle.definitions.specs.Model.{Token, Line, no_token}
 use Rattle.definitions.specs.Statements.{first_symbol, targets}
 use Rattle.definitions.specs.FlowGraph.{label_line}

@@ -18,15 +18,15 @@ use lib.Dec.{eqb, leb, ltb}
 use native.Mathlib.Omega.{arith}
 use borrow.Author.Tests.{eq-eqb, ne_eqb, eqb-true, lt-ltb, leb-true, ltb-true}
 use lib.ListN.{length, get_or, take}
-use Rattle.definitions.specs.Lists.{◌==◌, all, range, up_to, position, concat}
+use Rattle.definitions.specs.Lists.{◌≟◌, all, range, up_to, position, concat}
 use Rattle.definitions.specs.Family.{legacy}
-use Rattle.text.proofs.Texts.{==-eq, ==-length}
+use Rattle.text.proofs.Texts.{≟_eq, ≟_length}
 use Rattle.legacy.specs.Table.{letters, all_names, name_at, hash, found, row_name}
 
 -- A text, byte by byte
 
-two_is : (s : List ℕ) (a b : ℕ) → length s ≡ 2 → (s == a ∷ b ∷ []) ≡ (eqb (get_or s 0 0) a && eqb (get_or s 1 0) b)
-unfolding ◌==◌
+two_is : (s : List ℕ) (a b : ℕ) → length s ≡ 2 → (s ≟ a ∷ b ∷ []) ≡ (eqb (get_or s 0 0) a && eqb (get_or s 1 0) b)
+unfolding ◌≟◌
 two_is [] a b h = absurd (omega arith)
 two_is (x ∷ []) a b h = absurd (omega arith)
 two_is (x ∷ y ∷ []) a b h = go (eqb x a) (eqb y b)
@@ -37,28 +37,28 @@ two_is (x ∷ y ∷ []) a b h = go (eqb x a) (eqb y b)
     go false q = refl
 two_is (x ∷ y ∷ z ∷ s) a b h = absurd (omega arith)
 
-three_is : (s : List ℕ) (a b c : ℕ) → length s ≡ 3 → (s == a ∷ b ∷ c ∷ []) ≡ (eqb (get_or s 0 0) a && (eqb (get_or s 1 0) b && eqb (get_or s 2 0) c))
-unfolding ◌==◌
+three_is : (s : List ℕ) (a b c : ℕ) → length s ≡ 3 → (s ≟ a ∷ b ∷ c ∷ []) ≡ (eqb (get_or s 0 0) a && (eqb (get_or s 1 0) b && eqb (get_or s 2 0) c))
+unfolding ◌≟◌
 three_is [] a b c h = absurd (omega arith)
 three_is (x ∷ s) a b c h = ap (eqb x a &&◌) (two_is s b c (omega arith))
 
 module _ (s : List ℕ) (r : Bool) (a b : ℕ) where
-  pub two_bytes : length s ≡ 2 → r ≡ (eqb (get_or s 0 0) a && eqb (get_or s 1 0) b) → r ≡ (s == a ∷ b ∷ [])
+  pub two_bytes : length s ≡ 2 → r ≡ (eqb (get_or s 0 0) a && eqb (get_or s 1 0) b) → r ≡ (s ≟ a ∷ b ∷ [])
   two_bytes h e = e ∙ sym (two_is s a b h)
 
-  pub three_bytes : (c : ℕ) → length s ≡ 3 → r ≡ (eqb (get_or s 0 0) a && (eqb (get_or s 1 0) b && eqb (get_or s 2 0) c)) → r ≡ (s == a ∷ b ∷ c ∷ [])
+  pub three_bytes : (c : ℕ) → length s ≡ 3 → r ≡ (eqb (get_or s 0 0) a && (eqb (get_or s 1 0) b && eqb (get_or s 2 0) c)) → r ≡ (s ≟ a ∷ b ∷ c ∷ [])
   three_bytes c h e = e ∙ sym (three_is s a b c h)
 
 pub byte_not : (a b : ℕ) (y : Bool) → (a ≡ b → ⊥) → false ≡ (eqb a b && y)
 byte_not a b y h = rw (ne_eqb a b h)
 
-pub length_not : (s t : List ℕ) → (length s ≡ length t → ⊥) → false ≡ (s == t)
-length_not s t h = sym (==-length s t h)
+pub length_not : (s t : List ℕ) → (length s ≡ length t → ⊥) → false ≡ (s ≟ t)
+length_not s t h = sym (≟_length s t h)
 
 -- The name in a cell
 
 module _ (s cell : List ℕ) (r : Bool) (h : length cell ≡ 3) where
-  pub letters_two : get_or cell 2 0 ≡ 0 → r ≡ (s == get_or cell 0 0 ∷ get_or cell 1 0 ∷ []) → r ≡ (s == letters cell)
+  pub letters_two : get_or cell 2 0 ≡ 0 → r ≡ (s ≟ get_or cell 0 0 ∷ get_or cell 1 0 ∷ []) → r ≡ (s ≟ letters cell)
   letters_two g e = rw (eq-eqb (get_or cell 2 0) 0 g) (e ∙ ap (s ==◌) (two cell h))
     where
       two : (c : List ℕ) → length c ≡ 3 → get_or c 0 0 ∷ get_or c 1 0 ∷ [] ≡ take 2 c
@@ -66,7 +66,7 @@ module _ (s cell : List ℕ) (r : Bool) (h : length cell ≡ 3) where
       two (x ∷ []) h = absurd (omega arith)
       two (x ∷ y ∷ c) h = refl
 
-  pub letters_three : (get_or cell 2 0 ≡ 0 → ⊥) → r ≡ (s == get_or cell 0 0 ∷ get_or cell 1 0 ∷ get_or cell 2 0 ∷ []) → r ≡ (s == letters cell)
+  pub letters_three : (get_or cell 2 0 ≡ 0 → ⊥) → r ≡ (s ≟ get_or cell 0 0 ∷ get_or cell 1 0 ∷ get_or cell 2 0 ∷ []) → r ≡ (s ≟ letters cell)
   letters_three g e = rw (ne_eqb (get_or cell 2 0) 0 g) (e ∙ ap (s ==◌) (three cell h))
     where
       three : (c : List ℕ) → length c ≡ 3 → get_or c 0 0 ∷ get_or c 1 0 ∷ get_or c 2 0 ∷ [] ≡ c
@@ -99,16 +99,16 @@ below p n i t h = rw zero-add at (range_at p 0 n i t h)
 -- The cells
 
 abbrev cell_right : List (List ℕ) → List ℕ → ℕ → Bool
-cell_right t d p = letters (get_or t p d) == name_at p
+cell_right t d p = letters (get_or t p d) ≟ name_at p
 
 pub cell_is : (t : List (List ℕ)) (d : List ℕ) (p : ℕ) (s : List ℕ) (r : Bool)
-    → all (cell_right t d) (up_to 36) ≡ true → p < 36 → r ≡ (s == letters (get_or t p d)) → r ≡ (s == name_at p)
-cell_is t d p s r right h q = q ∙ ap (s ==◌) (==-eq (letters (get_or t p d)) (name_at p) (below (cell_right t d) 36 p right h))
+    → all (cell_right t d) (up_to 36) ≡ true → p < 36 → r ≡ (s ≟ letters (get_or t p d)) → r ≡ (s ≟ name_at p)
+cell_is t d p s r right h q = q ∙ ap (s ==◌) (≟_eq (letters (get_or t p d)) (name_at p) (below (cell_right t d) 36 p right h))
 
 pub first_row : (t : List (List ℕ)) (d : List ℕ) (i : ℕ) (s : List ℕ) (r : Bool)
-    → all (λ i. letters (get_or t (4 * i) d) == row_name i) (up_to 8) ≡ true → i < 8 → r ≡ (s == letters (get_or t (4 * i) d)) → r ≡ (s == row_name i)
+    → all (λ i. letters (get_or t (4 * i) d) ≟ row_name i) (up_to 8) ≡ true → i < 8 → r ≡ (s ≟ letters (get_or t (4 * i) d)) → r ≡ (s ≟ row_name i)
 first_row t d i s r right h q =
-    q ∙ ap (s ==◌) (==-eq (letters (get_or t (4 * i) d)) (row_name i) (below (λ i. letters (get_or t (4 * i) d) == row_name i) 8 i right h))
+    q ∙ ap (s ==◌) (≟_eq (letters (get_or t (4 * i) d)) (row_name i) (below (λ i. letters (get_or t (4 * i) d) ≟ row_name i) 8 i right h))
 
 -- The hashes
 
@@ -153,16 +153,16 @@ some_of none k e = let z : ◌≡◌ {A = ℕ} 0 1 = cc in absurd (omega arith)
 some_of (some j) k e = ap some (sym (eqb-true j k e))
 
 own_place : (p : ℕ) → p < 36 → some p ≡ position (name_at p ==◌) all_names
-unfolding all range ◌==◌ concat legacy all_names position is_some_of
+unfolding all range ◌≟◌ concat legacy all_names position is_some_of
 own_place p h = some_of (position (name_at p ==◌) all_names) p (below (λ p. is_some_of (position (name_at p ==◌) all_names) p) 36 p refl h)
 
 pub name_count : length all_names ≡ 36
 unfolding concat legacy all_names
 name_count = refl
 
-module _ (s : List ℕ) (p : ℕ) (b : Bool) (e : b ≡ (s == name_at p)) where
+module _ (s : List ℕ) (p : ℕ) (b : Bool) (e : b ≡ (s ≟ name_at p)) where
   pub place_found : p < 36 → b ≡ true → found 36 p ≡ position (s ==◌) all_names
-  place_found h f = rw (lt-ltb p 36 h, ==-eq s (name_at p) (sym e ∙ f)) (own_place p h)
+  place_found h f = rw (lt-ltb p 36 h, ≟_eq s (name_at p) (sym e ∙ f)) (own_place p h)
 
   pub place_none : (h : ℕ) → h ≡ hash s → ((q : ℕ) → q < 36 → hash (name_at q) ≡ h → p ≡ q) → b ≡ false → found 36 36 ≡ position (s ==◌) all_names
   place_none h g only f = go (position (s ==◌) all_names) refl
@@ -171,9 +171,9 @@ module _ (s : List ℕ) (p : ℕ) (b : Bool) (e : b ≡ (s == name_at p)) where
       go none q = refl
       go (some k) q =
           let y = position_at (s ==◌) [] all_names k q in
-          let same : s ≡ name_at k = ==-eq s (name_at k) y.1 in
+          let same : s ≡ name_at k = ≟_eq s (name_at k) y.1 in
           let z : p ≡ k = only k (omega (arith, name_count)) (sym (g ∙ ap hash same)) in
-          let w : (s == name_at p) ≡ true = rw z y.1 in
+          let w : (s ≟ name_at p) ≡ true = rw z y.1 in
           let x : ◌≡◌ {A = ℕ} 0 1 = cc in
           absurd (omega arith)
 

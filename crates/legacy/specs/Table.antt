@@ -6,9 +6,9 @@
 --   found n k            k, where it is below n
 --   row_name i           the name of the family in row i of the table
 -- Assumes nothing.
-use Rattle.std.specs.Prelude.{ℕ, ◌+◌, ◌*◌, ◌/◌, ◌%◌, List, [], ◌∷◌, ◌++◌, eqb, ltb, take, get_or}
+use Rattle.std.specs.Prelude.{if◌then◌else◌, ℕ, ◌+◌, ◌*◌, ◌/◌, ◌%◌, List, [], ◌∷◌, ◌++◌, eqb, ltb, take, get_or}
 use Rattle.std.proofs.Math.Option.{Option, none, some}
-use Rattle.definitions.specs.Lists.{if◌then◌else◌, concat, ascii}
+use Rattle.definitions.specs.Lists.{concat, ascii}
 use Rattle.definitions.specs.Family.{legacy}
 
 abbrev pub letters : List ℕ → List ℕ

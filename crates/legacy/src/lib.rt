@@ -6,7 +6,7 @@
 #![tactic(auto)]
 
 ghost use Rattle.std.specs.Prelude.{◌≡◌, [], ◌∷◌, ℕ, ◌<◌, get_or};
-ghost use Rattle.definitions.specs.Lists.{◌==◌, position};
+ghost use Rattle.definitions.specs.Lists.{◌≟◌, position};
 ghost use Rattle.legacy.specs.Table.{letters, all_names, name_at, hash, found, row_name};
 
 use text::byte;
@@ -22,7 +22,7 @@ const NAMES: [[u8; 3]; 36] = [
 
 // The text is these two bytes.
 fn is_two(s: &[u8], a: u8, b: u8) -> bool
-    ensures { result ≡ (s.now == a ∷ b ∷ []) }
+    ensures { result ≡ (s.now ≟ a ∷ b ∷ []) }
 {
     if s.len() != 2 {
         return false;
@@ -35,7 +35,7 @@ fn is_two(s: &[u8], a: u8, b: u8) -> bool
 
 // The text is these three bytes.
 fn is_three(s: &[u8], a: u8, b: u8, c: u8) -> bool
-    ensures { result ≡ (s.now == a ∷ b ∷ c ∷ []) }
+    ensures { result ≡ (s.now ≟ a ∷ b ∷ c ∷ []) }
 {
     if s.len() != 3 {
         return false;
@@ -51,7 +51,7 @@ fn is_three(s: &[u8], a: u8, b: u8, c: u8) -> bool
 
 // The text is the name in a cell of the table.
 fn is_name(cell: [u8; 3], s: &[u8]) -> bool
-    ensures { result ≡ (s.now == letters cell) }
+    ensures { result ≡ (s.now ≟ letters cell) }
 {
     if cell[2] == 0 {
         is_two(s, cell[0], cell[1])
@@ -63,7 +63,7 @@ fn is_name(cell: [u8; 3], s: &[u8]) -> bool
 // The text is the name at place p of the table.
 fn is_at(p: usize, s: &[u8]) -> bool
     requires { p < 36 }
-    ensures { result ≡ (s.now == name_at p) }
+    ensures { result ≡ (s.now ≟ name_at p) }
 {
     let table = NAMES;
     is_name(table[p], s)
@@ -72,7 +72,7 @@ fn is_at(p: usize, s: &[u8]) -> bool
 // The name is that of the family in row i.
 pub fn is_row(i: usize, name: &[u8]) -> bool
     requires { i < 8 }
-    ensures { result ≡ (name.now == row_name i) }
+    ensures { result ≡ (name.now ≟ row_name i) }
 {
     let table = NAMES;
     is_name(table[4 * i], name)

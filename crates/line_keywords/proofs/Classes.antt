@@ -9,12 +9,12 @@ use mathlib.Core.List.{List, [], ◌∷◌}
 use native.Mathlib.Omega.{arith}
 use borrow.Author.Tests.{ne_eqb}
 use lib.ListN.{length, get_or}
-use Rattle.definitions.specs.Lists.{◌==◌, ascii}
+use Rattle.definitions.specs.Lists.{◌≟◌, ascii}
 use Rattle.line_keywords.specs.Masks.{class}
 
 module _ (s : List ℕ) where
   pub class_empty : length s ≡ 0 → 0 ≡ class s
-  unfolding class ◌==◌
+  unfolding class ◌≟◌
   class_empty = go s
     where
       go : (s : List ℕ) → length s ≡ 0 → 0 ≡ class s
@@ -30,41 +30,41 @@ module _ (s : List ℕ) where
       go (x ∷ xs) e = rw e (p xs)
 
   module _ (r : ℕ) where
-    pub class_g : get_or s 0 0 ≡ 103 → r ≡ cond (s == ascii "goto") 2 0 → r ≡ class s
-    unfolding class ◌==◌
-    class_g e h = h ∙ first 103 (λ s. cond (s == ascii "goto") 2 0 ≡ class s) (λ z. omega arith) (λ xs. refl) e
+    pub class_g : get_or s 0 0 ≡ 103 → r ≡ cond (s ≟ ascii "goto") 2 0 → r ≡ class s
+    unfolding class ◌≟◌
+    class_g e h = h ∙ first 103 (λ s. cond (s ≟ ascii "goto") 2 0 ≡ class s) (λ z. omega arith) (λ xs. refl) e
 
-    pub class_e : get_or s 0 0 ≡ 101 → r ≡ cond (s == ascii "else") 4 0 → r ≡ class s
-    unfolding class ◌==◌
-    class_e e h = h ∙ first 101 (λ s. cond (s == ascii "else") 4 0 ≡ class s) (λ z. omega arith) (λ xs. refl) e
+    pub class_e : get_or s 0 0 ≡ 101 → r ≡ cond (s ≟ ascii "else") 4 0 → r ≡ class s
+    unfolding class ◌≟◌
+    class_e e h = h ∙ first 101 (λ s. cond (s ≟ ascii "else") 4 0 ≡ class s) (λ z. omega arith) (λ xs. refl) e
 
-    pub class_w : get_or s 0 0 ≡ 119 → r ≡ cond (s == ascii "while") 8 0 → r ≡ class s
-    unfolding class ◌==◌
-    class_w e h = h ∙ first 119 (λ s. cond (s == ascii "while") 8 0 ≡ class s) (λ z. omega arith) (λ xs. refl) e
+    pub class_w : get_or s 0 0 ≡ 119 → r ≡ cond (s ≟ ascii "while") 8 0 → r ≡ class s
+    unfolding class ◌≟◌
+    class_w e h = h ∙ first 119 (λ s. cond (s ≟ ascii "while") 8 0 ≡ class s) (λ z. omega arith) (λ xs. refl) e
 
-    pub class_f : get_or s 0 0 ≡ 102 → r ≡ cond (s == ascii "for") 8 0 → r ≡ class s
-    unfolding class ◌==◌
-    class_f e h = h ∙ first 102 (λ s. cond (s == ascii "for") 8 0 ≡ class s) (λ z. omega arith) (λ xs. refl) e
+    pub class_f : get_or s 0 0 ≡ 102 → r ≡ cond (s ≟ ascii "for") 8 0 → r ≡ class s
+    unfolding class ◌≟◌
+    class_f e h = h ∙ first 102 (λ s. cond (s ≟ ascii "for") 8 0 ≡ class s) (λ z. omega arith) (λ xs. refl) e
 
-    pub class_d : get_or s 0 0 ≡ 100 → r ≡ cond (s == ascii "do") 9 (cond (s == ascii "default") 64 0) → r ≡ class s
-    unfolding class ◌==◌
-    class_d e h = h ∙ first 100 (λ s. cond (s == ascii "do") 9 (cond (s == ascii "default") 64 0) ≡ class s) (λ z. omega arith) (λ xs. refl) e
+    pub class_d : get_or s 0 0 ≡ 100 → r ≡ cond (s ≟ ascii "do") 9 (cond (s ≟ ascii "default") 64 0) → r ≡ class s
+    unfolding class ◌≟◌
+    class_d e h = h ∙ first 100 (λ s. cond (s ≟ ascii "do") 9 (cond (s ≟ ascii "default") 64 0) ≡ class s) (λ z. omega arith) (λ xs. refl) e
 
-    pub class_s : get_or s 0 0 ≡ 115 → r ≡ cond (s == ascii "switch") 16 0 → r ≡ class s
-    unfolding class ◌==◌
-    class_s e h = h ∙ first 115 (λ s. cond (s == ascii "switch") 16 0 ≡ class s) (λ z. omega arith) (λ xs. refl) e
+    pub class_s : get_or s 0 0 ≡ 115 → r ≡ cond (s ≟ ascii "switch") 16 0 → r ≡ class s
+    unfolding class ◌≟◌
+    class_s e h = h ∙ first 115 (λ s. cond (s ≟ ascii "switch") 16 0 ≡ class s) (λ z. omega arith) (λ xs. refl) e
 
-    pub class_b : get_or s 0 0 ≡ 98 → r ≡ cond (s == ascii "break") 32 0 → r ≡ class s
-    unfolding class ◌==◌
-    class_b e h = h ∙ first 98 (λ s. cond (s == ascii "break") 32 0 ≡ class s) (λ z. omega arith) (λ xs. refl) e
+    pub class_b : get_or s 0 0 ≡ 98 → r ≡ cond (s ≟ ascii "break") 32 0 → r ≡ class s
+    unfolding class ◌≟◌
+    class_b e h = h ∙ first 98 (λ s. cond (s ≟ ascii "break") 32 0 ≡ class s) (λ z. omega arith) (λ xs. refl) e
 
-    pub class_c : get_or s 0 0 ≡ 99 → r ≡ cond (s == ascii "continue") 160 (cond (s == ascii "case") 64 0) → r ≡ class s
-    unfolding class ◌==◌
-    class_c e h = h ∙ first 99 (λ s. cond (s == ascii "continue") 160 (cond (s == ascii "case") 64 0) ≡ class s) (λ z. omega arith) (λ xs. refl) e
+    pub class_c : get_or s 0 0 ≡ 99 → r ≡ cond (s ≟ ascii "continue") 160 (cond (s ≟ ascii "case") 64 0) → r ≡ class s
+    unfolding class ◌≟◌
+    class_c e h = h ∙ first 99 (λ s. cond (s ≟ ascii "continue") 160 (cond (s ≟ ascii "case") 64 0) ≡ class s) (λ z. omega arith) (λ xs. refl) e
 
   pub class_other : (get_or s 0 0 ≡ 103 → ⊥) → (get_or s 0 0 ≡ 101 → ⊥) → (get_or s 0 0 ≡ 119 → ⊥) → (get_or s 0 0 ≡ 102 → ⊥) → (get_or s 0 0 ≡ 100 → ⊥)
       → (get_or s 0 0 ≡ 115 → ⊥) → (get_or s 0 0 ≡ 98 → ⊥) → (get_or s 0 0 ≡ 99 → ⊥) → 0 ≡ class s
-  unfolding class ◌==◌
+  unfolding class ◌≟◌
   class_other = go s
     where
       go : (s : List ℕ) → (get_or s 0 0 ≡ 103 → ⊥) → (get_or s 0 0 ≡ 101 → ⊥) → (get_or s 0 0 ≡ 119 → ⊥) → (get_or s 0 0 ≡ 102 → ⊥) → (get_or s 0 0 ≡ 100 → ⊥)

@@ -9,13 +9,13 @@ use native.Mathlib.Nat.{div-one}
 use lib.Bits.{bit_or}
 use lib.Dec.{eqb}
 use lib.ListN.{get_or}
-use Rattle.definitions.specs.Lists.{any, fold, ◌==◌, ascii}
+use Rattle.definitions.specs.Lists.{any, fold, ◌≟◌, ascii}
 use Rattle.definitions.specs.Model.{Token, Line, line, Keyword}
 use Rattle.definitions.specs.Statements.{has_kw}
 use Rattle.definitions.specs.FlowGraph.{is_loop, is_switch}
 use Rattle.bits.specs.Rows.{word_bit}
 use Rattle.bits.proofs.Words.{or_bit}
-use Rattle.text.proofs.Texts.{==-eq}
+use Rattle.text.proofs.Texts.{≟_eq}
 use Rattle.line_keywords.specs.Masks.{class, key, with_key, mask, Masks}
 
 -- Bits
@@ -33,19 +33,19 @@ bits m = word_bit m 1 ∷ (word_bit m 2 ∷ (word_bit m 3 ∷ (word_bit m 4 ∷ 
 
 abbrev tests : List ℕ → List Bool
 tests s =
-    (s == ascii "goto") ∷ ((s == ascii "else") ∷ (((s == ascii "while") || (s == ascii "for") || (s == ascii "do"))
-    ∷ ((s == ascii "switch") ∷ (((s == ascii "break") || (s == ascii "continue")) ∷ (((s == ascii "case") || (s == ascii "default"))
-    ∷ ((s == ascii "do") ∷ ((s == ascii "continue") ∷ [])))))))
+    (s ≟ ascii "goto") ∷ ((s ≟ ascii "else") ∷ (((s ≟ ascii "while") || (s ≟ ascii "for") || (s ≟ ascii "do"))
+    ∷ ((s ≟ ascii "switch") ∷ (((s ≟ ascii "break") || (s ≟ ascii "continue")) ∷ (((s ≟ ascii "case") || (s ≟ ascii "default"))
+    ∷ ((s ≟ ascii "do") ∷ ((s ≟ ascii "continue") ∷ [])))))))
 
-by_test : (s w : List ℕ) (a b : ℕ) → bits a ≡ tests w → ((s == w) ≡ false → bits b ≡ tests s) → bits (cond (s == w) a b) ≡ tests s
-by_test s w a b p q = go (s == w) refl
+by_test : (s w : List ℕ) (a b : ℕ) → bits a ≡ tests w → ((s ≟ w) ≡ false → bits b ≡ tests s) → bits (cond (s ≟ w) a b) ≡ tests s
+by_test s w a b p q = go (s ≟ w) refl
   where
-    go : (t : Bool) → (s == w) ≡ t → bits (cond t a b) ≡ tests s
-    go true e = rw (==-eq s w e) p
+    go : (t : Bool) → (s ≟ w) ≡ t → bits (cond t a b) ≡ tests s
+    go true e = rw (≟_eq s w e) p
     go false e = q e
 
 class_bits : (s : List ℕ) → bits (class s) ≡ tests s
-unfolding class ◌==◌ word_bit
+unfolding class ◌≟◌ word_bit
 class_bits s =
     by_test s (ascii "goto") 2 _ refl (λ g.
     by_test s (ascii "else") 4 _ refl (λ e.
@@ -101,8 +101,8 @@ module _ (L : List Line) (ms : List ℕ) (M : Masks L ms) (m i : ℕ) (e : m ≡
   pub mask_loop : eqb (m / 8 % 2) 1 ≡ is_loop (line L i)
   unfolding word_bit has_kw
   mask_loop =
-      rw (e, M.at i) (mask_bit 3 (λ s. (s == ascii "while") || (s == ascii "for") || (s == ascii "do")) refl (λ s. ap (λ (bs : List Bool). get_or bs 2 false) (class_bits s)) (line L i))
-      ∙ any_or (λ s. (s == ascii "while") || (s == ascii "for")) (◌== ascii "do") (line L i).tokens
+      rw (e, M.at i) (mask_bit 3 (λ s. (s ≟ ascii "while") || (s ≟ ascii "for") || (s ≟ ascii "do")) refl (λ s. ap (λ (bs : List Bool). get_or bs 2 false) (class_bits s)) (line L i))
+      ∙ any_or (λ s. (s ≟ ascii "while") || (s ≟ ascii "for")) (◌== ascii "do") (line L i).tokens
       ∙ ap (◌|| has_kw (line L i) (ascii "do")) (any_or (◌== ascii "while") (◌== ascii "for") (line L i).tokens)
 
   pub mask_do : eqb (m % 2) 1 ≡ has_kw (line L i) (ascii "do")
@@ -118,7 +118,7 @@ module _ (L : List Line) (ms : List ℕ) (M : Masks L ms) (m i : ℕ) (e : m ≡
   pub mask_leaves : eqb (m / 32 % 2) 1 ≡ (has_kw (line L i) (ascii "break") || has_kw (line L i) (ascii "continue"))
   unfolding word_bit has_kw
   mask_leaves =
-      rw (e, M.at i) (mask_bit 5 (λ s. (s == ascii "break") || (s == ascii "continue")) refl (λ s. ap (λ (bs : List Bool). get_or bs 4 false) (class_bits s)) (line L i))
+      rw (e, M.at i) (mask_bit 5 (λ s. (s ≟ ascii "break") || (s ≟ ascii "continue")) refl (λ s. ap (λ (bs : List Bool). get_or bs 4 false) (class_bits s)) (line L i))
       ∙ any_or (◌== ascii "break") (◌== ascii "continue") (line L i).tokens
 
   pub mask_continue : eqb (m / 128 % 2) 1 ≡ has_kw (line L i) (ascii "continue")
@@ -128,7 +128,7 @@ module _ (L : List Line) (ms : List ℕ) (M : Masks L ms) (m i : ℕ) (e : m ≡
   pub mask_case : eqb (m / 64 % 2) 1 ≡ (has_kw (line L i) (ascii "case") || has_kw (line L i) (ascii "default"))
   unfolding word_bit has_kw
   mask_case =
-      rw (e, M.at i) (mask_bit 6 (λ s. (s == ascii "case") || (s == ascii "default")) refl (λ s. ap (λ (bs : List Bool). get_or bs 5 false) (class_bits s)) (line L i))
+      rw (e, M.at i) (mask_bit 6 (λ s. (s ≟ ascii "case") || (s ≟ ascii "default")) refl (λ s. ap (λ (bs : List Bool). get_or bs 5 false) (class_bits s)) (line L i))
       ∙ any_or (◌== ascii "case") (◌== ascii "default") (line L i).tokens
 
 pub ruleset asking = (mask_goto, mask_else, mask_loop, mask_do, mask_switch, mask_leaves, mask_continue, mask_case)

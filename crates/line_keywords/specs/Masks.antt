@@ -5,23 +5,23 @@
 --   mask l         the bits of the tokens of line l
 --   Masks L ms     ms has the mask of each line of L, and 0 behind them
 -- Assumes nothing.
-use Rattle.std.specs.Prelude.{ℕ, ◌≡◌, List, eqb, get_or}
+use Rattle.std.specs.Prelude.{if◌then◌else◌, ℕ, ◌≡◌, List, eqb, get_or}
 use Rattle.std.specs.Int.Bits.{bit_or}
-use Rattle.definitions.specs.Lists.{if◌then◌else◌, fold, ◌==◌, ascii}
+use Rattle.definitions.specs.Lists.{fold, ◌≟◌, ascii}
 use Rattle.definitions.specs.Model.{Token, Line, line, Keyword}
 
 unfoldable pub class : List ℕ → ℕ
 class s =
-    if s == ascii "goto" then 2
-    else if s == ascii "else" then 4
-    else if s == ascii "while" then 8
-    else if s == ascii "for" then 8
-    else if s == ascii "do" then 9
-    else if s == ascii "default" then 64
-    else if s == ascii "switch" then 16
-    else if s == ascii "break" then 32
-    else if s == ascii "continue" then 160
-    else if s == ascii "case" then 64
+    if s ≟ ascii "goto" then 2
+    else if s ≟ ascii "else" then 4
+    else if s ≟ ascii "while" then 8
+    else if s ≟ ascii "for" then 8
+    else if s ≟ ascii "do" then 9
+    else if s ≟ ascii "default" then 64
+    else if s ≟ ascii "switch" then 16
+    else if s ≟ ascii "break" then 32
+    else if s ≟ ascii "continue" then 160
+    else if s ≟ ascii "case" then 64
     else 0
 
 abbrev pub key : Token → ℕ

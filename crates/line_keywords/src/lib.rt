@@ -7,7 +7,7 @@
 #![tactic(auto)]
 
 ghost use Rattle.std.specs.Prelude.{◌≡◌, cond, ◌||◌, ℕ, ◌≤◌, length, get_or};
-ghost use Rattle.definitions.specs.Lists.{◌==◌, ascii};
+ghost use Rattle.definitions.specs.Lists.{◌≟◌, ascii};
 ghost use Rattle.definitions.specs.Model.{line, no_token};
 ghost use Rattle.definitions.specs.Columns.{token_list, listing};
 ghost use Rattle.definitions.specs.Statements.{has_kw};
@@ -20,14 +20,14 @@ use model::columns::{line_end, line_start, token_kind, token_text};
 
 // The bits b for the text w.
 fn named(s: &[u8], w: &[u8], b: u8) -> u8
-    ensures { result ≡ cond (s.now == w.now) b 0 }
+    ensures { result ≡ cond (s.now ≟ w.now) b 0 }
 {
     if text::equal(s, w) { b } else { 0 }
 }
 
 // The bits a for the text v, the bits b for the text w.
 fn either(s: &[u8], v: &[u8], a: u8, w: &[u8], b: u8) -> u8
-    ensures { result ≡ cond (s.now == v.now) a (cond (s.now == w.now) b 0) }
+    ensures { result ≡ cond (s.now ≟ v.now) a (cond (s.now ≟ w.now) b 0) }
 {
     if text::equal(s, v) { a } else { named(s, w, b) }
 }

@@ -11,6 +11,7 @@
 --   leads_yes, leads_no, leads_start, leads_next, leads_fail, leads_end, leads_none   whether there is one for every goto
 --   line_drawn                                       all kinds
 -- Assumes nothing.
+use Rattle.std.specs.Prelude.{if◌then◌else◌}
 use Prim.Native.Nat.{ℕ, zero, suc, ◌+◌, ◌-◌, ◌<◌, ◌≤◌}
 use mathlib.Core.Path.{◌≡◌, refl, sym, ap, ◌∙◌, fun_ext}
 use mathlib.Core.Logic.{inl, inr}
@@ -23,7 +24,7 @@ use native.Mathlib.Omega.{arith}
 use borrow.Author.Tests.{eq-eqb, ne_eqb, lt-ltb, le-ltb, eqb-true}
 use lib.Dec.{eqb}
 use lib.ListN.{length, get_or}
-use Rattle.definitions.specs.Lists.{if◌then◌else◌, ◌>>=◌, is_some, to_list, any, all, filter, concat, part, range, up_to, member, ascii}
+use Rattle.definitions.specs.Lists.{◌>>=◌, is_some, to_list, any, all, filter, concat, part, range, up_to, member, ascii}
 use Rattle.definitions.specs.Columns.{token_list, listing}
 use Rattle.definitions.specs.Model.{Token, Line, line}
 use Rattle.definitions.specs.Statements.{targets, has_kw}

@@ -3,6 +3,7 @@
 --   chain_stop, chain_next     the loop of `chain_end`
 --   falls_past, falls_next, falls_chain    where a line falls to
 -- Assumes nothing.
+use Rattle.std.specs.Prelude.{if◌then◌else◌}
 use Prim.Native.Nat.{ℕ, zero, suc, ◌+◌, ◌-◌, ◌<◌, ◌≤◌}
 use mathlib.Core.Path.{◌≡◌, refl, sym, ap, ◌∙◌}
 use mathlib.Core.Logic.{inl, inr}
@@ -11,7 +12,7 @@ use mathlib.Core.List.{List, [], ◌∷◌}
 use mathlib.Core.Option.{Option, none, some}
 use native.Mathlib.Omega.{arith}
 use lib.ListN.{length, get_or, get_or-eq_default}
-use Rattle.definitions.specs.Lists.{if◌then◌else◌, any}
+use Rattle.definitions.specs.Lists.{any}
 use Rattle.definitions.specs.Model.{Line, line, no_line}
 use Rattle.definitions.specs.Statements.{has_kw}
 use Rattle.definitions.specs.Blocks.{Blocks}

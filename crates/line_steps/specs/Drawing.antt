@@ -10,8 +10,8 @@
 --   line_edges L b i         the edges that line i draws: its own, and those that lead back to it
 --   rest L b i               the edges that lines i, i + 1, .. draw
 -- Assumes nothing.
-use Rattle.std.specs.Prelude.{ℕ, zero, suc, ◌+◌, ◌*◌, ◌<◌, ◌≤◌, ◌≡◌, Bool, ◌&&◌, ◌||◌, List, [], ◌∷◌, ◌++◌, map, eqb, leb, get_or}
-use Rattle.definitions.specs.Lists.{if◌then◌else◌, concat, member}
+use Rattle.std.specs.Prelude.{if◌then◌else◌, ℕ, zero, suc, ◌+◌, ◌*◌, ◌<◌, ◌≤◌, ◌≡◌, Bool, ◌&&◌, ◌||◌, List, [], ◌∷◌, ◌++◌, map, eqb, leb, get_or}
+use Rattle.definitions.specs.Lists.{concat, member}
 use Rattle.definitions.specs.Model.{Line, line}
 use Rattle.definitions.specs.Blocks.{Blocks}
 use Rattle.definitions.specs.FlowGraph.{is_loop, is_switch, falls, past_end, loops_back, cases, jumps, leaves}

@@ -5,8 +5,8 @@
 // last line.
 //
 // A goto that leads to no label answers question 9 with no: `line_steps` answers false, and what the matrices then hold is left open.
-ghost use Rattle.std.specs.Prelude.{◌≡◌, true, cond, [], ◌∷◌, ◌++◌, ◌+◌, ◌-◌, ◌≤◌, ◌<◌, length, get_or};
-ghost use Rattle.definitions.specs.Lists.{if◌then◌else◌, is_some, all, filter, range, to_list};
+ghost use Rattle.std.specs.Prelude.{if◌then◌else◌, ◌≡◌, true, cond, [], ◌∷◌, ◌++◌, ◌+◌, ◌-◌, ◌≤◌, ◌<◌, length, get_or};
+ghost use Rattle.definitions.specs.Lists.{is_some, all, filter, range, to_list};
 ghost use Rattle.definitions.specs.Model.{line};
 ghost use Rattle.definitions.specs.Columns.{token_list, listing};
 ghost use Rattle.definitions.specs.FlowGraph.{is_else_close, is_case, chain_end, falls, past_end, cases, leads, jumps, leaves};

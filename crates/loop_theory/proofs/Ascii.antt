@@ -11,9 +11,9 @@ use native.Mathlib.Omega.{arith}
 use lib.Dec.{leb, ltb}
 use lib.ListN.{length, drop, length-drop}
 use lib.Seq.{drop-drop}
-use Rattle.definitions.specs.Lists.{all, ◌==◌, ends_with, ascii}
+use Rattle.definitions.specs.Lists.{all, ◌≟◌, ends_with, ascii}
 use Rattle.definitions.specs.Condition.{closing}
-use Rattle.loop_theory.proofs.Cases.{none_some, some_same, and_split, ==-true, if_has, IfSome}
+use Rattle.loop_theory.proofs.Cases.{none_some, some_same, and_split, ≟_true, if_has, IfSome}
 use Rattle.loop_theory.proofs.AnyAll.{all_halves}
 
 abbrev pub is_ascii : ℕ → Bool
@@ -25,7 +25,7 @@ ascii_end n s = all is_ascii (drop (length s - n) s)
 
 pub ends_ascii : (w s : List ℕ) → all is_ascii w ≡ true → ends_with w s ≡ true → ascii_end (length w) s ≡ true
 ends_ascii w s h e =
-    rw (==-true (drop (length s - length w) s) w (and_split (leb (length w) (length s)) (drop (length s - length w) s == w) e).1) h
+    rw (≟_true (drop (length s - length w) s) w (and_split (leb (length w) (length s)) (drop (length s - length w) s ≟ w) e).1) h
 
 pub closing_ascii : (s : List ℕ) → IfSome (λ n. ascii_end n s ≡ true) (closing s)
 unfolding closing all

@@ -3,7 +3,7 @@
 --   IfSome Q o                   Q holds of what the option o holds
 --   do_has, required, map_has    so it does if it does at the end of a `do` block, where all that was required is true; and of what is mapped
 --   and_split, or_split          both parts of an `&&` that is true, of an `||` that is false
---   ==-true, some_same           texts that compare equal are equal, and so are what equal options hold
+--   ≟_true, some_same           texts that compare equal are equal, and so are what equal options hold
 --   true-false, none-some        cannot be
 --   true_unless, false_unless    a test is decided by what would follow otherwise
 -- Assumes nothing.
@@ -15,7 +15,7 @@ use mathlib.Core.Option.{Option, none, some, map}
 use native.Mathlib.Omega.{arith}
 use lib.Dec.{eqb}
 use borrow.Author.Tests.{eqb-true}
-use Rattle.definitions.specs.Lists.{◌>>=◌, require, ◌==◌}
+use Rattle.definitions.specs.Lists.{◌>>=◌, require, ◌≟◌}
 
 pub true_false {ℓ} : {A : Type ℓ} {b : Bool} → b ≡ true → b ≡ false → A
 true_false p q = absurd (true≢false (sym p ∙ q))
@@ -42,12 +42,12 @@ pub or_split : (a b : Bool) → (a || b) ≡ false → (a ≡ false) × (b ≡ f
 or_split true b e = true_false refl e
 or_split false b e = (refl, e)
 
-pub ==-true : (s t : List ℕ) → (s == t) ≡ true → s ≡ t
-unfolding ◌==◌
-==-true [] [] e = refl
-==-true [] (b ∷ t) e = true_false e refl
-==-true (a ∷ s) [] e = true_false e refl
-==-true (a ∷ s) (b ∷ t) e = let r = and_split (eqb a b) (s == t) e in ap₂ (λ x xs. x ∷ xs) (eqb-true a b r.0) (==-true s t r.1)
+pub ≟_true : (s t : List ℕ) → (s ≟ t) ≡ true → s ≡ t
+unfolding ◌≟◌
+≟_true [] [] e = refl
+≟_true [] (b ∷ t) e = true_false e refl
+≟_true (a ∷ s) [] e = true_false e refl
+≟_true (a ∷ s) (b ∷ t) e = let r = and_split (eqb a b) (s ≟ t) e in ap₂ (λ x xs. x ∷ xs) (eqb-true a b r.0) (≟_true s t r.1)
 
 module _ {X : Type 0} (P : X → Type 0) where
   pub if_has : (b : Bool) {x y : X} → (b ≡ true → P x) → (b ≡ false → P y) → P (cond b x y)

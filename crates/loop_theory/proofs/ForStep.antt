@@ -12,7 +12,7 @@ use lib.Dec.{eqb, leb, ltb}
 use borrow.Author.Tests.{leb-true}
 use lib.ListN.{length, take, drop, set, length-append}
 use lib.Seq.{length-take-le}
-use Rattle.definitions.specs.Lists.{require, is_some, or_else, any, position_from, first, part, remove, ◌==◌, ascii}
+use Rattle.definitions.specs.Lists.{require, is_some, or_else, any, position_from, first, part, remove, ◌≟◌, ascii}
 use Rattle.definitions.specs.Model.{Token, Line, line, no_line, text}
 use Rattle.definitions.specs.Family.{names, fam_of}
 use Rattle.definitions.specs.Statements.{assignment, call_at, has_kw, is_label}
@@ -73,14 +73,14 @@ for_loop_step L w =
     do_has (Step L) (require (ltb 0 w)) λ _ _.
     do_has (Step L) (condition (line L w) (ascii "while")) λ c read.
     do_has (Step L) (position_from (w + 1) (λ l. leb l.indent ind && not (is_label l)) L) λ end found.
-    do_has (Step L) (require (leb (w + 2) end && eqb (line L end).indent ind && (text (line L end).tokens == ascii "}"))) λ _ closed.
+    do_has (Step L) (require (leb (w + 2) end && eqb (line L end).indent ind && (text (line L end).tokens ≟ ascii "}"))) λ _ closed.
     let step = line L (end - 1) in
     do_has (Step L) (first step.tokens) λ t _.
     do_has (Step L) (fam_of t) λ v _.
     do_has (Step L) (require (eqb step.indent (ind + 1) && is_step (text (drop 1 step.tokens)))) λ _ _.
     do_has (Step L) (require (any (names v.name) c && not (any (λ l. has_kw l (ascii "continue")) (part (w + 1) end L)))) λ _ _.
     do_has (Step L) (initialiser L ind v.name 4 w) λ k initialised M e.
-    let level = (and_split _ (text (line L end).tokens == ascii "}") (required _ closed)).0 in
+    let level = (and_split _ (text (line L end).tokens ≟ ascii "}") (required _ closed)).0 in
     let far = (and_split (leb (w + 2) end) (eqb (line L end).indent ind) level).0 in
     let inside = (position_from_inside (λ l. leb l.indent ind && not (is_label l)) (w + 1) L end found).1 in
     subst (Step L) (some_same e)

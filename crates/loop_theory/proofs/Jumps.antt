@@ -17,11 +17,11 @@ use native.Mathlib.Numerals.{add-one}
 use lib.Dec.{eqb}
 use borrow.Author.Tests.{eqb-true}
 use lib.ListN.{length, drop, get_or, length-append}
-use Rattle.definitions.specs.Lists.{◌>>=◌, any, all, position, find, take_while, ◌==◌, ascii}
+use Rattle.definitions.specs.Lists.{◌>>=◌, any, all, position, find, take_while, ◌≟◌, ascii}
 use Rattle.definitions.specs.Model.{Token, Line, tok, token, no_token, Keyword, Symbol, Punct}
 use Rattle.definitions.specs.Statements.{is_kw, has_kw, is_label, first_symbol, goto_target}
 use Rattle.definitions.specs.RecoverGotoLoops.{goes_to, jump_line, jump}
-use Rattle.loop_theory.proofs.Cases.{true_false, true_unless, false_unless, and_split, or_split, ==-true, if_has}
+use Rattle.loop_theory.proofs.Cases.{true_false, true_unless, false_unless, and_split, or_split, ≟_true, if_has}
 use Rattle.loop_theory.proofs.Places.{position_splits}
 use Rattle.loop_theory.proofs.AnyAll.{none_append}
 use Rattle.loop_theory.proofs.Ascii.{is_ascii}
@@ -42,9 +42,9 @@ no_goto q l e = rw (no_position (is_kw (ascii "goto")) l.tokens e, goes_to, goto
 pub label_tokens : (l : Line) → is_label l ≡ true → (a : Token) × (b : Token) × (l.tokens ≡ a ∷ b ∷ []) × (a.kind ≡ Symbol) × (b.text ≡ ascii ":")
 unfolding is_label
 label_tokens l e =
-    let s = and_split (eqb (length l.tokens) 2 && ((token l 1).text == ascii ":")) (eqb (token l 0).kind Symbol) e in
-    let r = and_split (eqb (length l.tokens) 2) ((token l 1).text == ascii ":") s.0 in
-    go l.tokens (eqb-true (length l.tokens) 2 r.0) (eqb-true (token l 0).kind Symbol s.1) (==-true (token l 1).text (ascii ":") r.1)
+    let s = and_split (eqb (length l.tokens) 2 && ((token l 1).text ≟ ascii ":")) (eqb (token l 0).kind Symbol) e in
+    let r = and_split (eqb (length l.tokens) 2) ((token l 1).text ≟ ascii ":") s.0 in
+    go l.tokens (eqb-true (length l.tokens) 2 r.0) (eqb-true (token l 0).kind Symbol s.1) (≟_true (token l 1).text (ascii ":") r.1)
   where
     go : (ts : List Token) → length ts ≡ 2 → (get_or ts 0 no_token).kind ≡ Symbol → (get_or ts 1 no_token).text ≡ ascii ":"
         → (a : Token) × (b : Token) × (ts ≡ a ∷ b ∷ []) × (a.kind ≡ Symbol) × (b.text ≡ ascii ":")
@@ -54,7 +54,7 @@ label_tokens l e =
     go (a ∷ (b ∷ (c ∷ ts))) e p q = absurd (omega arith)
 
 pub label_has_no_goto : (l : Line) → is_label l ≡ true → has_kw l (ascii "goto") ≡ false
-unfolding has_kw any ◌==◌
+unfolding has_kw any ◌≟◌
 label_has_no_goto l e = let t = label_tokens l e in ap (any (is_kw (ascii "goto"))) t.2 ∙ rw (t.3, t.4, and-false (eqb t.1.kind Keyword))
 
 -- what stands before the first goto of a line has none
@@ -97,7 +97,7 @@ leading q l goes = at_goto (position (is_kw (ascii "goto")) l.tokens) refl goes
       goto = goto;
       target = target;
       rest = rest;
-      is_goto = ==-true goto.text (ascii "goto") (and_split (eqb goto.kind Keyword) (goto.text == ascii "goto") is).1;
+      is_goto = ≟_true goto.text (ascii "goto") (and_split (eqb goto.kind Keyword) (goto.text ≟ ascii "goto") is).1;
       whole = w;
       has = true_unless (has_kw l (ascii "goto")) (λ gone. true_false goes (no_goto q l gone));
     }
@@ -128,11 +128,11 @@ pub record JumpWord (kw : List ℕ) : Type 0 where
   pub plain : all is_ascii kw ≡ true
 
 pub jump_has : (P : Line → Type 0) (name : List ℕ) (exit : Option (List ℕ)) (l : Line)
-    → ((kw : List ℕ) → JumpWord kw → (q : List ℕ → Bool) → goes_to q l ≡ true → P (jump_line kw l)) → (goes_to (λ t. t == name) l ≡ false → P l)
+    → ((kw : List ℕ) → JumpWord kw → (q : List ℕ → Bool) → goes_to q l ≡ true → P (jump_line kw l)) → (goes_to (λ t. t ≟ name) l ≡ false → P l)
     → P (jump name exit l)
-unfolding jump ◌==◌ all
+unfolding jump ◌≟◌ all
 jump_has P name exit l rewritten left =
-    let back : List ℕ → Bool = λ t. t == name in
-    let out : List ℕ → Bool = λ t. elim exit [ none ↦ false | some e ↦ t == e ] in
+    let back : List ℕ → Bool = λ t. t ≟ name in
+    let out : List ℕ → Bool = λ t. elim exit [ none ↦ false | some e ↦ t ≟ e ] in
     if_has P (goes_to back l) (rewritten (ascii "continue") (record { other = refl; short = omega arith; plain = refl }) back) λ elsewhere.
     if_has P (goes_to out l) (rewritten (ascii "break") (record { other = refl; short = omega arith; plain = refl }) out) λ _. left elsewhere

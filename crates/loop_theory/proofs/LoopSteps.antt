@@ -10,7 +10,7 @@ use native.Mathlib.Omega.{arith}
 use lib.Dec.{eqb, leb, ltb}
 use lib.ListN.{length, take, drop, set}
 use lib.Seq.{length-take-le, set_at}
-use Rattle.definitions.specs.Lists.{require, all, position_from, part, remove, on_part, ◌==◌, ascii}
+use Rattle.definitions.specs.Lists.{require, all, position_from, part, remove, on_part, ◌≟◌, ascii}
 use Rattle.definitions.specs.Model.{Token, Line, line, no_line, text}
 use Rattle.definitions.specs.Statements.{has_kw, is_label}
 use Rattle.definitions.specs.Condition.{condition}
@@ -57,7 +57,7 @@ guarded_condition L i w =
     do_has Q (condition (line L i) (ascii "if")) λ c read.
     do_has Q (condition (line L w) (ascii "while")) λ c₂ _.
     do_has Q (require (eqb (line L w).indent ((line L i).indent + 1) && ltb (w + 1) (length L))) λ _ _.
-    do_has Q (require (eqb (line L (w + 1)).indent (line L i).indent && lone_brace (line L (w + 1)) && (text c == text c₂))) λ _ _ b e.
+    do_has Q (require (eqb (line L (w + 1)).indent (line L i).indent && lone_brace (line L (w + 1)) && (text c ≟ text c₂))) λ _ _ b e.
     read ∙ e
 
 pub loop_turned : (L : List Line) (i : ℕ) → Turned L i (loop_turn L i)

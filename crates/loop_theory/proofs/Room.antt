@@ -12,7 +12,7 @@ use mathlib.Core.Option.{Option}
 use native.Mathlib.Omega.{arith}
 use native.Mathlib.Nat.{le_refl}
 use lib.ListN.{length, length-append}
-use Rattle.definitions.specs.Lists.{any, ◌==◌, ascii}
+use Rattle.definitions.specs.Lists.{any, ◌≟◌, ascii}
 use Rattle.definitions.specs.Model.{Token, Line, tok, text, Keyword, Punct}
 use Rattle.definitions.specs.Statements.{has_kw, is_label, glue, merge}
 use Rattle.definitions.specs.Columns.{all_tokens, text_bytes}
@@ -73,7 +73,7 @@ token_other : (l : Line) → is_label l ≡ false → token_credit l ≡ 5
 token_other l is = rw is
 
 tokens_credit : Credit one_each tokens_measure token_credit
-unfolding sum merge glue is_label ◌==◌
+unfolding sum merge glue is_label ◌≟◌
 tokens_credit = record {
   least = 5;
   most = 8;
@@ -125,7 +125,7 @@ unfolding sum
 label_bytes l is = let t = label_tokens l is in omega (arith, ap (sum bytes_of) t.2, ap length t.4)
 
 bytes_credit : Credit bytes_of bytes_measure byte_credit
-unfolding sum merge glue is_label has_kw any ◌==◌
+unfolding sum merge glue is_label has_kw any ◌≟◌
 bytes_credit = record {
   least = 20;
   most = 32;

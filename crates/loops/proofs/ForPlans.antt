@@ -16,7 +16,7 @@ use borrow.Author.Tests.{eqb-true, eqb-false, eq-eqb, leb-true, le-ltb}
 use lib.Dec.{eqb, leb}
 use lib.ListN.{length, take, drop, get_or, set}
 use lib.Seq.{get_or-take, drop-set-lt}
-use Rattle.definitions.specs.Lists.{◌>>=◌, any, all, part, position_from, remove, ◌==◌, ascii}
+use Rattle.definitions.specs.Lists.{◌>>=◌, any, all, part, position_from, remove, ◌≟◌, ascii}
 use Rattle.definitions.specs.Model.{Token, Line, no_token, pseudo_line, token, line, text}
 use Rattle.definitions.specs.Columns.{listing}
 use Rattle.definitions.specs.Family.{fam_of}
@@ -93,7 +93,7 @@ module _ (C : List Line) (ws : List ℕ) (w e k : ℕ) (f : some k ≡ place_wor
       far passed =
           leb-true (w + 2) e
           (and_split (leb (w + 2) e) (eqb (indent_at (get_or ws e 0)) (indent_at (get_or ws w 0)))
-          (and_split (leb (w + 2) e && eqb (indent_at (get_or ws e 0)) (indent_at (get_or ws w 0))) (text (source_line C (get_or ws e 0)).tokens == ascii "}")
+          (and_split (leb (w + 2) e && eqb (indent_at (get_or ws e 0)) (indent_at (get_or ws w 0))) (text (source_line C (get_or ws e 0)).tokens ≟ ascii "}")
           (and_split (closed_words C ws w e) (steps_words C h z && counts_words C ws w e p) passed).0).0).0
 
 -- The lines of the words
@@ -212,7 +212,7 @@ module _ (S : List Line) (l t x : List ℕ) (R : Source S l t x) where
             go true q =
                 let f : w + 2 ≤ e = leb-true (w + 2) e
                 (and_split (leb (w + 2) e) (eqb (indent_at (get_or ws e 0)) (indent_at (get_or ws w 0)))
-                (and_split (leb (w + 2) e && eqb (indent_at (get_or ws e 0)) (indent_at (get_or ws w 0))) (text (source_line C (get_or ws e 0)).tokens == ascii "}") (unfold closed_words in q)).0).0 in
+                (and_split (leb (w + 2) e && eqb (indent_at (get_or ws e 0)) (indent_at (get_or ws w 0))) (text (source_line C (get_or ws e 0)).tokens ≟ ascii "}") (unfold closed_words in q)).0).0 in
                 let u : fam_of (token (line L (e - 1)) 0) ≡ fam_of (token (source_line C z) 0) =
                 ap (λ ts. fam_of (get_or ts 0 no_token)) (kept_line_tokens (e - 1) (omega arith) (omega arith)) in
                 ap (λ o. cond (for_tests L w e c (names_family o)) (init_from (names_family o) L (line L w).indent 4 w) none) u

@@ -16,7 +16,7 @@ use borrow.Author.Tests.{eq-eqb, ne_eqb, lt-ltb, le-ltb, ltb-true}
 use lib.Dec.{eqb, ltb}
 use lib.ListN.{length, take, drop, get_or, set, length-set, length-append, length-take, length-drop}
 use lib.Seq.{get_or-take, length-take-le}
-use Rattle.definitions.specs.Lists.{◌>>=◌, require, or_else, all, part, position_from, remove, ◌==◌, ends_with, ascii}
+use Rattle.definitions.specs.Lists.{◌>>=◌, require, or_else, all, part, position_from, remove, ◌≟◌, ends_with, ascii}
 use Rattle.definitions.specs.Model.{Token, Line, no_token, line, text}
 use Rattle.definitions.specs.Columns.{listing}
 use Rattle.definitions.specs.Statements.{is_kw, has_kw}
@@ -143,7 +143,7 @@ ready_header ws n i lt le ready =
 -- The guard and its close, of the lines
 
 same_tests : (o p : Option (List Token)) (A B D E : Bool)
-    → (o >>= λ c. p >>= λ d. require (A && B) >>= λ _. require (D && E && (text c == text d)) >>= λ _. some c)
+    → (o >>= λ c. p >>= λ d. require (A && B) >>= λ _. require (D && E && (text c ≟ text d)) >>= λ _. some c)
     ≡ cond (B && (A && (D && (E && same_text o p)))) o none
 same_tests none p A B D E = sym (same_cond (B && (A && (D && (E && same_text none p)))))
   where
@@ -158,7 +158,7 @@ same_tests (some c) none A B D E = go A B D E
     go true true false E = refl
     go true true true false = refl
     go true true true true = refl
-same_tests (some c) (some d) A B D E = go A B D E (text c == text d)
+same_tests (some c) (some d) A B D E = go A B D E (text c ≟ text d)
   where
     go : (A B D E s : Bool) → (require (A && B) >>= λ _. require (D && E && s) >>= λ _. some c) ≡ cond (B && (A && (D && (E && s)))) (some c) none
     go false false D E s = refl

@@ -15,11 +15,11 @@ use borrow.Author.Tests.{eq-eqb, ne_eqb, leb-true}
 use lib.Dec.{eqb, leb}
 use lib.ListN.{length, get_or, take, drop, length-append}
 use lib.Seq.{take-nil, drop-nil}
-use Rattle.definitions.specs.Lists.{◌==◌, find, range, all, on_first, on_part, starts_with, ascii}
+use Rattle.definitions.specs.Lists.{◌≟◌, find, range, all, on_first, on_part, starts_with, ascii}
 use Rattle.definitions.specs.Model.{Token, Line, tok, no_token, Punct}
 use Rattle.definitions.specs.Statements.{is_empty, merge}
 use Rattle.definitions.specs.Condition.{Comparison, comparisons, Found, nothing_seen, scan, flip, only_comparison, negate_cond}
-use Rattle.text.proofs.Texts.{==-length}
+use Rattle.text.proofs.Texts.{≟_length}
 use Rattle.loop_theory.proofs.Cases.{none_some}
 use Rattle.loop_theory.proofs.Places.{on_part_one}
 use Rattle.loop_theory.proofs.Comparisons.{comparison_in, comparison_stands, find_among}
@@ -34,8 +34,8 @@ use Rattle.negate.proofs.Places.{moved, relabelled, kept_place, scan_kept, kept_
 
 -- A text that is not empty
 
-filled : (s : List ℕ) → 1 ≤ length s → not (s == []) ≡ true
-filled s h = ap not (==-length s [] (λ e. omega arith))
+filled : (s : List ℕ) → 1 ≤ length s → not (s ≟ []) ≡ true
+filled s h = ap not (≟_length s [] (λ e. omega arith))
 
 nothing_starts : comparison_in [] ≡ none
 unfolding find comparisons starts_with
@@ -74,7 +74,7 @@ module _ (U : List Token) (f : Found) (e : only_comparison (scan 0 U nothing_see
   stands_in : not (is_empty place) ≡ true
   stands_in = go place.text stands
     where
-      go : (s : List ℕ) → comparison_in (drop f.pos s) ≡ some f.comparison → not (s == []) ≡ true
+      go : (s : List ℕ) → comparison_in (drop f.pos s) ≡ some f.comparison → not (s ≟ []) ≡ true
       go [] q = none_some (sym nothing_starts ∙ ap comparison_in (sym (drop-nil f.pos)) ∙ q)
       go (b ∷ s) q = filled (b ∷ s) (omega arith)
 

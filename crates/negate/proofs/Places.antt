@@ -14,11 +14,11 @@ use native.Mathlib.Numerals.{add-one}
 use lib.Dec.{eqb}
 use lib.ListN.{length, get_or, take, drop, length-append}
 use lib.Seq.{take_at}
-use Rattle.definitions.specs.Lists.{◌==◌, filter, count, on_first, on_part, starts_with, ascii}
+use Rattle.definitions.specs.Lists.{◌≟◌, filter, count, on_first, on_part, starts_with, ascii}
 use Rattle.definitions.specs.Model.{Token, no_token, Punct, Keyword}
 use Rattle.definitions.specs.Statements.{is_empty}
 use Rattle.definitions.specs.Condition.{Comparison, Found, Seen, nothing_seen, at_depth_0, add_found, see_logical, comparison_at, see_bracket, scan_text, scan_token, scan}
-use Rattle.loop_theory.proofs.Cases.{true_false, ==-true}
+use Rattle.loop_theory.proofs.Cases.{true_false, ≟_true}
 use Rattle.loop_theory.proofs.Places.{on_part_one}
 use Rattle.append.specs.Adds.{whole}
 use Rattle.append.proofs.Appends.{whole_append}
@@ -142,7 +142,7 @@ module _ (U : List Token) where
           emptied q = by (is_empty t) refl q
             where
               by : (x : Bool) → is_empty t ≡ x → not x ≡ false → t.text ≡ []
-              by true p q = ==-true t.text [] p
+              by true p q = ≟_true t.text [] p
               by false p q = true_false {b = true} refl q
 
   pub scan_kept : scan 0 (whole U) nothing_seen ≡ relabelled (kept_place U) (scan 0 U nothing_seen)
@@ -153,7 +153,7 @@ module _ (U : List Token) where
 
 kept_one : (f : Token → Token) (U : List Token) (p : ℕ) → not (is_empty (get_or U p no_token)) ≡ true → not (is_empty (f (get_or U p no_token))) ≡ true
     → whole (take p U ++ on_first f (drop p U)) ≡ take (kept_place U p) (whole U) ++ on_first f (drop (kept_place U p) (whole U))
-unfolding filter kept_place on_first ◌==◌
+unfolding filter kept_place on_first ◌≟◌
 kept_one f [] p g h = true_false {b = false} g refl
 kept_one f (t ∷ U) zero g h = rw (g, h)
 kept_one f (t ∷ U) (suc p) g h = go (not (is_empty t)) (kept_one f U p g h)

@@ -12,6 +12,7 @@
 --   scan_next, scan_end                              the loop over the condition's tokens
 --   numbered_some, numbered_none                     which numbers are comparisons
 -- Assumes nothing.
+use Rattle.std.specs.Prelude.{if◌then◌else◌}
 use mathlib.Core.Path.{◌≡◌, refl, sym, ap, ◌∙◌}
 use mathlib.Core.Bool.{Bool, true, false, ◌||◌, not, cond}
 use mathlib.Core.List.{List, [], ◌∷◌}
@@ -25,7 +26,7 @@ use borrow.Author.Tests.{eq-eqb, ne_eqb}
 use lib.Dec.{T, eqb}
 use lib.ListN.{length, get_or, drop, length-drop}
 use lib.Seq.{drop-drop}
-use Rattle.definitions.specs.Lists.{if◌then◌else◌, filter, count, find, starts_with, ascii, part}
+use Rattle.definitions.specs.Lists.{filter, count, find, starts_with, ascii, part}
 use Rattle.definitions.specs.Condition.{Comparison, comparisons, Found, Seen, at_depth_0, add_found, see_logical, comparison_at, see_bracket, add_brackets, nothing_seen, scan_text, scan_token, scan}
 use Rattle.definitions.specs.Model.{Line, tok}
 use Rattle.text.proofs.Parts.{drop_step, drop_end, part_tail}

@@ -12,11 +12,11 @@
 --   negated_token l m o k     token k of m of the condition, with the comparison that the answer o says flipped if it stands there
 --   negation l m o        the negated condition by the answer o
 -- Assumes nothing.
-use Rattle.std.specs.Prelude.{ℕ, ◌+◌, ◌<◌, List, [], ◌∷◌, ◌++◌, map, eqb, length}
+use Rattle.std.specs.Prelude.{if◌then◌else◌, ℕ, ◌+◌, ◌<◌, List, [], ◌∷◌, ◌++◌, map, eqb, length}
 use Rattle.std.proofs.Math.Option
 use Rattle.std.proofs.Math.Option.{Option, none, some}
 use Rattle.std.proofs.Math.ListN.{get_elem?}
-use Rattle.definitions.specs.Lists.{if◌then◌else◌, or_else, starts_with, ascii, find, count, range}
+use Rattle.definitions.specs.Lists.{or_else, starts_with, ascii, find, count, range}
 use Rattle.definitions.specs.Model.{Token, Line, tok, Punct}
 use Rattle.definitions.specs.Statements.{merge}
 use Rattle.definitions.specs.Condition.{Comparison, comparisons, Found, Seen, flip}

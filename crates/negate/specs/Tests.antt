@@ -7,8 +7,8 @@
 --   test_from l m k     those from token k on, the empty ones too
 --   test_tokens l m     all of them
 -- Assumes nothing.
-use Rattle.std.specs.Prelude.{ℕ, ◌+◌, ◌-◌, min, List, map, eqb, length}
-use Rattle.definitions.specs.Lists.{if◌then◌else◌, part, range}
+use Rattle.std.specs.Prelude.{if◌then◌else◌, ℕ, ◌+◌, ◌-◌, min, List, map, eqb, length}
+use Rattle.definitions.specs.Lists.{part, range}
 use Rattle.definitions.specs.Model.{Token, Line, tok, token}
 use Rattle.definitions.specs.Condition.{cut}
 

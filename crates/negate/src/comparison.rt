@@ -2,8 +2,8 @@
 //
 // Contracts cite `see_logical`, `comparison_at`, `see_bracket`, `scan_text`, `scan_token` and `negate_cond` of
 // Rattle.definitions.specs.Condition; `seen` and `negation` of this crate's specs/ say what the answers stand for.
-ghost use Rattle.std.specs.Prelude.{◌≡◌, ◌||◌, ◌+◌, ◌*◌, ◌≤◌, ◌<◌, eqb, length, drop};
-ghost use Rattle.definitions.specs.Lists.{if◌then◌else◌, starts_with, ascii};
+ghost use Rattle.std.specs.Prelude.{if◌then◌else◌, ◌≡◌, ◌||◌, ◌+◌, ◌*◌, ◌≤◌, ◌<◌, eqb, length, drop};
+ghost use Rattle.definitions.specs.Lists.{starts_with, ascii};
 ghost use Rattle.definitions.specs.Model.{line};
 ghost use Rattle.definitions.specs.Columns.{listing};
 ghost use Rattle.definitions.specs.Condition.{nothing_seen, add_brackets, see_logical, comparison_at, see_bracket, scan_text, scan_token, scan, negate_cond};

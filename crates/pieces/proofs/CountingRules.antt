@@ -15,12 +15,12 @@ use borrow.Author.Tests.{eq-eqb, ne_eqb}
 use lib.Dec.{eqb}
 use lib.ListN.{length, get_or, take, drop, length-append, take-append-drop}
 use lib.Seq.{take_at, drop-append-le, length-take-le}
-use Rattle.definitions.specs.Lists.{or_else, position, part, ◌==◌, starts_with, ascii}
+use Rattle.definitions.specs.Lists.{or_else, position, part, ◌≟◌, starts_with, ascii}
 use Rattle.definitions.specs.Model.{Token, Line, tok, no_token, token, text, Keyword, Punct}
 use Rattle.definitions.specs.Statements.{is_kw}
 use Rattle.definitions.specs.Family.{Family, fam_of}
 use Rattle.definitions.specs.ToFor.{is_step}
-use Rattle.text.proofs.Texts.{==-length}
+use Rattle.text.proofs.Texts.{≟_length}
 use Rattle.pieces.specs.Pieces.{piece, origin, cut_place, jumped}
 use Rattle.pieces.specs.Counting.{text_between, adds_to, jumped_steps, jumped_family, piece_rest}
 use Rattle.pieces.proofs.Forms.{place_within, kept_piece, continued_piece, broken_piece, closed_piece}
@@ -67,7 +67,7 @@ step_cut : (kw : List ℕ) (X : List ℕ) → 3 ≤ length kw → starts_with (a
 unfolding adds_to
 step_cut kw X h p q =
     let n : 4 ≤ length (X ++ (kw ++ ascii ";")) = omega (arith, length-append X (kw ++ ascii ";"), length-append kw (ascii ";")) in
-    rw (==-length (X ++ (kw ++ ascii ";")) (ascii "++;") (λ e. omega arith), ==-length (X ++ (kw ++ ascii ";")) (ascii "--;") (λ e. omega arith), p, q)
+    rw (≟_length (X ++ (kw ++ ascii ";")) (ascii "++;") (λ e. omega arith), ≟_length (X ++ (kw ++ ascii ";")) (ascii "--;") (λ e. omega arith), p, q)
 
 continue_step : (X : List ℕ) → is_step (X ++ (ascii "continue" ++ ascii ";")) ≡ adds_to X
 continue_step X = step_cut (ascii "continue") X (omega arith) (starts_cut 43 99 (ascii "ontinue;") refl refl refl X) (starts_cut 45 99 (ascii "ontinue;") refl refl refl X)
@@ -80,7 +80,7 @@ module _ (kw : List ℕ) (steps : (X : List ℕ) → is_step (X ++ (kw ++ ascii 
   cut_steps = go (cut_place l) (place_within (is_kw (ascii "goto")) l.tokens) refl
     where
       go : (n : ℕ) → or_else (position (is_kw (ascii "goto")) l.tokens) (length l.tokens) ≤ length l.tokens → cut_place l ≡ n → is_step (text (drop 1 (jumped kw l))) ≡ jumped_steps l
-      go zero h e = unfold text starts_with ◌==◌ in rw e
+      go zero h e = unfold text starts_with ◌≟◌ in rw e
       go (suc n) h e =
           let k : suc n ≤ length l.tokens = unfold cut_place in omega arith in
           let m : length (take (suc n) l.tokens) ≡ suc n = length-take-le (suc n) l.tokens k in
@@ -123,7 +123,7 @@ module _ (C : List Line) (p : ℕ) where
   steps_broken r e d = d ∙ sym (cut_steps (ascii "break") break_step (origin C p)) ∙ ap (λ ts. is_step (text (drop 1 ts))) (sym (broken_piece C p e))
 
   pub steps_closed : (p % 4 ≡ 0 → ⊥) → (p % 4 ≡ 1 → ⊥) → (p % 4 ≡ 2 → ⊥) → false ≡ is_step (piece_rest C p)
-  unfolding text starts_with ◌==◌
+  unfolding text starts_with ◌≟◌
   steps_closed a b c = rw (closed_piece C p a b c)
 
   pub family_kept : (o : Option Family) → p % 4 ≡ 0 → o ≡ fam_of (token (origin C p) 0) → o ≡ fam_of (token (piece C p) 0)

@@ -17,12 +17,12 @@ use native.Mathlib.Omega.{arith}
 use borrow.Author.Tests.{lt-ltb, le-ltb}
 use lib.Dec.{ltb}
 use lib.ListN.{length, take, length-append}
-use Rattle.definitions.specs.Lists.{or_else, any, position, take_while, ◌==◌, ascii}
+use Rattle.definitions.specs.Lists.{or_else, any, position, take_while, ◌≟◌, ascii}
 use Rattle.definitions.specs.Model.{Token, Line, tok, pseudo_line, text, Keyword, Punct}
 use Rattle.definitions.specs.Statements.{is_kw, has_kw, is_label, goto_target}
 use Rattle.definitions.specs.Passes.{lone_brace}
 use Rattle.definitions.specs.RecoverGotoLoops.{jump_line}
-use Rattle.text.proofs.Texts.{==-length}
+use Rattle.text.proofs.Texts.{≟_length}
 use Rattle.loop_theory.proofs.Cases.{or_split}
 use Rattle.loop_theory.proofs.Jumps.{jump_line_no_label, jump_line_has_no_goto}
 use Rattle.plan.specs.Plan.{form_tokens, form_of}
@@ -90,12 +90,12 @@ abbrev ending : List ℕ → List Token
 ending kw = tok kw Keyword ∷ tok (ascii ";") Punct ∷ []
 
 with_continue : (ts : List Token) → any (is_kw (ascii "continue")) (ts ++ ending (ascii "continue")) ≡ true
-unfolding any ◌==◌
+unfolding any ◌≟◌
 with_continue [] = refl
 with_continue (t ∷ ts) = rw (with_continue ts) (or-true (is_kw (ascii "continue") t))
 
 with_break : (ts : List Token) → any (is_kw (ascii "continue")) (ts ++ ending (ascii "break")) ≡ any (is_kw (ascii "continue")) ts
-unfolding any ◌==◌
+unfolding any ◌≟◌
 with_break [] = refl
 with_break (t ∷ ts) = rw (with_break ts)
 
@@ -156,8 +156,8 @@ module _ (C : List Line) (p : ℕ) where
 
   pub target_other : (p % 4 ≡ 0 → ⊥) → none ≡ goto_target (piece C p)
   target_other h =
-      other_piece (λ ts. none ≡ goto_target (pseudo_line none 1 ts)) h (nowhere (jump_line (ascii "continue") (origin C p)) (jump_line_has_no_goto (ascii "continue") (origin C p) (unfold ◌==◌ in refl)))
-      (nowhere (jump_line (ascii "break") (origin C p)) (jump_line_has_no_goto (ascii "break") (origin C p) (unfold ◌==◌ in refl))) (unfold goto_target position ◌==◌ in refl)
+      other_piece (λ ts. none ≡ goto_target (pseudo_line none 1 ts)) h (nowhere (jump_line (ascii "continue") (origin C p)) (jump_line_has_no_goto (ascii "continue") (origin C p) (unfold ◌≟◌ in refl)))
+      (nowhere (jump_line (ascii "break") (origin C p)) (jump_line_has_no_goto (ascii "break") (origin C p) (unfold ◌≟◌ in refl))) (unfold goto_target position ◌≟◌ in refl)
     where
       nowhere : (l : Line) → has_kw l (ascii "goto") ≡ false → none ≡ goto_target (pseudo_line none 1 l.tokens)
       nowhere l e = unfold goto_target in rw (no_place (is_kw (ascii "goto")) l.tokens (unfold has_kw in e))
@@ -182,11 +182,11 @@ module _ (C : List Line) (p : ℕ) where
 
   module _ (a : p % 4 ≡ 0 → ⊥) (b : p % 4 ≡ 1 → ⊥) (c : p % 4 ≡ 2 → ⊥) where
     pub continue_closed : false ≡ has_kw (piece C p) (ascii "continue")
-    unfolding has_kw any ◌==◌
+    unfolding has_kw any ◌≟◌
     continue_closed = rw (closed_piece a b c)
 
     pub brace_closed : true ≡ lone_brace (piece C p)
-    unfolding text ◌==◌
+    unfolding text ◌≟◌
     brace_closed = rw (closed_piece a b c)
 
   -- The lone brace
@@ -194,8 +194,8 @@ module _ (C : List Line) (p : ℕ) where
   pub brace_kept : (r : Bool) → p % 4 ≡ 0 → r ≡ lone_brace (origin C p) → r ≡ lone_brace (piece C p)
   brace_kept r e f = rw (kept_piece e) f
 
-  no_brace : (ts : List Token) (kw : List ℕ) → 2 ≤ length kw → false ≡ (text (ts ++ (tok kw Keyword ∷ tok (ascii ";") Punct ∷ [])) == ascii "}")
-  no_brace ts kw h = sym (==-length (text (ts ++ (tok kw Keyword ∷ tok (ascii ";") Punct ∷ []))) (ascii "}") (λ e. omega (arith, many ts kw h)))
+  no_brace : (ts : List Token) (kw : List ℕ) → 2 ≤ length kw → false ≡ (text (ts ++ (tok kw Keyword ∷ tok (ascii ";") Punct ∷ [])) ≟ ascii "}")
+  no_brace ts kw h = sym (≟_length (text (ts ++ (tok kw Keyword ∷ tok (ascii ";") Punct ∷ []))) (ascii "}") (λ e. omega (arith, many ts kw h)))
 
   pub brace_continued : p % 4 ≡ 1 → false ≡ lone_brace (piece C p)
   brace_continued e = rw (continued_piece e) (no_brace (take (cut_place (origin C p)) (origin C p).tokens) (ascii "continue") (omega arith))

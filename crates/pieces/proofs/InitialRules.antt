@@ -14,7 +14,7 @@ use borrow.Author.Tests.{eq-eqb, ne_eqb, le-leb, lt-leb, lt-ltb, le-ltb}
 use lib.Dec.{eqb, leb, ltb}
 use lib.ListN.{length, get_or, take, drop, length-append}
 use lib.Seq.{get_or-take, length-take-le, take_at}
-use Rattle.definitions.specs.Lists.{◌>>=◌, require, is_some, any, last, ◌==◌, starts_with, ascii}
+use Rattle.definitions.specs.Lists.{◌>>=◌, require, is_some, any, last, ◌≟◌, starts_with, ascii}
 use Rattle.definitions.specs.Model.{Token, Line, tok, pseudo_line, token, no_token, Register, Keyword, Symbol, Punct}
 use Rattle.definitions.specs.Statements.{Assignment, is_kw, is_callee, callee, call_at, assignment, unless_empty, is_empty, without_semicolon}
 use Rattle.definitions.specs.Family.{Family, fam_of, names}
@@ -202,7 +202,7 @@ last_snoc (t ∷ []) u = refl
 last_snoc (t ∷ (v ∷ ts)) u = last_snoc (v ∷ ts) u
 
 without : (ts : List Token) → without_semicolon (ts ++ (tok (ascii ";") Punct ∷ [])) ≡ some ts
-unfolding without_semicolon ◌==◌
+unfolding without_semicolon ◌≟◌
 without ts =
     let n : length (ts ++ (tok (ascii ";") Punct ∷ [])) ≡ length ts + 1 = length-append ts (tok (ascii ";") Punct ∷ []) in
     let k : length ts ≡ length (ts ++ (tok (ascii ";") Punct ∷ [])) - 1 = omega arith in

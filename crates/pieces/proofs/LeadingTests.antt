@@ -16,7 +16,7 @@ use borrow.Author.Tests.{eq-eqb, ne_eqb, le-leb, lt-leb}
 use lib.Dec.{eqb, leb}
 use lib.ListN.{length, get_or, take, drop, length-append, length-drop}
 use lib.Seq.{take-append-le, drop-append-le, drop-append-add, length-take-le}
-use Rattle.definitions.specs.Lists.{◌>>=◌, require, position, first, last, part, on_first, ◌==◌, starts_with, ends_with, ascii}
+use Rattle.definitions.specs.Lists.{◌>>=◌, require, position, first, last, part, on_first, ◌≟◌, starts_with, ends_with, ascii}
 use Rattle.definitions.specs.Model.{Token, Line, tok, pseudo_line, token, no_token, text, Keyword, Punct}
 use Rattle.definitions.specs.Statements.{is_kw}
 use Rattle.definitions.specs.Condition.{cut_front, cut, negate_cond}
@@ -148,7 +148,7 @@ behind = tok (ascii "break") Keyword ∷ tok (ascii ";") Punct ∷ []
 
 break_at : (ts : List Token) (n : ℕ) → n ≤ length ts
     → position (is_kw (ascii "break")) (take n ts ++ behind) ≡ some (first_of (position (is_kw (ascii "break")) ts) n)
-unfolding position ◌==◌
+unfolding position ◌≟◌
 break_at [] zero h = refl
 break_at [] (suc n) h = absurd (not-suc-le-zero h)
 break_at (t ∷ ts) zero h = ap some (go (is_kw (ascii "break") t) (position (is_kw (ascii "break")) ts))
@@ -175,7 +175,7 @@ ends_cut s = go (dec_le 2 (length s))
         let d : length (s ++ ascii "break;") - 8 ≡ length s - 2 = omega (arith, n) in
         let k : length (drop (length s - 2) s) ≡ 2 = length-drop (length s - 2) s ∙ omega arith in
         rw (le-leb 8 (length (s ++ ascii "break;")) (omega (arith, n)), le-leb 2 (length s) h, d, drop-append-le (length s - 2) s (ascii "break;") (omega arith))
-        (split (drop (length s - 2) s) (ascii "break;") (ascii ") break;") (omega (arith, k)) ∙ rw k (unfold ◌==◌ in and-true (drop (length s - 2) s == ascii ") ")))
+        (split (drop (length s - 2) s) (ascii "break;") (ascii ") break;") (omega (arith, k)) ∙ rw k (unfold ◌≟◌ in and-true (drop (length s - 2) s ≟ ascii ") ")))
     go (no h) = rw (lt-leb 8 (length (s ++ ascii "break;")) (omega (arith, n)), lt-leb 2 (length s) (omega arith))
 
 part_cut : (ts : List Token) (n g : ℕ) → g ≤ n → n ≤ length ts → part 1 g (take n ts ++ behind) ≡ part 1 g ts
@@ -214,7 +214,7 @@ module _ (l : Line) (n : ℕ) (c : n ≡ cut_place l) where
   within = omega (arith, place_within (is_kw (ascii "goto")) l.tokens)
 
   pub broken_nothing : n ≡ 0 → none ≡ tested (jumped (ascii "break") l)
-  unfolding tested ◌==◌
+  unfolding tested ◌≟◌
   broken_nothing e = let z : cut_place l ≡ 0 = sym c ∙ e in rw z
 
   module _ (h : n ≡ 0 → ⊥) (b : Bool) (e : b ≡ is_kw (ascii "if") (token l 0)) where
@@ -252,7 +252,7 @@ unfolding leading_test tested test_at
 leading_is ts = refl
 
 no_break : (s : List ℕ) → ends_with (ascii ") break;") (s ++ ascii "continue;") ≡ false
-unfolding ◌==◌
+unfolding ◌≟◌
 no_break s =
     let n : length (s ++ ascii "continue;") ≡ length s + 9 = length-append s (ascii "continue;") in
     let d : length (s ++ ascii "continue;") - 8 ≡ length s + 1 = omega (arith, n) in
@@ -280,6 +280,6 @@ module _ (C : List Line) (p : ℕ) where
   tested_closed a b c = closed_no ∙ ap tested (sym (closed_piece C p a b c)) ∙ sym (leading_is (piece C p).tokens)
     where
       closed_no : none ≡ tested (tok (ascii "}") Punct ∷ [])
-      closed_no = unfold tested ◌==◌ in refl
+      closed_no = unfold tested ◌≟◌ in refl
 
 pub ruleset leads = (tested_kept, tested_broken, tested_continued, tested_closed)

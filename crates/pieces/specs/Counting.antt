@@ -5,9 +5,9 @@
 --   jumped_family l     the family of its first token, where the line does not start with the goto
 --   piece_rest C p      the texts of the piece's tokens behind the first
 -- Assumes nothing.
-use Rattle.std.specs.Prelude.{ℕ, Bool, false, ◌||◌, List, eqb, take, drop}
+use Rattle.std.specs.Prelude.{if◌then◌else◌, ℕ, Bool, false, ◌||◌, List, eqb, take, drop}
 use Rattle.std.proofs.Math.Option.{Option, none}
-use Rattle.definitions.specs.Lists.{if◌then◌else◌, starts_with, ascii}
+use Rattle.definitions.specs.Lists.{starts_with, ascii}
 use Rattle.definitions.specs.Model.{Line, token, text}
 use Rattle.definitions.specs.Family.{Family, fam_of}
 use Rattle.pieces.specs.Pieces.{piece, cut_place}

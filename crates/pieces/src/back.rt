@@ -1,6 +1,6 @@
 // The back edge: the text of a piece against `goto h;`, byte by byte where it stands.
 ghost use Rattle.std.specs.Prelude.{◌≡◌, true, ◌++◌, ◌-◌};
-ghost use Rattle.definitions.specs.Lists.{◌==◌, ascii};
+ghost use Rattle.definitions.specs.Lists.{◌≟◌, ascii};
 ghost use Rattle.definitions.specs.Model.{line};
 ghost use Rattle.definitions.specs.Columns.{listing};
 ghost use Rattle.definitions.specs.Questions.{question_2};
@@ -28,7 +28,7 @@ pub fn text_before<'a>(
 
 // The bytes a, then b, are s.
 fn joins(a: &[u8], b: &[u8], s: &[u8]) -> bool
-    ensures { result ≡ ((a.now ++ b.now) == s.now) }
+    ensures { result ≡ ((a.now ++ b.now) ≟ s.now) }
 {
     let n = a.len();
     if s.len() < n {
@@ -43,7 +43,7 @@ fn joins(a: &[u8], b: &[u8], s: &[u8]) -> bool
 
 // The text s reads `goto h;`.
 fn kept_reads(s: &[u8], h: &[u8]) -> bool
-    ensures { result ≡ (s.now == (ascii "goto " ++ (h.now ++ ascii ";"))) }
+    ensures { result ≡ (s.now ≟ (ascii "goto " ++ (h.now ++ ascii ";"))) }
 {
     if text::starts_with(s, b"goto ") {
         joins(h, b";", text::part(s, 5, s.len()))
@@ -55,7 +55,7 @@ fn kept_reads(s: &[u8], h: &[u8]) -> bool
 // The text s, then `kw;`, reads `goto h;`.
 fn jump_reads(s: &[u8], kw: &[u8], h: &[u8]) -> bool
     requires { JumpWord kw.now }
-    ensures { result ≡ ((s.now ++ (kw.now ++ ascii ";")) == (ascii "goto " ++ (h.now ++ ascii ";"))) }
+    ensures { result ≡ ((s.now ++ (kw.now ++ ascii ";")) ≟ (ascii "goto " ++ (h.now ++ ascii ";"))) }
 {
     if text::starts_with(s, b"goto ") {
         joins(text::part(s, 5, s.len()), kw, h)
@@ -68,7 +68,7 @@ fn jump_reads(s: &[u8], kw: &[u8], h: &[u8]) -> bool
 pub fn is_back(lines: &[u32], tokens: &[u32], text: &[u8], p: usize, h: &[u8]) -> bool
     requires { question_2 lines.now tokens.now text.now ≡ true }
     ensures { let C = listing lines.now tokens.now text.now in
-        result ≡ (piece_text C p == (ascii "goto " ++ (h.now ++ ascii ";"))) }
+        result ≡ (piece_text C p ≟ (ascii "goto " ++ (h.now ++ ascii ";"))) }
 {
     let i = p / 4;
     match p % 4 {

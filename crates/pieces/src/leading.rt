@@ -1,8 +1,7 @@
 // The leading test `if (..) break;` of a piece. The answer is the place of `break`, before which the condition ends; nothing is copied.
 //
 // Contracts cite `leading_test` of Rattle.definitions.specs.RecoverGotoLoops; `leading` of specs/Leading.antt says which condition an answer is.
-ghost use Rattle.std.specs.Prelude.{◌≡◌, true, eqb};
-ghost use Rattle.definitions.specs.Lists.{if◌then◌else◌};
+ghost use Rattle.std.specs.Prelude.{if◌then◌else◌, ◌≡◌, true, eqb};
 ghost use Rattle.definitions.specs.Model.{line};
 ghost use Rattle.definitions.specs.Columns.{listing};
 ghost use Rattle.definitions.specs.Questions.{question_2};

@@ -13,7 +13,7 @@ use mathlib.Core.Option.{Option, none, some}
 use borrow.Author.Tests.{lt-ltb}
 use lib.Dec.{eqb}
 use lib.ListN.{drop, get_or, get_elem?}
-use Rattle.definitions.specs.Lists.{◌>>=◌, require, is_some, or_else, any, position, position_from, first, last, filter, part, on_first, on_last, ◌==◌, starts_with, ascii}
+use Rattle.definitions.specs.Lists.{◌>>=◌, require, is_some, or_else, any, position, position_from, first, last, filter, part, on_first, on_last, ◌≟◌, starts_with, ascii}
 use Rattle.definitions.specs.Model.{Token, Line, tok, no_token, pseudo_line, line, token, text, Keyword, Punct}
 use Rattle.definitions.specs.Family.{Family, fam_of, names}
 use Rattle.definitions.specs.Statements.{Assignment, is_kw, is_empty, call_at, assignment}
@@ -151,7 +151,7 @@ or_whole none h = refl
 or_whole (some c) h = h c refl
 
 pub while_condition : (a : Option ℕ) (i : ℕ) (c : List Token) → whole c → condition (pseudo_line a i (while_head c)) (ascii "while") ≡ some c
-unfolding condition position ◌==◌ starts_with closing on_first filter
+unfolding condition position ◌≟◌ starts_with closing on_first filter
 while_condition a i c h =
     let open_token = tok (ascii " (") Punct in
     let End_token = tok (ascii ") {") Punct in

@@ -7,9 +7,9 @@
 --   for_tests L w e c p        what is asked of the header at w with condition c, of the body and of its close at e, but for the initialiser
 --   for_made L w e k c         the header at w made a for header with the initialiser at k
 -- Assumes nothing.
-use Rattle.std.specs.Prelude.{ℕ, zero, suc, ◌+◌, ◌-◌, Bool, false, ◌&&◌, not, List, eqb, leb, drop, set}
+use Rattle.std.specs.Prelude.{if◌then◌else◌, ℕ, zero, suc, ◌+◌, ◌-◌, Bool, false, ◌&&◌, not, List, eqb, leb, drop, set}
 use Rattle.std.proofs.Math.Option.{Option, none, some}
-use Rattle.definitions.specs.Lists.{if◌then◌else◌, is_some, any, part, remove, ascii}
+use Rattle.definitions.specs.Lists.{is_some, any, part, remove, ascii}
 use Rattle.definitions.specs.Model.{Token, Line, pseudo_line, line, text}
 use Rattle.definitions.specs.Statements.{has_kw, is_label, call_at, assignment}
 use Rattle.definitions.specs.ToFor.{is_step, for_head}

@@ -9,11 +9,11 @@ use mathlib.Core.Option.{Option, none, some, map}
 use Prim.Native.Nat.{ℕ, ◌+◌, ◌≤◌, ◌<◌}
 use native.Mathlib.Nat.{zero-add}
 use lib.ListN.{length, get_or}
-use Rattle.definitions.specs.Lists.{◌==◌, starts_with, ends_with, position, position_from}
+use Rattle.definitions.specs.Lists.{◌≟◌, starts_with, ends_with, position, position_from}
 use Rattle.text.proofs.Loops.{position_found, position_next, position_end}
 
 module _ (r : Bool) (s t p : List ℕ) where
-  pub equal_of : r ≡ (s == p) → s ≡ t → r ≡ (t == p)
+  pub equal_of : r ≡ (s ≟ p) → s ≡ t → r ≡ (t ≟ p)
   equal_of e q = e ∙ rw q
 
   pub starts_of : r ≡ starts_with p s → s ≡ t → r ≡ starts_with p t

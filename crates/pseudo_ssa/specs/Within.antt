@@ -4,9 +4,8 @@
 --   web_call_of m l t x o           the web call with the limits m
 --   web_call_within m b l t x o     the same with at most b sweeps
 -- Assumes nothing.
-use Rattle.std.specs.Prelude.{ℕ, List, [], ◌∷◌, leb, length}
+use Rattle.std.specs.Prelude.{if◌then◌else◌, ℕ, List, [], ◌∷◌, leb, length}
 use Rattle.std.proofs.Math.Option.{Option, none, some}
-use Rattle.definitions.specs.Lists.{if◌then◌else◌}
 use Rattle.definitions.specs.Columns.{listing}
 use Rattle.definitions.specs.Questions.{Limits, question_1, question_2, question_3, question_4, question_5, refusal}
 use Rattle.definitions.specs.Answers.{Answer, refused, accepted, Numbered, webs}

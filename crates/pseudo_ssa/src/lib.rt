@@ -5,9 +5,9 @@
 
 #![tactic(auto)]
 
-ghost use Rattle.std.specs.Prelude.{◌≡◌, true, List, [], ℕ, ◌+◌, ◌*◌, ◌/◌, ◌≤◌, leb, length};
+ghost use Rattle.std.specs.Prelude.{if◌then◌else◌, ◌≡◌, true, List, [], ℕ, ◌+◌, ◌*◌, ◌/◌, ◌≤◌, leb, length};
 ghost use Rattle.std.proofs.Math.Option.{Option, none, some};
-ghost use Rattle.definitions.specs.Lists.{if◌then◌else◌, or_else};
+ghost use Rattle.definitions.specs.Lists.{or_else};
 ghost use Rattle.definitions.specs.Columns.{listing};
 ghost use Rattle.definitions.specs.Questions.{question_4, question_5, space_words, limits};
 ghost use Rattle.definitions.specs.Recover.{recover};

@@ -20,12 +20,12 @@ use borrow.Author.Tests.{eq-eqb, ne_eqb}
 use lib.Dec.{eqb}
 use lib.ListN.{length, drop, get_or, length-drop, drop_of_length-le}
 use lib.Seq.{drop-cons, take_all}
-use Rattle.definitions.specs.Lists.{part, range, filter, any, position, on_first, on_last, or_else, ◌==◌, starts_with, ascii}
+use Rattle.definitions.specs.Lists.{part, range, filter, any, position, on_first, on_last, or_else, ◌≟◌, starts_with, ascii}
 use Rattle.definitions.specs.Model.{Token, Line, tok, no_token, token}
 use Rattle.definitions.specs.Family.{Family, family, fam_of, names, legacy, legacy_family, other_family}
 use Rattle.definitions.specs.Statements.{is_empty}
 use Rattle.definitions.specs.Condition.{cut_front, cut_end, cut, condition}
-use Rattle.text.proofs.Texts.{==-eq}
+use Rattle.text.proofs.Texts.{≟_eq}
 use Rattle.family.specs.Register.{names_family}
 use Rattle.condition.specs.Conditions.{conditional}
 use Rattle.condition.specs.declared.Conditional.{Conditional}
@@ -115,7 +115,7 @@ filter_any p h (t ∷ ts) = go (is_empty t) refl (filter_any p h ts)
     go false e r = ap (λ b. p t || b) r
 
 nil_family : family [] ≡ none
-unfolding family legacy_family legacy other_family ◌==◌ starts_with position
+unfolding family legacy_family legacy other_family ◌≟◌ starts_with position
 nil_family = refl
 
 no_family : (t : Token) → t.text ≡ [] → fam_of t ≡ none
@@ -129,7 +129,7 @@ no_family t e = rw (e, nil_family) (go (eqb t.kind 1))
 pub empty_names : (o : Option Family) (t : Token) → is_empty t ≡ true → names_family o t ≡ false
 unfolding names
 empty_names none t e = refl
-empty_names (some f) t e = rw (no_family t (==-eq t.text [] e), names)
+empty_names (some f) t e = rw (no_family t (≟_eq t.text [] e), names)
 
 -- Where a token is cut
 

@@ -11,13 +11,13 @@ use Prim.Native.Nat.{ℕ, zero, suc, ◌+◌, ◌-◌, ◌≤◌, ◌<◌}
 use native.Mathlib.Omega.{arith}
 use lib.ListN.{length, take, drop, get_or, length-append, length-drop, drop_of_length-le}
 use lib.Seq.{take-append-add, drop-append-le, get_or-drop}
-use Rattle.definitions.specs.Lists.{part, filter, on_first, on_last, ◌==◌, ascii}
+use Rattle.definitions.specs.Lists.{part, filter, on_first, on_last, ◌≟◌, ascii}
 use Rattle.definitions.specs.Model.{Token, Line, no_token, text}
 use Rattle.definitions.specs.Statements.{is_empty}
 use Rattle.definitions.specs.Condition.{cut_front, cut_end, cut, condition}
 use Rattle.definitions.specs.ToFor.{is_step}
 use Rattle.text.proofs.Parts.{part_none}
-use Rattle.text.proofs.Texts.{==-eq}
+use Rattle.text.proofs.Texts.{≟_eq}
 use Rattle.condition.specs.Conditions.{conditional}
 use Rattle.condition.specs.declared.Conditional.{Conditional}
 use Rattle.condition.specs.declared.Conditional.TheVariants.{Cut, Nothing}
@@ -31,7 +31,7 @@ filter_text (t ∷ ts) = go (is_empty t) refl (filter_text ts)
   where
     go : (b : Bool) → is_empty t ≡ b → text (filter (λ t. not (is_empty t)) ts) ≡ text ts
         → text (cond (not b) (t ∷ filter (λ t. not (is_empty t)) ts) (filter (λ t. not (is_empty t)) ts)) ≡ t.text ++ text ts
-    go true e r = r ∙ sym (ap (λ s. s ++ text ts) (==-eq t.text [] e))
+    go true e r = r ∙ sym (ap (λ s. s ++ text ts) (≟_eq t.text [] e))
     go false e r = ap (λ s. t.text ++ s) r
 
 -- The last token cut
@@ -108,11 +108,11 @@ module _ (l m : Line) (a : Conditional) (p : conditional l a ≡ condition l (as
 
     pub same_is : Within l a → Within m b → (k w : ℕ) → b ≡ Cut k w → (r : Bool) (s u : List ℕ)
         → s ≡ part 2 (length (text_from l (j + 1)) - v) (text_from l (j + 1)) → u ≡ part 2 (length (text_from m (k + 1)) - w) (text_from m (k + 1))
-        → r ≡ (s == u) → r ≡ same_condition l m
+        → r ≡ (s ≟ u) → r ≡ same_condition l m
     same_is x y k w f r s u g h d =
         let B : Bounds l j v = subst (Within l) e x in
         let C : Bounds m k w = subst (Within m) f y in
-        d ∙ ap₂ ◌==◌ (g ∙ sym (cut_text l j v B)) (h ∙ sym (cut_text m k w C)) ∙ rw (← p, e, ← q, f)
+        d ∙ ap₂ ◌≟◌ (g ∙ sym (cut_text l j v B)) (h ∙ sym (cut_text m k w C)) ∙ rw (← p, e, ← q, f)
 
 pub ruleset same_conditions = (same_no_if, same_no_while, same_is)
 

@@ -11,14 +11,14 @@ use native.Mathlib.Omega.{arith}
 use borrow.Author.Tests.{leb-true}
 use lib.Dec.{leb}
 use lib.ListN.{length, drop}
-use Rattle.definitions.specs.Lists.{◌==◌, starts_with, ends_with, ascii}
+use Rattle.definitions.specs.Lists.{◌≟◌, starts_with, ends_with, ascii}
 use Rattle.definitions.specs.Model.{Line, token}
 use Rattle.text.proofs.Texts.{starts_short}
 use Rattle.model.proofs.Ands.{both}
 use Rattle.pseudo_types.specs.Cuts.{Bounds}
 
 ends_long : (p s : List ℕ) → ends_with p s ≡ true → length p ≤ length s
-ends_long p s e = leb-true (length p) (length s) (both (leb (length p) (length s)) (drop (length s - length p) s == p) e).0
+ends_long p s e = leb-true (length p) (length s) (both (leb (length p) (length s)) (drop (length s - length p) s ≟ p) e).0
 
 module _ (s : List ℕ) (b : Bool) (f : b ≡ true) where
   pub ends_three : b ≡ ends_with (ascii ") {") s → 3 ≤ length s

@@ -6,9 +6,9 @@
 --   same_text c d          both are conditions, with the same text
 --   same_condition l m     line l has a condition behind if, line m one behind while, and both have the same text
 -- Assumes nothing.
-use Rattle.std.specs.Prelude.{ℕ, ◌+◌, ◌-◌, ◌≤◌, ◌<◌, Bool, false, List, map, eqb, length, drop}
+use Rattle.std.specs.Prelude.{if◌then◌else◌, ℕ, ◌+◌, ◌-◌, ◌≤◌, ◌<◌, Bool, false, List, map, eqb, length, drop}
 use Rattle.std.proofs.Math.Option.{Option, none, some}
-use Rattle.definitions.specs.Lists.{if◌then◌else◌, part, range, ◌==◌, ascii}
+use Rattle.definitions.specs.Lists.{part, range, ◌≟◌, ascii}
 use Rattle.definitions.specs.Model.{Token, Line, tok, token, text}
 use Rattle.definitions.specs.Condition.{condition}
 use Rattle.condition.specs.declared.Conditional.{Conditional}
@@ -41,7 +41,7 @@ Within l Nothing = Unit {0}
 abbrev pub same_text : Option (List Token) → Option (List Token) → Bool
 same_text none d = false
 same_text (some c) none = false
-same_text (some c) (some d) = text c == text d
+same_text (some c) (some d) = text c ≟ text d
 
 abbrev pub same_condition : Line → Line → Bool
 same_condition l m = same_text (condition l (ascii "if")) (condition m (ascii "while"))

@@ -7,8 +7,7 @@
 --   number s at         the number that stands at place `at` of s, behind any blanks
 --   behind d n          the place behind the number n, d where there is none
 -- Assumes nothing.
-use Rattle.std.specs.Prelude.{ℕ, ◌+◌, ◌*◌, ◌-◌, Bool, ◌&&◌, ◌||◌, List, [], ◌∷◌, eqb, ltb, leb, drop}
-use Rattle.definitions.specs.Lists.{if◌then◌else◌}
+use Rattle.std.specs.Prelude.{if◌then◌else◌, ℕ, ◌+◌, ◌*◌, ◌-◌, Bool, ◌&&◌, ◌||◌, List, [], ◌∷◌, eqb, ltb, leb, drop}
 use Rattle.replay.specs.declared.decimal.Found.{Found}
 use Rattle.replay.specs.declared.decimal.Found.TheVariants.{Number, Bad}
 use Rattle.replay.specs.declared.decimal.Step.{Step}

@@ -16,7 +16,7 @@ use mir.Val.{Fits}
 use mir.Syntax.{w32}
 use lib.Dec.{eqb, ltb, leb}
 use lib.ListN.{length, drop, get_or, length-append, length-take, length-drop}
-use Rattle.definitions.specs.Lists.{◌>>=◌, part, concat, range, ascii, position, starts_with, ◌==◌}
+use Rattle.definitions.specs.Lists.{◌>>=◌, part, concat, range, ascii, position, starts_with, ◌≟◌}
 use Rattle.definitions.specs.Model.{Token, tok, no_token, Register}
 use Rattle.definitions.specs.Columns.{token_list}
 use Rattle.definitions.specs.Family.{Family, legacy, legacy_family, digits, suffix_width, is_high, is_numbered, other_family, family, fam_of}

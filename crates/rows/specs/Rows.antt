@@ -14,9 +14,9 @@
 --   Short l t x w          of columns that questions 1 and 2 let pass: w is no longer than 28 bytes for each token and the text
 --   Printed w out e        the first e bytes of out are w
 -- Assumes nothing.
-use Rattle.std.specs.Prelude.{ℕ, ◌+◌, ◌*◌, ◌-◌, ◌≤◌, ◌≡◌, true, List, [], ◌++◌, map, eqb, length, take, get_or}
+use Rattle.std.specs.Prelude.{if◌then◌else◌, ℕ, ◌+◌, ◌*◌, ◌-◌, ◌≤◌, ◌≡◌, true, List, [], ◌++◌, map, eqb, length, take, get_or}
 use Rattle.std.proofs.Math.Option.{Option, none, some}
-use Rattle.definitions.specs.Lists.{if◌then◌else◌, concat, range, ascii}
+use Rattle.definitions.specs.Lists.{concat, range, ascii}
 use Rattle.definitions.specs.Model.{Token, no_token}
 use Rattle.definitions.specs.Columns.{token_list}
 use Rattle.definitions.specs.Family.{Family, fam_of}

@@ -12,7 +12,7 @@ use native.Mathlib.Omega.{arith}
 use borrow.Author.Tests.{eq-eqb, ne_eqb, eqb-true}
 use lib.Dec.{eqb}
 use lib.ListN.{length, get_or}
-use Rattle.definitions.specs.Lists.{any, count, up_to, ◌==◌}
+use Rattle.definitions.specs.Lists.{any, count, up_to, ◌≟◌}
 use Rattle.definitions.specs.Model.{Line, line}
 use Rattle.definitions.specs.Family.{Family}
 use Rattle.definitions.specs.Statements.{defines}
@@ -20,7 +20,7 @@ use Rattle.definitions.specs.Recover.{defined_families}
 use Rattle.definitions.specs.SplitPoints.{all_jumps, crosses, split_points, split_key, split_starts}
 use Rattle.definitions.specs.Answers.{no_family, mark}
 use Rattle.theory.proofs.Bools.{same_test, not_so}
-use Rattle.theory.proofs.ListLaws.{member_range, count_none, ==-true, ==-self}
+use Rattle.theory.proofs.ListLaws.{member_range, count_none, ≟_true, ≟_self}
 use Rattle.families.specs.Families.{place, place_defined, defined_at, families_before}
 use Rattle.families.proofs.Lists.{filter_same}
 use Rattle.families.proofs.Numbered.{families_all, families_few, place_cases, defined_known}
@@ -68,19 +68,19 @@ module _ (L : List Line) where
     unfolding starts
     starts_none z i h = go (start_at L i) refl
       where
-        go : (o : Option (List ℕ)) → start_at L i ≡ o → (elim o [ none ↦ false | some g ↦ g == f ]) ≡ false
+        go : (o : Option (List ℕ)) → start_at L i ≡ o → (elim o [ none ↦ false | some g ↦ g ≟ f ]) ≡ false
         go none e = refl
-        go (some g) e = not_so (g == f) (λ q. start_known i g h e (ap (place (defined_families L)) (==-true g f q) ∙ z))
+        go (some g) e = not_so (g ≟ f) (λ q. start_known i g h e (ap (place (defined_families L)) (≟_true g f q) ∙ z))
 
     starts_place : (c : ℕ) → place (defined_families L) f ≡ suc c → (i : ℕ) → eqb (start_place L i) (suc c) ≡ starts L f i
     unfolding starts
     starts_place c z i = go (start_at L i)
       where
-        go : (o : Option (List ℕ)) → eqb (place_defined (defined_families L) o) (suc c) ≡ (elim o [ none ↦ false | some g ↦ g == f ])
+        go : (o : Option (List ℕ)) → eqb (place_defined (defined_families L) o) (suc c) ≡ (elim o [ none ↦ false | some g ↦ g ≟ f ])
         go none = ne_eqb 0 (suc c) (λ q. omega arith)
         go (some g) = same_test _ _
-            (λ e. ap (◌== f) (place_same (defined_families L) f g c z (eqb-true (place (defined_families L) g) (suc c) e)) ∙ ==-self f)
-            (λ e. eq-eqb (place (defined_families L) g) (suc c) (ap (place (defined_families L)) (==-true g f e) ∙ z))
+            (λ e. ap (◌== f) (place_same (defined_families L) f g c z (eqb-true (place (defined_families L) g) (suc c) e)) ∙ ≟_self f)
+            (λ e. eq-eqb (place (defined_families L) g) (suc c) (ap (place (defined_families L)) (≟_true g f e) ∙ z))
 
 -- Numbers and marks
 

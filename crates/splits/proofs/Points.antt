@@ -13,7 +13,7 @@ use native.Mathlib.Omega.{arith}
 use borrow.Author.Tests.{eq-eqb, eqb-true, le-leb, lt-leb}
 use lib.Dec.{eqb, leb}
 use lib.ListN.{length}
-use Rattle.definitions.specs.Lists.{to_list, any, filter, count, concat, range, up_to, ◌==◌}
+use Rattle.definitions.specs.Lists.{to_list, any, filter, count, concat, range, up_to, ◌≟◌}
 use Rattle.definitions.specs.Model.{Line, line}
 use Rattle.definitions.specs.Statements.{defines}
 use Rattle.definitions.specs.Recover.{from_line_1}
@@ -95,16 +95,16 @@ module _ (L : List Line) where
   unfolding starts start_at defined_at
   starts_zero f = go (eqb (line L 0).indent 1 && not (any (crosses 0) (all_jumps L)))
     where
-      go : (b : Bool) → (elim (cond {A = Option (List ℕ)} b none none) [ none ↦ false | some g ↦ g == f ]) ≡ false
+      go : (b : Bool) → (elim (cond {A = Option (List ℕ)} b none none) [ none ↦ false | some g ↦ g ≟ f ]) ≡ false
       go true = refl
       go false = refl
 
   -- a test of the family and one of the line
-  passes_both : (f : List ℕ) (q : ℕ → Bool) (k : ℕ) → passes (λ (s : Split). (s.family == f) && q s.at) (point k) ≡ (starts L f k && q k)
+  passes_both : (f : List ℕ) (q : ℕ → Bool) (k : ℕ) → passes (λ (s : Split). (s.family ≟ f) && q s.at) (point k) ≡ (starts L f k && q k)
   unfolding starts
   passes_both f q k = go (start_at L k)
     where
-      go : (o : Option (List ℕ)) → passes (λ (s : Split). (s.family == f) && q s.at) (Option.map (split k) o) ≡ ((elim o [ none ↦ false | some g ↦ g == f ]) && q k)
+      go : (o : Option (List ℕ)) → passes (λ (s : Split). (s.family ≟ f) && q s.at) (Option.map (split k) o) ≡ ((elim o [ none ↦ false | some g ↦ g ≟ f ]) && q k)
       go none = refl
       go (some g) = refl
 
@@ -137,7 +137,7 @@ module _ (L : List Line) (f : List ℕ) (i : ℕ) (h : i < length L) where
       let z : (i + 1) - 1 ≡ i = omega arith in
       let w : i + 1 ≡ suc i = omega arith in
       ap (split_key_in) (points_are L)
-      ∙ count_options (λ s. (s.family == f) && leb s.at i) (point L) (from_line_1 L)
+      ∙ count_options (λ s. (s.family ≟ f) && leb s.at i) (point L) (from_line_1 L)
       ∙ ap (λ (p : ℕ → Bool). count p (from_line_1 L)) (fun_ext (passes_both L f (λ k. leb k i)))
       ∙ count_upto (starts L f) i 1 (length L - 1) (omega arith) (omega arith)
       ∙ rw (z, w, starts_zero L f)
@@ -147,8 +147,8 @@ module _ (L : List Line) (f : List ℕ) (i : ℕ) (h : i < length L) where
 
   pub split_starts_is : split_starts (split_points L) f i ≡ starts L f i
   split_starts_is =
-      ap (any (λ s. (s.family == f) && eqb s.at i)) (points_are L)
-      ∙ any_options (λ s. (s.family == f) && eqb s.at i) (point L) (from_line_1 L)
+      ap (any (λ s. (s.family ≟ f) && eqb s.at i)) (points_are L)
+      ∙ any_options (λ s. (s.family ≟ f) && eqb s.at i) (point L) (from_line_1 L)
       ∙ ap (λ (p : ℕ → Bool). any p (from_line_1 L)) (fun_ext (passes_both L f (λ k. eqb k i)))
       ∙ same_test _ _ there (back i h refl)
     where

@@ -7,8 +7,8 @@
 --   over a e f us ms      ms with f of the elements of us from place a up to, not with, place e in their places
 --   by_line l t g us n    g i of each element of line i, for the first n lines
 -- Assumes nothing.
-use Rattle.std.specs.Prelude.{ℕ, ◌+◌, ◌-◌, List, ◌++◌, map, eqb, get_or, take, drop}
-use Rattle.definitions.specs.Lists.{if◌then◌else◌, count, concat, up_to, part}
+use Rattle.std.specs.Prelude.{if◌then◌else◌, ℕ, ◌+◌, ◌-◌, List, ◌++◌, map, eqb, get_or, take, drop}
+use Rattle.definitions.specs.Lists.{count, concat, up_to, part}
 use Rattle.definitions.specs.Model.{Token}
 use Rattle.definitions.specs.Family.{fam_of}
 use Rattle.definitions.specs.Answers.{no_family}

@@ -1,8 +1,8 @@
 // The split points by line, one step a line: the indent-1 definitions that no goto crosses.
 //
 // Contracts cite `all_jumps` and `crosses` of Rattle.definitions.specs.SplitPoints.
-ghost use Rattle.std.specs.Prelude.{◌≡◌, ◌&&◌, ℕ, ◌≤◌, ◌<◌, eqb, ltb, length, get_or};
-ghost use Rattle.definitions.specs.Lists.{if◌then◌else◌, any};
+ghost use Rattle.std.specs.Prelude.{if◌then◌else◌, ◌≡◌, ◌&&◌, ℕ, ◌≤◌, ◌<◌, eqb, ltb, length, get_or};
+ghost use Rattle.definitions.specs.Lists.{any};
 ghost use Rattle.definitions.specs.Model.{line};
 ghost use Rattle.definitions.specs.Columns.{listing};
 ghost use Rattle.definitions.specs.SplitPoints.{all_jumps, crosses};

@@ -4,8 +4,8 @@
 --   Solved                      what `solve` does
 --   Incoming                    what `incoming_row` does
 -- Assumes nothing.
-use Rattle.std.specs.Prelude.{ℕ, ◌+◌, ◌*◌, ◌<◌, ◌≤◌, ◌≡◌, List, [], leb, length, get_or}
-use Rattle.definitions.specs.Lists.{if◌then◌else◌, member}
+use Rattle.std.specs.Prelude.{if◌then◌else◌, ℕ, ◌+◌, ◌*◌, ◌<◌, ◌≤◌, ◌≡◌, List, [], leb, length, get_or}
+use Rattle.definitions.specs.Lists.{member}
 use Rattle.definitions.specs.Sweeps.{incoming, sweeps}
 use Rattle.bits.specs.Rows.{bit, Away}
 use Rattle.bits.specs.Edges.{preds_of}

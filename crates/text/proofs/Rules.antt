@@ -14,9 +14,9 @@ use native.Mathlib.Omega.{arith}
 use borrow.Author.Tests.{eq-eqb, ne_eqb}
 use lib.ListN.{length, get_or, take, drop, length-take, get_or-eq_default}
 use lib.Dec.{eqb}
-use Rattle.definitions.specs.Lists.{◌==◌, starts_with, ends_with, contains, any, part}
+use Rattle.definitions.specs.Lists.{◌≟◌, starts_with, ends_with, contains, any, part}
 use Rattle.text.proofs.Parts.{drop_step, drop_end, part_clamp, part_past, part_none}
-use Rattle.text.proofs.Texts.{==-length, starts_part, starts_short, ends_part, ends_short}
+use Rattle.text.proofs.Texts.{≟_length, starts_part, starts_short, ends_part, ends_short}
 use Rattle.text.proofs.Loops.{any_found, any_next, any_end}
 
 pub word_past : (ws : List ℕ) (k : ℕ) → length ws ≤ k → 0 ≡ get_or ws k 0
@@ -33,37 +33,37 @@ module _ (s : List ℕ) (a e : ℕ) where
   part_empty h = sym (part_none s a e h)
 
 module _ (a b : List ℕ) where
-  pub equal_lengths : (length a ≡ length b → ⊥) → false ≡ (a == b)
-  equal_lengths h = sym (==-length a b h)
+  pub equal_lengths : (length a ≡ length b → ⊥) → false ≡ (a ≟ b)
+  equal_lengths h = sym (≟_length a b h)
 
-  module _ (i : ℕ) (inv : (a == b) ≡ (drop i a == drop i b)) (n : length a ≡ length b) where
-    pub equal_differ : i < length a → (get_or a i 0 ≡ get_or b i 0 → ⊥) → false ≡ (a == b)
-    unfolding ◌==◌
+  module _ (i : ℕ) (inv : (a ≟ b) ≡ (drop i a ≟ drop i b)) (n : length a ≡ length b) where
+    pub equal_differ : i < length a → (get_or a i 0 ≡ get_or b i 0 → ⊥) → false ≡ (a ≟ b)
+    unfolding ◌≟◌
     equal_differ h e =
         let hb : i < length b = omega arith in
         sym (inv ∙ rw (drop_step 0 a i h, drop_step 0 b i hb, ne_eqb (get_or a i 0) (get_or b i 0) e))
 
-    pub equal_next : i < length a → get_or a i 0 ≡ get_or b i 0 → (a == b) ≡ (drop (i + 1) a == drop (i + 1) b)
-    unfolding ◌==◌
+    pub equal_next : i < length a → get_or a i 0 ≡ get_or b i 0 → (a ≟ b) ≡ (drop (i + 1) a ≟ drop (i + 1) b)
+    unfolding ◌≟◌
     equal_next h e =
         let hb : i < length b = omega arith in
         inv ∙ rw (drop_step 0 a i h, drop_step 0 b i hb, eq-eqb (get_or a i 0) (get_or b i 0) e)
 
-    pub equal_end : length a ≤ i → true ≡ (a == b)
-    unfolding ◌==◌
+    pub equal_end : length a ≤ i → true ≡ (a ≟ b)
+    unfolding ◌≟◌
     equal_end h = sym (inv ∙ rw (drop_end a i h, drop_end b i (omega arith)))
 
 module _ (s p : List ℕ) where
   pub starts_count : length p ≤ length s → length p ≡ length (take (length p) s)
   starts_count h = rw length-take (omega arith)
 
-  pub starts_go : (r : Bool) → r ≡ (take (length p) s == p) → r ≡ starts_with p s
+  pub starts_go : (r : Bool) → r ≡ (take (length p) s ≟ p) → r ≡ starts_with p s
   starts_go r e = e ∙ sym (starts_part p s)
 
   pub starts_no : length s < length p → false ≡ starts_with p s
   starts_no h = sym (starts_short p s h)
 
-  pub ends_go : (r : Bool) → length p ≤ length s → r ≡ (part (length s - length p) (length s) s == p) → r ≡ ends_with p s
+  pub ends_go : (r : Bool) → length p ≤ length s → r ≡ (part (length s - length p) (length s) s ≟ p) → r ≡ ends_with p s
   ends_go r h e = e ∙ sym (ends_part p s h)
 
   pub ends_no : length s < length p → false ≡ ends_with p s

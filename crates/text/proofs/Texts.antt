@@ -1,10 +1,10 @@
 -- Laws of texts.
---   ==-refl             s == s
---   ==-eq               texts that are == are the same list
---   eq-==               the same list is ==
---   ne-==               lists that differ are not ==
---   ==-sym              s == t is t == s
---   ==-length           texts of two lengths are not ==
+--   ≟_refl             s == s
+--   ≟_eq               texts that are == are the same list
+--   eq_≟               the same list is ==
+--   ne_≟               lists that differ are not ==
+--   ≟_sym              s == t is t == s
+--   ≟_length           texts of two lengths are not ==
 --   starts_part         s starts with p: its first bytes, as many as p has, are == p
 --   starts_short        a text that is shorter than p does not start with it
 --   ends_part           s ends with p, where s is no shorter: its last bytes, as many as p has, are == p
@@ -18,54 +18,54 @@ use native.Mathlib.Omega.{arith}
 use borrow.Author.Tests.{eq-eqb, ne_eqb, eqb-true, eqb-false, le-leb, lt-leb}
 use lib.Dec.{eqb}
 use lib.ListN.{length, take, length-take}
-use Rattle.definitions.specs.Lists.{◌==◌, starts_with, ends_with, part}
+use Rattle.definitions.specs.Lists.{◌≟◌, starts_with, ends_with, part}
 use Rattle.text.proofs.Parts.{part_tail}
 
 both_true : (a b : Bool) → (a && b) ≡ true → (a ≡ true) × (b ≡ true)
 both_true true b h = (refl, h)
 both_true false b h = let z : ◌≡◌ {A = ℕ} 0 1 = cc in absurd (omega arith)
 
-pub ==-refl : (s : List ℕ) → (s == s) ≡ true
-unfolding ◌==◌
-==-refl [] = refl
-==-refl (a ∷ s) = rw (eq-eqb a a refl, ==-refl s)
+pub ≟_refl : (s : List ℕ) → (s ≟ s) ≡ true
+unfolding ◌≟◌
+≟_refl [] = refl
+≟_refl (a ∷ s) = rw (eq-eqb a a refl, ≟_refl s)
 
-pub ==-eq : (s t : List ℕ) → (s == t) ≡ true → s ≡ t
-unfolding ◌==◌
-==-eq [] [] h = refl
-==-eq [] (b ∷ t) h = cc
-==-eq (a ∷ s) [] h = cc
-==-eq (a ∷ s) (b ∷ t) h =
-    let p = both_true (eqb a b) (s == t) h in
+pub ≟_eq : (s t : List ℕ) → (s ≟ t) ≡ true → s ≡ t
+unfolding ◌≟◌
+≟_eq [] [] h = refl
+≟_eq [] (b ∷ t) h = cc
+≟_eq (a ∷ s) [] h = cc
+≟_eq (a ∷ s) (b ∷ t) h =
+    let p = both_true (eqb a b) (s ≟ t) h in
     let q : a ≡ b = eqb-true a b p.0 in
-    let r : s ≡ t = ==-eq s t p.1 in
+    let r : s ≡ t = ≟_eq s t p.1 in
     cc
 
-pub eq-== : (s t : List ℕ) → s ≡ t → (s == t) ≡ true
-eq-== s t e = rw e (==-refl t)
+pub eq_≟ : (s t : List ℕ) → s ≡ t → (s ≟ t) ≡ true
+eq_≟ s t e = rw e (≟_refl t)
 
 not_true_false : (b : Bool) → (b ≡ true → ⊥) → b ≡ false
 not_true_false true h = absurd (h refl)
 not_true_false false h = refl
 
-pub ne-== : (s t : List ℕ) → (s ≡ t → ⊥) → (s == t) ≡ false
-ne-== s t h = not_true_false (s == t) (λ e. h (==-eq s t e))
+pub ne_≟ : (s t : List ℕ) → (s ≡ t → ⊥) → (s ≟ t) ≡ false
+ne_≟ s t h = not_true_false (s ≟ t) (λ e. h (≟_eq s t e))
 
-pub ==-sym : (s t : List ℕ) → (s == t) ≡ (t == s)
-==-sym s t = go (s == t) refl
+pub ≟_sym : (s t : List ℕ) → (s ≟ t) ≡ (t ≟ s)
+≟_sym s t = go (s ≟ t) refl
   where
-    go : (b : Bool) → (s == t) ≡ b → b ≡ (t == s)
-    go true e = sym (eq-== t s (sym (==-eq s t e)))
-    go false e = sym (ne-== t s (λ q. let z : true ≡ false = sym (eq-== s t (sym q)) ∙ e in let y : ◌≡◌ {A = ℕ} 0 1 = cc in omega arith))
+    go : (b : Bool) → (s ≟ t) ≡ b → b ≡ (t ≟ s)
+    go true e = sym (eq_≟ t s (sym (≟_eq s t e)))
+    go false e = sym (ne_≟ t s (λ q. let z : true ≡ false = sym (eq_≟ s t (sym q)) ∙ e in let y : ◌≡◌ {A = ℕ} 0 1 = cc in omega arith))
 
-pub ==-length : (s t : List ℕ) → (length s ≡ length t → ⊥) → (s == t) ≡ false
-==-length s t h = ne-== s t (λ e. h (ap length e))
+pub ≟_length : (s t : List ℕ) → (length s ≡ length t → ⊥) → (s ≟ t) ≡ false
+≟_length s t h = ne_≟ s t (λ e. h (ap length e))
 
-pub starts_part : (p s : List ℕ) → starts_with p s ≡ (take (length p) s == p)
-unfolding starts_with ◌==◌
+pub starts_part : (p s : List ℕ) → starts_with p s ≡ (take (length p) s ≟ p)
+unfolding starts_with ◌≟◌
 starts_part [] s = refl
 starts_part (a ∷ p) [] = refl
-starts_part (a ∷ p) (b ∷ s) = rw (starts_part p s) (ap (λ (x : Bool). x && (take (length p) s == p)) (flip (eqb a b) refl))
+starts_part (a ∷ p) (b ∷ s) = rw (starts_part p s) (ap (λ (x : Bool). x && (take (length p) s ≟ p)) (flip (eqb a b) refl))
   where
     flip : (x : Bool) → eqb a b ≡ x → x ≡ eqb b a
     flip true e = sym (eq-eqb b a (sym (eqb-true a b e)))
@@ -73,9 +73,9 @@ starts_part (a ∷ p) (b ∷ s) = rw (starts_part p s) (ap (λ (x : Bool). x && 
 
 module _ (p s : List ℕ) where
   pub starts_short : length s < length p → starts_with p s ≡ false
-  starts_short h = starts_part p s ∙ ==-length (take (length p) s) p (rw length-take (λ e. omega arith))
+  starts_short h = starts_part p s ∙ ≟_length (take (length p) s) p (rw length-take (λ e. omega arith))
 
-  pub ends_part : length p ≤ length s → ends_with p s ≡ (part (length s - length p) (length s) s == p)
+  pub ends_part : length p ≤ length s → ends_with p s ≡ (part (length s - length p) (length s) s ≟ p)
   ends_part h = rw (le-leb (length p) (length s) h, part_tail)
 
   pub ends_short : length s < length p → ends_with p s ≡ false

@@ -3,9 +3,8 @@
 --   starts_within rs s    the bytes s start with one byte of each range
 --   code_point s          how many bytes long the code point is that s starts with, 0 where s starts with none
 -- Assumes nothing.
-use Rattle.std.specs.Prelude.{ℕ, suc, Bool, true, false, ◌&&◌, List, [], ◌∷◌, eqb, length}
+use Rattle.std.specs.Prelude.{if◌then◌else◌, ℕ, suc, Bool, true, false, ◌&&◌, List, [], ◌∷◌, eqb, length}
 use Rattle.std.proofs.Math.Option.{none, some}
-use Rattle.definitions.specs.Lists.{if◌then◌else◌}
 use Rattle.definitions.specs.Utf8.{Range, within, following}
 
 abbrev pub low : ℕ → ℕ

@@ -7,7 +7,7 @@
 #![tactic(auto)]
 
 ghost use Rattle.std.specs.Prelude.{◌≡◌, [], ◌∷◌, ◌-◌, ◌≤◌, ◌<◌, length, get_or, drop};
-ghost use Rattle.definitions.specs.Lists.{◌==◌, starts_with, ends_with, contains, part};
+ghost use Rattle.definitions.specs.Lists.{◌≟◌, starts_with, ends_with, contains, part};
 ghost use Rattle.definitions.specs.Utf8.{is_utf8, to, tail};
 ghost use Rattle.text.specs.CodePoint.{low, high, starts_within, code_point};
 ghost use Rattle.text.specs.Zeroed.{zeroed};
@@ -62,7 +62,7 @@ pub fn part(s: &[u8], a: usize, e: usize) -> &[u8]
 
 // The same bytes.
 pub fn equal(a: &[u8], b: &[u8]) -> bool
-    ensures { result ≡ (a.now == b.now) }
+    ensures { result ≡ (a.now ≟ b.now) }
 {
     if a.len() != b.len() {
         return false;

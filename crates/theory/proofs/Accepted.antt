@@ -19,7 +19,7 @@ use native.Mathlib.Omega.{arith}
 use lib.Dec.{eqb, leb}
 use borrow.Author.Tests.{leb-true}
 use lib.ListN.{length}
-use Rattle.definitions.specs.Lists.{◌>>=◌, require, is_some, or_else, to_list, any, filter, find, concat, up_to, member, ◌==◌}
+use Rattle.definitions.specs.Lists.{◌>>=◌, require, is_some, or_else, to_list, any, filter, find, concat, up_to, member, ◌≟◌}
 use Rattle.definitions.specs.Model.{Line, line}
 use Rattle.definitions.specs.Family.{Family, fam_of}
 use Rattle.definitions.specs.Statements.{defines}
@@ -31,7 +31,7 @@ use Rattle.definitions.specs.Answers.{Answer, refused, accepted, Numbered, no_fa
 use Rattle.definitions.specs.Runs.{number_at}
 use Rattle.definitions.specs.Demand3.{defines_at, reads_at}
 use Rattle.theory.proofs.Bools.{clash, not_so, and_both, or_left}
-use Rattle.theory.proofs.ListLaws.{any_filter, any_concat, filter_passes, ==-true, ==-self}
+use Rattle.theory.proofs.ListLaws.{any_filter, any_concat, filter_passes, ≟_true, ≟_self}
 use Rattle.theory.proofs.Paths.{definition_cases}
 use Rattle.theory.proofs.Graph.{predecessor_lists, predecessors_length, predecessors_enter}
 use Rattle.theory.proofs.Numbering.{Lawful, number_iff, number_entry, read_number_reaches}
@@ -97,7 +97,7 @@ module _ (L : List Line) (G : List (List ℕ)) (r : Numbered) (e : webs L ≡ ac
 -- The webs of one family among all
 
 abbrev is_text : List ℕ → List ℕ → Bool
-is_text f g = g == f
+is_text f g = g ≟ f
 
 abbrev pub has_webs : List Line → List ℕ → Bool
 has_webs L f = any (is_text f) (defined_families L) && not (address_taken L f)
@@ -106,12 +106,12 @@ webs_for_map : (L : List Line) (preds : List (List ℕ)) (f : List ℕ) (fs : Li
     → webs_for (map (webs_of L preds) fs) f ≡ cond (any (is_text f) fs) (some (webs_of L preds f)) none
 unfolding find any webs_of
 webs_for_map L preds f [] = refl
-webs_for_map L preds f (g ∷ gs) = go (g == f) refl (webs_for_map L preds f gs)
+webs_for_map L preds f (g ∷ gs) = go (g ≟ f) refl (webs_for_map L preds f gs)
   where
-    go : (b : Bool) → g == f ≡ b → webs_for (map (webs_of L preds) gs) f ≡ cond (any (is_text f) gs) (some (webs_of L preds f)) none
+    go : (b : Bool) → g ≟ f ≡ b → webs_for (map (webs_of L preds) gs) f ≡ cond (any (is_text f) gs) (some (webs_of L preds f)) none
         → cond b (some (webs_of L preds g)) (webs_for (map (webs_of L preds) gs) f)
         ≡ cond (b || any (is_text f) gs) (some (webs_of L preds f)) none
-    go true q e = ap (λ (h : List ℕ). some (webs_of L preds h)) (==-true g f q)
+    go true q e = ap (λ (h : List ℕ). some (webs_of L preds h)) (≟_true g f q)
     go false q e = e
 
 webs_for_all : (L : List Line) (G : List (List ℕ)) (f : List ℕ)
@@ -119,21 +119,21 @@ webs_for_all : (L : List Line) (G : List (List ℕ)) (f : List ℕ)
 webs_for_all L G f =
     webs_for_map L (predecessor_lists L G) f (filter (λ f. not (address_taken L f)) (defined_families L))
     ∙ ap (λ (b : Bool). cond b (some (webs_of L (predecessor_lists L G) f)) none)
-    (any_filter (is_text f) (λ f. not (address_taken L f)) f (λ g q. sym (==-true g f q)) (defined_families L))
+    (any_filter (is_text f) (λ f. not (address_taken L f)) f (λ g q. sym (≟_true g f q)) (defined_families L))
 
 distinct_has : (f : List ℕ) (fs : List (List ℕ)) → any (is_text f) fs ≡ true → any (is_text f) (distinct fs) ≡ true
 unfolding any distinct
 distinct_has f [] e = e
-distinct_has f (g ∷ gs) e = go (g == f) refl e (distinct_has f gs)
+distinct_has f (g ∷ gs) e = go (g ≟ f) refl e (distinct_has f gs)
   where
-    other : g == f ≡ false → not (f == g) ≡ true
-    other q = ap not (not_so (f == g) (λ s. clash (rw (==-true f g s) (==-self g)) q))
+    other : g ≟ f ≡ false → not (f ≟ g) ≡ true
+    other q = ap not (not_so (f ≟ g) (λ s. clash (rw (≟_true f g s) (≟_self g)) q))
 
-    go : (b : Bool) → g == f ≡ b → (b || any (is_text f) gs) ≡ true → (any (is_text f) gs ≡ true → any (is_text f) (distinct gs) ≡ true)
-        → (b || any (is_text f) (filter (λ h. not (h == g)) (distinct gs))) ≡ true
+    go : (b : Bool) → g ≟ f ≡ b → (b || any (is_text f) gs) ≡ true → (any (is_text f) gs ≡ true → any (is_text f) (distinct gs) ≡ true)
+        → (b || any (is_text f) (filter (λ h. not (h ≟ g)) (distinct gs))) ≡ true
     go true q e rest = refl
     go false q e rest =
-        any_filter (is_text f) (λ h. not (h == g)) f (λ h s. sym (==-true h f s)) (distinct gs) ∙ and_both (rest e) (other q)
+        any_filter (is_text f) (λ h. not (h ≟ g)) f (λ h s. sym (≟_true h f s)) (distinct gs) ∙ and_both (rest e) (other q)
 
 -- a family that a line defines is one that has a definition
 defined_has : (L : List Line) (f : List ℕ) (i : ℕ) → defines_at L f i ≡ true → any (is_text f) (defined_families L) ≡ true
@@ -143,9 +143,9 @@ defined_has L f i e =
     distinct_has f (concat (map (λ i. to_list (defines (line L i))) (from_line_1 L)))
     (any_concat (is_text f) (λ i. to_list (defines (line L i))) (from_line_1 L) i r.0 (go (defines (line L i)) r.1))
   where
-    go : (o : Option (List ℕ)) → (elim o [ none ↦ false | some g ↦ g == f ]) ≡ true → any (is_text f) (to_list o) ≡ true
+    go : (o : Option (List ℕ)) → (elim o [ none ↦ false | some g ↦ g ≟ f ]) ≡ true → any (is_text f) (to_list o) ≡ true
     go none e = e
-    go (some g) e = or_left (g == f) false e
+    go (some g) e = or_left (g ≟ f) false e
 
 -- The numbers of one family
 

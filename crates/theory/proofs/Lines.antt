@@ -16,7 +16,7 @@ use mathlib.Core.Option.{Option, none, some, map, none-ne-some, some-injective}
 use native.Mathlib.Omega.{arith}
 use lib.Dec.{eqb, leb}
 use lib.ListN.{length, get_or, drop}
-use Rattle.definitions.specs.Lists.{◌>>=◌, require, is_some, or_else, any, range, position, ◌==◌, starts_with, ascii}
+use Rattle.definitions.specs.Lists.{◌>>=◌, require, is_some, or_else, any, range, position, ◌≟◌, starts_with, ascii}
 use Rattle.definitions.specs.Model.{Token, Line, Register, Punct, tok, token, line, no_token}
 use Rattle.definitions.specs.Family.{Family, fam_of, names}
 use Rattle.definitions.specs.Statements.{Assignment, assignment, without_semicolon, unless_empty, is_var, defines}
@@ -24,7 +24,7 @@ use Rattle.definitions.specs.Recover.{is_def_of, is_read_of, is_read_family}
 use Rattle.definitions.specs.Runs.{first_on}
 use Rattle.definitions.specs.Demand3.{defines_at, reads_at}
 use Rattle.theory.proofs.Bools.{and_both, or_left, or_right, clash}
-use Rattle.theory.proofs.ListLaws.{member_filter, range_member, ==-true, ==-self}
+use Rattle.theory.proofs.ListLaws.{member_filter, range_member, ≟_true, ≟_self}
 use Rattle.theory.proofs.Tokens.{token_at}
 use Rattle.theory.proofs.FamilyWebs.{def_line_inside}
 
@@ -36,16 +36,16 @@ defined_token l k = eqb k 0 && is_some (defines l)
 
 pub names_of : (t : Token) (x : Family) → fam_of t ≡ some x → names x.name t ≡ true
 unfolding names
-names_of t x e = rw (e, names) (==-self x.name)
+names_of t x e = rw (e, names) (≟_self x.name)
 
 pub names_true : (f : List ℕ) (t : Token) → names f t ≡ true → (x : Family) × (fam_of t ≡ some x) × (x.name ≡ f)
 unfolding names
 names_true f t e = go (fam_of t) refl e
   where
-    go : (o : Option Family) → fam_of t ≡ o → (elim o [ none ↦ false | some x ↦ x.name == f ]) ≡ true
+    go : (o : Option Family) → fam_of t ≡ o → (elim o [ none ↦ false | some x ↦ x.name ≟ f ]) ≡ true
         → (x : Family) × (fam_of t ≡ some x) × (x.name ≡ f)
     go none q e = absurd (false≢true e)
-    go (some x) q e = (x, q, ==-true x.name f e)
+    go (some x) q e = (x, q, ≟_true x.name f e)
 
 -- The defined register
 
@@ -103,14 +103,14 @@ defines_names l f e = let x = defines_first l f e in rw (← x.2) (names_of (tok
 pub defines_at_line : (L : List Line) (f : List ℕ) (i : ℕ) → 0 < i → i < length L → defines (line L i) ≡ some f → defines_at L f i ≡ true
 defines_at_line L f i p h e =
     member_filter (λ i. is_def_of f (line L i)) (range 1 (length L - 1)) i
-    ∙ and_both (range_member i 1 (length L - 1) p (omega arith)) (rw (e, is_def_of) (==-self f))
+    ∙ and_both (range_member i 1 (length L - 1) p (omega arith)) (rw (e, is_def_of) (≟_self f))
 
 pub line_defines : (L : List Line) (f : List ℕ) (i : ℕ) → defines_at L f i ≡ true → defines (line L i) ≡ some f
 line_defines L f i e = go (defines (line L i)) refl (def_line_inside L f i e).2
   where
-    go : (o : Option (List ℕ)) → defines (line L i) ≡ o → (elim o [ none ↦ false | some g ↦ g == f ]) ≡ true → defines (line L i) ≡ some f
+    go : (o : Option (List ℕ)) → defines (line L i) ≡ o → (elim o [ none ↦ false | some g ↦ g ≟ f ]) ≡ true → defines (line L i) ≡ some f
     go none q e = absurd (false≢true e)
-    go (some g) q e = rw (==-true g f e) at q
+    go (some g) q e = rw (≟_true g f e) at q
 
 -- Reading lines
 

@@ -9,7 +9,7 @@
 --   getD_map_up_to                                        element i of a list made by `map f (up_to n)`
 --   fold_up_to                                            a fold over 0 .. k ends with k
 --   any_concat, concat_at                                 an element of lists put one after the other
---   ==-true, ==-self                                      `==` decides equality
+--   ≟_true, ≟_self                                      `==` decides equality
 -- Assumes nothing.
 use Prim.Native.Nat.{ℕ, zero, suc, ◌+◌, ◌<◌, ◌≤◌}
 use mathlib.Core.Path.{◌≡◌, refl, sym, ap, ap₂, ◌∙◌}
@@ -22,7 +22,7 @@ use lib.Dec.{eqb}
 use borrow.Author.Tests.{eqb-true, eq-eqb}
 use lib.ListN.{length, get_or, take, replicate, length-append, get_or-append}
 use lib.Seq.{get_or-append-add}
-use Rattle.definitions.specs.Lists.{any, filter, count, fold, range, up_to, member, concat, ◌==◌}
+use Rattle.definitions.specs.Lists.{any, filter, count, fold, range, up_to, member, concat, ◌≟◌}
 use Rattle.theory.proofs.Bools.{clash, and_both, and_split, or_left, or_right, or_cases, lt_or_ge}
 
 -- Members
@@ -215,16 +215,16 @@ concat_at (xs ∷ xss) (suc i) k d h =
 
 -- Texts
 
-pub ==-true : (s t : List ℕ) → s == t ≡ true → s ≡ t
-unfolding ◌==◌
-==-true [] [] e = refl
-==-true [] (b ∷ t) e = absurd (false≢true e)
-==-true (a ∷ s) [] e = absurd (false≢true e)
-==-true (a ∷ s) (b ∷ t) e =
-    let r = and_split (eqb a b) (s == t) e in
-    ap₂ (λ (x : ℕ) (l : List ℕ). x ∷ l) (eqb-true a b r.0) (==-true s t r.1)
+pub ≟_true : (s t : List ℕ) → s ≟ t ≡ true → s ≡ t
+unfolding ◌≟◌
+≟_true [] [] e = refl
+≟_true [] (b ∷ t) e = absurd (false≢true e)
+≟_true (a ∷ s) [] e = absurd (false≢true e)
+≟_true (a ∷ s) (b ∷ t) e =
+    let r = and_split (eqb a b) (s ≟ t) e in
+    ap₂ (λ (x : ℕ) (l : List ℕ). x ∷ l) (eqb-true a b r.0) (≟_true s t r.1)
 
-pub ==-self : (s : List ℕ) → s == s ≡ true
-unfolding ◌==◌
-==-self [] = refl
-==-self (a ∷ s) = and_both (eq-eqb a a refl) (==-self s)
+pub ≟_self : (s : List ℕ) → s ≟ s ≡ true
+unfolding ◌≟◌
+≟_self [] = refl
+≟_self (a ∷ s) = and_both (eq-eqb a a refl) (≟_self s)

@@ -18,11 +18,11 @@ use lib.Dec.{eqb}
 use borrow.Author.Tests.{eqb-true, eqb-false}
 use lib.ListN.{length, get_or, set, replicate, length-set, length-replicate}
 use lib.Seq.{get_or-set_same, get_or-set_other, ext_get_or}
-use Rattle.definitions.specs.Lists.{any, fold, range, up_to, member, ◌==◌}
+use Rattle.definitions.specs.Lists.{any, fold, range, up_to, member, ◌≟◌}
 use Rattle.definitions.specs.Sweeps.{incoming, outgoing, sweep, same_sets, Swept, one_more, sweeps_from, sweeps}
 use Rattle.definitions.specs.Reaching.{is_definition, Reaches}
 use Rattle.theory.proofs.Bools.{clash, and_both, and_split, lt_or_ge, eq_or_lt}
-use Rattle.theory.proofs.ListLaws.{replicate_default, member_filter, filter_alike, fold_up_to, ==-true, ==-self}
+use Rattle.theory.proofs.ListLaws.{replicate_default, member_filter, filter_alike, fold_up_to, ≟_true, ≟_self}
 use Rattle.theory.proofs.Paths.{definition_cases, reaches_definition}
 use Rattle.theory.proofs.OneDefinition.{enters, comes, leaves, visit, lines, swept, swept_sound, swept_stops, comes_iff}
 
@@ -34,13 +34,13 @@ same_sets_true [] [] e = refl
 same_sets_true [] (y ∷ b) e = absurd (false≢true e)
 same_sets_true (x ∷ a) [] e = absurd (false≢true e)
 same_sets_true (x ∷ a) (y ∷ b) e =
-    let r = and_split (x == y) (same_sets a b) e in
-    ap₂ (λ (s : List ℕ) (l : List (List ℕ)). s ∷ l) (==-true x y r.0) (same_sets_true a b r.1)
+    let r = and_split (x ≟ y) (same_sets a b) e in
+    ap₂ (λ (s : List ℕ) (l : List (List ℕ)). s ∷ l) (≟_true x y r.0) (same_sets_true a b r.1)
 
 same_sets_self : (a : List (List ℕ)) → same_sets a a ≡ true
 unfolding same_sets
 same_sets_self [] = refl
-same_sets_self (x ∷ a) = and_both (==-self x) (same_sets_self a)
+same_sets_self (x ∷ a) = and_both (≟_self x) (same_sets_self a)
 
 -- the lines that the definition d leaves, in the outgoing sets out
 abbrev pub column : ℕ → List (List ℕ) → ℕ → Bool

@@ -20,14 +20,14 @@ use lib.Dec.{eqb, leb}
 use borrow.Author.Tests.{eq-eqb, eqb-true, lt-ltb, le-ltb, ltb-true}
 use lib.ListN.{length, get_or, take}
 use lib.Seq.{get_or-take}
-use Rattle.definitions.specs.Lists.{◌>>=◌, require, any, range, ◌==◌, ends_with, ascii}
+use Rattle.definitions.specs.Lists.{◌>>=◌, require, any, range, ◌≟◌, ends_with, ascii}
 use Rattle.definitions.specs.Model.{Token, Line, no_token, token, line}
 use Rattle.definitions.specs.Family.{Family, legacy, fam_of, names}
 use Rattle.definitions.specs.Columns.{token_list, listing}
 use Rattle.definitions.specs.Statements.{Assignment, assignment, defines, is_var}
 use Rattle.definitions.specs.Recover.{defined_families, takes_address, address_taken, is_read_family}
 use Rattle.theory.proofs.Bools.{and_both, and_split, or_left, or_right, or_cases, clash, same_test, not_so, lt_or_ge}
-use Rattle.theory.proofs.ListLaws.{any_found, any_here, member_range, range_member, ==-true, ==-self}
+use Rattle.theory.proofs.ListLaws.{any_found, any_here, member_range, range_member, ≟_true, ≟_self}
 use Rattle.model.specs.Places.{line_start}
 use Rattle.model.proofs.Decode.{length_listing}
 use Rattle.families.specs.Families.{place, Table}
@@ -67,22 +67,22 @@ pub rsp_by : (t : List ℕ) (c k : ℕ) → c ≡ get_or t 255 0 → eqb c (k + 
 rsp_by t c k e = rw e
 
 place_test : (L : List Line) (count k : ℕ) (f : List ℕ) → count ≤ length (defined_families L) → k < count
-    → eqb (place (take count (defined_families L)) f) (k + 1) ≡ (family_name L k == f)
+    → eqb (place (take count (defined_families L)) f) (k + 1) ≡ (family_name L k ≟ f)
 place_test L count k f few h = same_test _ _ there back
   where
-    there : eqb (place (take count (defined_families L)) f) (k + 1) ≡ true → (family_name L k == f) ≡ true
+    there : eqb (place (take count (defined_families L)) f) (k + 1) ≡ true → (family_name L k ≟ f) ≡ true
     there e = elim (place_cases (take count (defined_families L)) f) [
       | inl g ↦ absurd (omega (arith, eqb-true _ (k + 1) e, g.0))
       | inr g ↦ (
           let z : g.0 ≡ k = omega (arith, eqb-true _ (k + 1) e, g.1) in
-          rw (sym (get_or-take count (defined_families L) k [] h), ← z, g.3) (==-self f))
+          rw (sym (get_or-take count (defined_families L) k [] h), ← z, g.3) (≟_self f))
     ]
 
-    back : (family_name L k == f) ≡ true → eqb (place (take count (defined_families L)) f) (k + 1) ≡ true
-    back e = eq-eqb _ (k + 1) (place_taken L count few f k h (==-true _ f e) ∙ sym (add-one k))
+    back : (family_name L k ≟ f) ≡ true → eqb (place (take count (defined_families L)) f) (k + 1) ≡ true
+    back e = eq-eqb _ (k + 1) (place_taken L count few f k h (≟_true _ f e) ∙ sym (add-one k))
 
 module _ (L : List Line) (count k : ℕ) (t : List ℕ) (T : Table L count t) (h : k < count) (y : Bool) (e : y ≡ eqb (get_or t 255 0) (k + 1)) where
-  rsp_is : y ≡ (family_name L k == ascii "rsp")
+  rsp_is : y ≡ (family_name L k ≟ ascii "rsp")
   unfolding legacy
   rsp_is = e ∙ ap (λ (c : ℕ). eqb c (k + 1)) (T.rows 7 (omega arith)) ∙ place_test L count k (ascii "rsp") T.size h
 

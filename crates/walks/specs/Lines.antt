@@ -11,8 +11,8 @@
 --   line_marked l k ds ms i   the mark of line i's first token, where the line defines family k
 --   lines_marked l k ds ms is the same of the lines is
 -- Assumes nothing.
-use Rattle.std.specs.Prelude.{ℕ, ◌+◌, ◌-◌, ◌<◌, ◌≤◌, ◌≡◌, Bool, true, false, cond, ◌&&◌, ◌||◌, List, eqb, ltb, length, get_or, set}
-use Rattle.definitions.specs.Lists.{if◌then◌else◌, any, fold, ends_with, ascii}
+use Rattle.std.specs.Prelude.{if◌then◌else◌, ℕ, ◌+◌, ◌-◌, ◌<◌, ◌≤◌, ◌≡◌, Bool, true, false, cond, ◌&&◌, ◌||◌, List, eqb, ltb, length, get_or, set}
+use Rattle.definitions.specs.Lists.{any, fold, ends_with, ascii}
 use Rattle.definitions.specs.Model.{Token, no_token, line}
 use Rattle.definitions.specs.Family.{names}
 use Rattle.definitions.specs.Columns.{token_list, listing}

@@ -12,7 +12,7 @@ use native.Mathlib.Omega.{arith}
 use lib.Dec.{eqb}
 use borrow.Author.Tests.{ne_eqb}
 use lib.ListN.{length, get_or}
-use Rattle.definitions.specs.Lists.{any, range, up_to, member, ◌==◌}
+use Rattle.definitions.specs.Lists.{any, range, up_to, member, ◌≟◌}
 use Rattle.definitions.specs.Model.{Line, line}
 use Rattle.definitions.specs.Statements.{defines}
 use Rattle.definitions.specs.Sweeps.{sweeps}
@@ -38,7 +38,7 @@ module _ (L : List Line) (ds : List ℕ) (D : Defs L ds) (k : ℕ) (h : k < leng
   abbrev f : List ℕ
   f = family_name L k
 
-  is_place : (o : Option (List ℕ)) → eqb (place_defined (defined_families L) o) (k + 1) ≡ (elim o [ none ↦ false | some g ↦ g == f ])
+  is_place : (o : Option (List ℕ)) → eqb (place_defined (defined_families L) o) (k + 1) ≡ (elim o [ none ↦ false | some g ↦ g ≟ f ])
   is_place none = ne_eqb 0 (k + 1) (λ z. omega arith)
   is_place (some g) = place_is L k h g
 
@@ -63,7 +63,7 @@ module _ (L : List Line) (ds : List ℕ) (D : Defs L ds) (k : ℕ) (h : k < leng
 
 module _ (L : List Line) (f : List ℕ) (r w : ℕ) (nums l₀ l is own read : List ℕ) (N : Numbered (length L) w nums) (pos : 0 < length L)
     (lines : defining_lines (length L) nums ≡ def_lines L f) (reads : is ≡ read_lines L f) (M : LineNumbers (length L) r w nums l₀ l is own read)
-    (has : any (λ g. g == f) (defined_families L) ≡ true) (free : address_taken L f ≡ false) where
+    (has : any (λ g. g ≟ f) (defined_families L) ≡ true) (free : address_taken L f ≡ false) where
   abbrev preds : List (List ℕ)
   preds = preds_of (length L) r l₀
 
@@ -112,7 +112,7 @@ module _ (L : List Line) (ds : List ℕ) (D : Defs L ds) (k : ℕ) (h : k < leng
   unfolding family_sweeps
   family_count = rw (lines_are, free)
 
-  pub family_keys : 0 < length L → is ≡ read_lines L (family_name L k) → any (λ g. g == family_name L k) (defined_families L) ≡ true
+  pub family_keys : 0 < length L → is ≡ read_lines L (family_name L k) → any (λ g. g ≟ family_name L k) (defined_families L) ≡ true
       → LineNumbers n r F.w F.nums l₀ l is own read → (i j : ℕ)
       → cond (defines_at L (family_name L k) i && eqb j 0) (get_or own i 0) (get_or read i 0) ≡ key (webs_over L (preds_of n r l₀)) (family_name L k) i j
   family_keys pos reads has M i j = go n size F.numbered lines_are M

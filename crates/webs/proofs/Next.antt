@@ -14,7 +14,7 @@ use native.Mathlib.Omega.{arith}
 use lib.Dec.{eqb}
 use borrow.Author.Tests.{eq-eqb, ne_eqb, eqb-true, lt-leb}
 use lib.ListN.{length, get_or}
-use Rattle.definitions.specs.Lists.{any, up_to, ◌==◌}
+use Rattle.definitions.specs.Lists.{any, up_to, ◌≟◌}
 use Rattle.definitions.specs.Model.{Line, no_token, token, line}
 use Rattle.definitions.specs.Family.{Family, fam_of, names}
 use Rattle.definitions.specs.Columns.{token_list, listing}
@@ -22,7 +22,7 @@ use Rattle.definitions.specs.Recover.{Webs, defined_families, address_taken, key
 use Rattle.definitions.specs.Demand3.{defines_at}
 use Rattle.definitions.specs.Answers.{no_family, per_token, mark}
 use Rattle.theory.proofs.Bools.{clash, same_test}
-use Rattle.theory.proofs.ListLaws.{==-true, ==-self}
+use Rattle.theory.proofs.ListLaws.{≟_true, ≟_self}
 use Rattle.theory.proofs.Tokens.{token_inside}
 use Rattle.theory.proofs.Lines.{line_defines, defines_first}
 use Rattle.model.specs.Places.{line_start}
@@ -66,12 +66,12 @@ module _ (l t x : List ℕ) (B : Bounds l t) (preds : List (List ℕ)) (k : ℕ)
     words = λ p b n. at p n (token_place l t x B.ok p b);
   }
     where
-      waits : (i j : ℕ) (o : Option Family) → (elim o [ none ↦ false | some y ↦ y.name == f ]) ≡ true
+      waits : (i j : ℕ) (o : Option Family) → (elim o [ none ↦ false | some y ↦ y.name ≟ f ]) ≡ true
           → of_family no_family (number_after l t x ws k) o i j ≡ chain_word (place_line l (line_start l i + j)) (next_place f (token_list t x) (line_start l i + j + 1))
       waits i j none n = clash n refl
       waits i j (some y) n =
-          let z = eqb-true (place (defined_families L) f) (k + 1) (place_is L k h f ∙ ==-self f) in
-          rw (==-true y.name f n, z, lt-leb (k + 1) k (omega arith), ne_eqb (k + 1) 0 (λ z. omega arith))
+          let z = eqb-true (place (defined_families L) f) (k + 1) (place_is L k h f ∙ ≟_self f) in
+          rw (≟_true y.name f n, z, lt-leb (k + 1) k (omega arith), ne_eqb (k + 1) 0 (λ z. omega arith))
 
       at : (p : ℕ) → names f (get_or (token_list t x) p no_token) ≡ true → ((i : ℕ) × (j : ℕ) × (i < length l) × (j < length (line L i).tokens) × (p ≡ line_start l i + j))
           → get_or ns p 0 ≡ chain_word (place_line l p) (next_place f (token_list t x) (p + 1))
@@ -94,26 +94,26 @@ module _ (l t x : List ℕ) (B : Bounds l t) (preds : List (List ℕ)) (k : ℕ)
         own_is : (i j : ℕ) → i < length l → cond (own_place l ds k i (line_start l i + j)) (get_or own i 0) (get_or read i 0) ≡ key ws f i j
         own_is i j b = rw (first_is (line_start l i) j, defines_place L ds D k h i (rw length_listing b)) (keys i j)
 
-        pick : (g : List ℕ) (b : Bool) → (g == f) ≡ b → (i j : ℕ) → cond b (key ws f i j) (number_after l t x ws k g i j) ≡ cond b (key ws g i j) (number_after l t x ws k g i j)
-        pick g true e i j = ap (λ (f : List ℕ). key ws f i j) (sym (==-true g f e))
+        pick : (g : List ℕ) (b : Bool) → (g ≟ f) ≡ b → (i j : ℕ) → cond b (key ws f i j) (number_after l t x ws k g i j) ≡ cond b (key ws g i j) (number_after l t x ws k g i j)
+        pick g true e i j = ap (λ (f : List ℕ). key ws f i j) (sym (≟_true g f e))
         pick g false e i j = refl
 
-        go : (o : Option Family) (i j : ℕ) → cond (elim o [ none ↦ false | some y ↦ y.name == f ]) (key ws f i j) (of_family no_family (number_after l t x ws k) o i j) ≡ of_family no_family (number_after l t x ws (k + 1)) o i j
+        go : (o : Option Family) (i j : ℕ) → cond (elim o [ none ↦ false | some y ↦ y.name ≟ f ]) (key ws f i j) (of_family no_family (number_after l t x ws k) o i j) ≡ of_family no_family (number_after l t x ws (k + 1)) o i j
         go none i j = refl
-        go (some y) i j = rw (number_next l t x preds k h y.name i j) (pick y.name (y.name == f) refl i j)
+        go (some y) i j = rw (number_next l t x preds k h y.name i j) (pick y.name (y.name ≟ f) refl i j)
 
   -- Marks
 
   pub marks_taken : address_taken L f ≡ true → (ms : List ℕ) → ms ≡ marks k → ms ≡ marks (k + 1)
-  marks_taken a ms e = e ∙ ap (λ (g : List ℕ → ℕ → ℕ → ℕ). per_token 0 g L) (fun_ext (λ g. fun_ext (λ i. fun_ext (λ j. sym (mark_next l t x preds k h g i j ∙ go g i j (g == f) refl)))))
+  marks_taken a ms e = e ∙ ap (λ (g : List ℕ → ℕ → ℕ → ℕ). per_token 0 g L) (fun_ext (λ g. fun_ext (λ i. fun_ext (λ j. sym (mark_next l t x preds k h g i j ∙ go g i j (g ≟ f) refl)))))
     where
-      go : (g : List ℕ) (i j : ℕ) (b : Bool) → (g == f) ≡ b → cond b (mark (eqb j 0 && is_def ws g i)) (mark_after L ws k g i j) ≡ mark_after L ws k g i j
+      go : (g : List ℕ) (i j : ℕ) (b : Bool) → (g ≟ f) ≡ b → cond b (mark (eqb j 0 && is_def ws g i)) (mark_after L ws k g i j) ≡ mark_after L ws k g i j
       go g i j true q =
-          let z = ==-true g f q in
-          rw z (rw (def_none L preds f (inr a) i, and-false (eqb j 0)) (sym (mark_new l t x preds k h f i j (==-self f))))
+          let z = ≟_true g f q in
+          rw z (rw (def_none L preds f (inr a) i, and-false (eqb j 0)) (sym (mark_new l t x preds k h f i j (≟_self f))))
       go g i j false q = refl
 
-  module _ (ds : List ℕ) (D : Defs L ds) (has : any (λ g. g == f) (defined_families L) ≡ true) (free : address_taken L f ≡ false) where
+  module _ (ds : List ℕ) (D : Defs L ds) (has : any (λ g. g ≟ f) (defined_families L) ≡ true) (free : address_taken L f ≡ false) where
     defined_token : (i : ℕ) → defines_at L f i ≡ true → (y : Family) × (fam_of (token (line L i) 0) ≡ some y) × (y.name ≡ f)
     defined_token i e = defines_first (line L i) f (line_defines L f i e)
 
@@ -134,12 +134,12 @@ module _ (l t x : List ℕ) (B : Bounds l t) (preds : List (List ℕ)) (k : ℕ)
         -- a token of any family that the line does not define here
         other : (i j : ℕ) → (eqb j 0 && defines_at L f i) ≡ false → (o : Option Family) → of_family 0 (mark_after L ws k) o i j ≡ of_family 0 (mark_after L ws (k + 1)) o i j
         other i j n none = refl
-        other i j n (some y) = sym (mark_next l t x preds k h y.name i j ∙ pick (y.name == f) refl)
+        other i j n (some y) = sym (mark_next l t x preds k h y.name i j ∙ pick (y.name ≟ f) refl)
           where
-            pick : (b : Bool) → (y.name == f) ≡ b → cond b (mark (eqb j 0 && is_def ws y.name i)) (mark_after L ws k y.name i j) ≡ mark_after L ws k y.name i j
+            pick : (b : Bool) → (y.name ≟ f) ≡ b → cond b (mark (eqb j 0 && is_def ws y.name i)) (mark_after L ws k y.name i j) ≡ mark_after L ws k y.name i j
             pick true q =
-                let z = ==-true y.name f q in
-                rw z (rw (def_of L preds f has free i, n) (sym (mark_new l t x preds k h f i j (==-self f))))
+                let z = ≟_true y.name f q in
+                rw z (rw (def_of L preds f has free i, n) (sym (mark_new l t x preds k h f i j (≟_self f))))
             pick false q = refl
 
         go : (i j : ℕ) (d : Bool) → defines_at L f i ≡ d → (z : Bool) → eqb j 0 ≡ z → (o : Option Family) → fam_of (token (line L i) j) ≡ o
@@ -147,6 +147,6 @@ module _ (l t x : List ℕ) (B : Bounds l t) (preds : List (List ℕ)) (k : ℕ)
         go i j true e true q o s =
             let y = defined_token i e in
             let w : o ≡ some y.0 = sym s ∙ ap (λ (m : ℕ). fam_of (token (line L i) m)) (eqb-true j 0 q) ∙ y.1 in
-            rw w (sym (mark_next l t x preds k h y.0.name i j ∙ rw (y.2, ==-self f, q, def_of L preds f has free i, e)))
+            rw w (sym (mark_next l t x preds k h y.0.name i j ∙ rw (y.2, ≟_self f, q, def_of L preds f has free i, e)))
         go i j true e false q o s = other i j (rw q) o
         go i j false e z q o s = other i j (rw (e, and-false (eqb j 0))) o

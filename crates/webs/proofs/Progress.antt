@@ -14,14 +14,14 @@ use native.Mathlib.Omega.{arith}
 use lib.Dec.{eqb, leb}
 use borrow.Author.Tests.{eqb-true, eq-eqb, ne_eqb, le-leb, lt-leb}
 use lib.ListN.{length}
-use Rattle.definitions.specs.Lists.{any, filter, find, member, ◌==◌}
+use Rattle.definitions.specs.Lists.{any, filter, find, member, ◌≟◌}
 use Rattle.definitions.specs.Model.{Line}
 use Rattle.definitions.specs.Columns.{listing}
 use Rattle.definitions.specs.Recover.{Webs, webs_of, webs_for, address_taken, defined_families, key, is_def, web_number, read_number}
 use Rattle.definitions.specs.Demand3.{defines_at, reads_at}
 use Rattle.definitions.specs.Answers.{mark}
 use Rattle.theory.proofs.Bools.{lt_or_ge}
-use Rattle.theory.proofs.ListLaws.{any_filter, ==-true}
+use Rattle.theory.proofs.ListLaws.{any_filter, ≟_true}
 use Rattle.families.specs.Families.{place}
 use Rattle.families.specs.Tokens.{family_name}
 use Rattle.families.proofs.Numbered.{place_cases}
@@ -32,7 +32,7 @@ use Rattle.webs.specs.Progress.{webs_over, waiting_at, number_after, mark_after}
 -- The webs of a family among all
 
 abbrev is : List ℕ → List ℕ → Bool
-is f g = g == f
+is f g = g ≟ f
 
 abbrev has_webs : List Line → List ℕ → Bool
 has_webs L f = any (is f) (defined_families L) && not (address_taken L f)
@@ -41,12 +41,12 @@ webs_for_map : (L : List Line) (preds : List (List ℕ)) (f : List ℕ) (fs : Li
     → webs_for (map (webs_of L preds) fs) f ≡ cond (any (is f) fs) (some (webs_of L preds f)) none
 unfolding find any webs_of
 webs_for_map L preds f [] = refl
-webs_for_map L preds f (g ∷ gs) = go (g == f) refl (webs_for_map L preds f gs)
+webs_for_map L preds f (g ∷ gs) = go (g ≟ f) refl (webs_for_map L preds f gs)
   where
-    go : (b : Bool) → g == f ≡ b → webs_for (map (webs_of L preds) gs) f ≡ cond (any (is f) gs) (some (webs_of L preds f)) none
+    go : (b : Bool) → g ≟ f ≡ b → webs_for (map (webs_of L preds) gs) f ≡ cond (any (is f) gs) (some (webs_of L preds f)) none
         → cond b (some (webs_of L preds g)) (webs_for (map (webs_of L preds) gs) f)
         ≡ cond (b || any (is f) gs) (some (webs_of L preds f)) none
-    go true q e = ap (λ (h : List ℕ). some (webs_of L preds h)) (==-true g f q)
+    go true q e = ap (λ (h : List ℕ). some (webs_of L preds h)) (≟_true g f q)
     go false q e = e
 
 pub webs_for_over : (L : List Line) (preds : List (List ℕ)) (f : List ℕ)
@@ -54,7 +54,7 @@ pub webs_for_over : (L : List Line) (preds : List (List ℕ)) (f : List ℕ)
 webs_for_over L preds f =
     webs_for_map L preds f (filter (λ f. not (address_taken L f)) (defined_families L))
     ∙ ap (λ (b : Bool). cond b (some (webs_of L preds f)) none)
-    (any_filter (is f) (λ f. not (address_taken L f)) f (λ g q. sym (==-true g f q)) (defined_families L))
+    (any_filter (is f) (λ f. not (address_taken L f)) f (λ g q. sym (≟_true g f q)) (defined_families L))
 
 module _ (L : List Line) (preds : List (List ℕ)) (f : List ℕ) where
   abbrev key_in : Option Webs → ℕ → ℕ → ℕ
@@ -132,7 +132,7 @@ module _ (l t x : List ℕ) (preds : List (List ℕ)) where
   number_end k h = fun_ext (λ f. fun_ext (λ i. fun_ext (λ j. rw (le-leb (place fs f) k (omega (arith, place_most fs f))))))
 
   module _ (k : ℕ) (h : k < length fs) (g : List ℕ) (i j : ℕ) where
-    pub number_next : number_after l t x ws (k + 1) g i j ≡ cond (g == family_name L k) (key ws g i j) (number_after l t x ws k g i j)
+    pub number_next : number_after l t x ws (k + 1) g i j ≡ cond (g ≟ family_name L k) (key ws g i j) (number_after l t x ws k g i j)
     unfolding number_after
     number_next = rw (← (place_is L k h g)) (one_more (place fs g) k (key ws g i j) (waiting_at l t x g i j))
 
@@ -151,10 +151,10 @@ module _ (l t x : List ℕ) (preds : List (List ℕ)) where
 
   module _ (k : ℕ) (h : k < length fs) (g : List ℕ) (i j : ℕ) where
     -- the family that is next has no mark yet
-    pub mark_next : mark_after L ws (k + 1) g i j ≡ cond (g == family_name L k) (mark (eqb j 0 && is_def ws g i)) (mark_after L ws k g i j)
+    pub mark_next : mark_after L ws (k + 1) g i j ≡ cond (g ≟ family_name L k) (mark (eqb j 0 && is_def ws g i)) (mark_after L ws k g i j)
     unfolding mark_after
     mark_next = rw (← (place_is L k h g)) (one_more (place fs g) k (mark (eqb j 0 && is_def ws g i)) 0)
 
-    pub mark_new : (g == family_name L k) ≡ true → mark_after L ws k g i j ≡ 0
+    pub mark_new : (g ≟ family_name L k) ≡ true → mark_after L ws k g i j ≡ 0
     unfolding mark_after
     mark_new e = let q = eqb-true (place fs g) (k + 1) (place_is L k h g ∙ e) in rw (lt-leb (place fs g) k (omega arith))

@@ -13,7 +13,7 @@ use native.Mathlib.Omega.{arith}
 use lib.Dec.{eqb}
 use borrow.Author.Tests.{le-leb}
 use lib.ListN.{length, get_or}
-use Rattle.definitions.specs.Lists.{any, ◌==◌}
+use Rattle.definitions.specs.Lists.{any, ◌≟◌}
 use Rattle.definitions.specs.Model.{Line}
 use Rattle.definitions.specs.Columns.{listing}
 use Rattle.definitions.specs.Recover.{read_lines, address_taken, defined_families, key}
@@ -59,7 +59,7 @@ module _ (l t x table first ds : List ℕ) (count r k : ℕ) (K : Known l t x ta
   pos : 0 < length L
   pos = omega (arith, length_listing l t x, K.some)
 
-  has : any (λ g. g == f) (defined_families L) ≡ true
+  has : any (λ g. g ≟ f) (defined_families L) ≡ true
   has = elim (place_cases (defined_families L) f) [
     | inl p ↦ absurd (omega (arith, p.0, place_here (defined_families L) f k (unique_families L) inside refl))
     | inr p ↦ p.4

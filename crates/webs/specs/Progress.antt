@@ -7,9 +7,9 @@
 --   sweeps_before L preds k     the sweeps of the first k families together
 --   Drawn L n r l               the words l hold the flow graph of the listing L
 -- Assumes nothing.
-use Rattle.std.specs.Prelude.{ℕ, ◌+◌, ◌≡◌, ◌&&◌, not, List, map, eqb, leb, take}
+use Rattle.std.specs.Prelude.{if◌then◌else◌, ℕ, ◌+◌, ◌≡◌, ◌&&◌, not, List, map, eqb, leb, take}
 use Rattle.std.proofs.Math.Option.{some}
-use Rattle.definitions.specs.Lists.{if◌then◌else◌, filter, up_to}
+use Rattle.definitions.specs.Lists.{filter, up_to}
 use Rattle.definitions.specs.Model.{Line}
 use Rattle.definitions.specs.Columns.{token_list, listing}
 use Rattle.definitions.specs.FlowGraph.{flow_graph, predecessors}

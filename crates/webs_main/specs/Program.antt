@@ -5,8 +5,7 @@
 --   read_text p            what it prints of the reader's answer p
 --   program s              what it prints on the input s: at most 32,768 bytes are taken
 -- Assumes nothing.
-use Rattle.std.specs.Prelude.{ℕ, List, ltb, length, replicate, take}
-use Rattle.definitions.specs.Lists.{if◌then◌else◌}
+use Rattle.std.specs.Prelude.{if◌then◌else◌, ℕ, List, ltb, length, replicate, take}
 use Rattle.definitions.specs.Answers.{refused, accepted}
 use Rattle.definitions.specs.Calls.{Columns, Passed, Lent, Called, web_call}
 use Rattle.json_definitions.specs.JsonCalls.{read_call}

@@ -10,6 +10,7 @@
 --   finished                                    zeros behind the cursor
 --   steps                                       the rules
 -- Assumes nothing.
+use Rattle.std.specs.Prelude.{if◌then◌else◌}
 use mathlib.Core.Path.{◌≡◌, refl, sym, ap, subst, ◌∙◌}
 use mathlib.Core.Bool.{Bool, true, false}
 use mathlib.Core.List.{List, [], ◌∷◌, ◌++◌, append-nil, append_assoc}
@@ -18,7 +19,7 @@ use Prim.Native.Nat.{ℕ, ◌+◌, ◌-◌, ◌*◌, ◌≤◌, ◌<◌}
 use native.Mathlib.Nat.{zero-add}
 use native.Mathlib.Omega.{arith}
 use lib.ListN.{length, take, set, length-append, length-set}
-use Rattle.definitions.specs.Lists.{if◌then◌else◌, is_some, or_else, last, concat}
+use Rattle.definitions.specs.Lists.{is_some, or_else, last, concat}
 use Rattle.definitions.specs.Model.{Token, Line, tok, pseudo_line, text}
 use Rattle.definitions.specs.Columns.{line_words_from, token_words_from, all_tokens, text_bytes}
 use Rattle.definitions.specs.Statements.{joins}

@@ -6,6 +6,7 @@
 --   copied_start, copied_next, copied_end               bytes copied behind it: none yet, one more, all
 --   filled_within                                       what is filled lies within the column
 -- Assumes nothing.
+use Rattle.std.specs.Prelude.{if◌then◌else◌}
 use mathlib.Core.Path.{◌≡◌, refl, sym, ap, ◌∙◌}
 use mathlib.Core.List.{List, [], ◌∷◌, ◌++◌, append-nil, append_assoc, map-append}
 use Prim.Native.Nat.{ℕ, suc, ◌+◌, ◌-◌, ◌*◌, ◌≤◌, ◌<◌}
@@ -13,7 +14,7 @@ use native.Mathlib.Numerals.{add-one}
 use native.Mathlib.Omega.{arith}
 use lib.ListN.{length, take, get_or, set, length-append, length-take}
 use lib.Seq.{take-suc, take-suc-set, take-take, take_at, take_all, length-take-le}
-use Rattle.definitions.specs.Lists.{if◌then◌else◌, is_some, or_else, concat}
+use Rattle.definitions.specs.Lists.{is_some, or_else, concat}
 use Rattle.definitions.specs.Model.{Token, Line, text}
 use Rattle.definitions.specs.Columns.{line_words_from, token_words_from, all_tokens, address_words}
 use Rattle.write.specs.Holds.{Filled}

@@ -9,8 +9,8 @@
 
 #![tactic(auto)]
 
-ghost use Rattle.std.specs.Prelude.{◌≡◌, true, List, [], ◌++◌, ℕ, ◌+◌, ◌<◌, ◌≤◌, length, take};
-ghost use Rattle.definitions.specs.Lists.{is_some, or_else, if◌then◌else◌};
+ghost use Rattle.std.specs.Prelude.{if◌then◌else◌, ◌≡◌, true, List, [], ◌++◌, ℕ, ◌+◌, ◌<◌, ◌≤◌, length, take};
+ghost use Rattle.definitions.specs.Lists.{is_some, or_else};
 ghost use Rattle.definitions.specs.Model.{Line};
 ghost use Rattle.model.specs.Addresses.{address};
 ghost use Rattle.write.specs.State.{State, add_bytes, end_token, end_merged, add_token, add_merged, end_line, done, kinds_join};

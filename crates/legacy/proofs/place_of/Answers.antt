@@ -1,5 +1,5 @@
 -- `legacy::place_of` meets its contract. The entries are right, as is computed. Assumes nothing.
-use Rattle.definitions.specs.Lists.{◌==◌, all, range, concat}
+use Rattle.definitions.specs.Lists.{◌≟◌, all, range, concat}
 use Rattle.definitions.specs.Family.{legacy}
 use Rattle.legacy.specs.Table.{all_names, hash}
 use Rattle.legacy.proofs.Table.{place_start, place_least, place_only}
@@ -11,5 +11,5 @@ unfolding all range
 overflow_sub-result c = search (place_start, rules)
 
 pub returns : goal.returns
-unfolding all range ◌==◌ concat legacy all_names hash
+unfolding all range ◌≟◌ concat legacy all_names hash
 returns c = (search (place_least, rules), λ q g f. search (place_only, rules))

@@ -3,11 +3,11 @@
 use mathlib.Core.Path.{◌≡◌}
 use Prim.Native.Nat.{◌-◌, ◌≤◌}
 use lib.ListN.{length, drop}
-use Rattle.definitions.specs.Lists.{◌==◌}
+use Rattle.definitions.specs.Lists.{◌≟◌}
 use Rattle.text.proofs.equal.Given as goal
 
 abbrev pub invariant-loop-i : goal.invariant-loop-i
-invariant-loop-i l = (l.i ≤ length l.a) × ((l.a == l.b) ≡ (drop l.i l.a == drop l.i l.b))
+invariant-loop-i l = (l.i ≤ length l.a) × ((l.a ≟ l.b) ≡ (drop l.i l.a ≟ drop l.i l.b))
 
 abbrev pub decreases-loop-i : goal.decreases-loop-i
 decreases-loop-i l = length l.a - l.i

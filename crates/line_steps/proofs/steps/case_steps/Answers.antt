@@ -1,8 +1,9 @@
+use Rattle.std.specs.Prelude.{if◌then◌else◌}
 use Prim.Native.Nat.{◌+◌, ◌-◌}
 use mathlib.Core.List.{◌∷◌}
 use mathlib.Core.Path.{refl, ◌∙◌}
 use lib.ListN.{length}
-use Rattle.definitions.specs.Lists.{if◌then◌else◌, filter, range}
+use Rattle.definitions.specs.Lists.{filter, range}
 use Rattle.definitions.specs.FlowGraph.{is_case}
 use Rattle.definitions.specs.Columns.{listing}
 use Rattle.definitions.specs.Model.{line}
