@@ -32,7 +32,7 @@ unfoldable pub legacy_family : List (List (List ℕ)) → List ℕ → Option Fa
 legacy_family [] s = none
 legacy_family (row ∷ rows) s =
     let later = legacy_family rows s in
-    elim (position (s ==◌) row) [
+    elim (position (s ≟◌) row) [
       | none ↦ later
       | some column ↦ some (record { name = get_or row 0 []; width = get_or widths column 0 })
     ]

@@ -61,7 +61,7 @@ module _ (C : List Line) (w : ℕ) (is : is_label (line_of C w) ≡ true) where
       ap (λ ts. (get_or ts 0 no_token).text) (sym (no_header_line C w (header_at w) refl no_header ∙ kept_piece C (piece_at w) whole_line))
 
 pub names_at : (C : List Line) (i k : ℕ) (x s : List ℕ) (r : Bool) → k ≡ i → x ≡ (token (line C k) 0).text → r ≡ (x ≟ s) → r ≡ names C s i
-names_at C i k x s r e q g = g ∙ ap (◌== s) (q ∙ ap (λ j. (token (line C j) 0).text) e)
+names_at C i k x s r e q g = g ∙ ap (◌≟ s) (q ∙ ap (λ j. (token (line C j) 0).text) e)
 
 -- The labels listed
 
@@ -178,7 +178,7 @@ named C t (w ∷ ws) = go (is_label (line_of C w)) refl (named C t ws)
     go : (b : Bool) → is_label (line_of C w) ≡ b → any (λ l. label l ≟ t) (filter is_label (map (line_of C) ws)) ≡ any (names C t) (labels C ws)
         → any (λ l. label l ≟ t) (cond b (line_of C w ∷ filter is_label (map (line_of C) ws)) (filter is_label (map (line_of C) ws)))
         ≡ any (names C t) (map source (cond b (w ∷ filter (λ w. is_label (line_of C w)) ws) (filter (λ w. is_label (line_of C w)) ws)))
-    go true is e = ap₂ ◌||◌ (ap (◌== t) (sym (label_text C w is))) e
+    go true is e = ap₂ ◌||◌ (ap (◌≟ t) (sym (label_text C w is))) e
     go false is e = e
 
 module _ (ws : List ℕ) (n : ℕ) (fit : n ≤ length ws) where
@@ -212,7 +212,7 @@ module _ (ws : List ℕ) (n : ℕ) (fit : n ≤ length ws) where
           let between : part (h + 1) b (render C (take n ws)) ≡ map (line_of C) (part (h + 1) b ws) =
           sym (map_part (line_of C) (h + 1) b (take n ws)) ∙ ap (map (line_of C)) (part_taken (h + 1) b (omega arith)) in
           let head : (t ≟ label (line (render C (take n ws)) h)) ≡ names C t (piece_at (get_or ws h 0) / 4) =
-          ap (t ==◌) (ap label (line_at C ws n h (omega arith) fit) ∙ sym (label_text C (get_or ws h 0) is)) ∙ ≟_sym t _ in
+          ap (t ≟◌) (ap label (line_at C ws n h (omega arith) fit) ∙ sym (label_text C (get_or ws h 0) is)) ∙ ≟_sym t _ in
           ap₂ ◌||◌ head (ap (λ M. any (λ l. label l ≟ t) (filter is_label M)) between ∙ named C t (part (h + 1) b ws))
           ∙ sym (ap (λ vs. any (names C t) (labels C vs)) (part_step 0 ws h b hb (omega arith)) ∙ rw is)
 

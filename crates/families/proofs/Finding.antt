@@ -91,7 +91,7 @@ distinct_unique (f ∷ fs) = cons_unique f rest (filter_unique (λ g. not (g ≟
 
     apart : (k : ℕ) → k < length rest → f ≡ get_or rest k [] → ⊥
     apart k h e =
-        let q : (get_or rest k [] ≟ f) ≡ true = ap (◌== f) (sym e) ∙ ≟_self f in
+        let q : (get_or rest k [] ≟ f) ≡ true = ap (◌≟ f) (sym e) ∙ ≟_self f in
         false≢true (sym (ap not q) ∙ filter_elements (λ g. not (g ≟ f)) (distinct fs) k h)
 
 pub unique_families : (L : List Line) → Unique (defined_families L)

@@ -441,7 +441,7 @@ module _ (L : List Line) (i count : ℕ) (t : List ℕ) (R : Ready L i count t) 
                   place = rw n (add-one count ∙ sym (place_here (defined_families L) x.name count (unique_families L) inside at_count));
                   families = v ∙ sym size;
                   table = rw (v, A.table) (table_added L count t R.table x.name i A.row (omega (arith, R.room, R.small, R.inside)) at_count inside n
-                      (λ j l. sym (ap (named (◌== row_name j)) k) ∙ A.row_is j l) A.hash A.hash_low vh);
+                      (λ j l. sym (ap (named (◌≟ row_name j)) k) ∙ A.row_is j l) A.hash A.hash_low vh);
                   small = omega (arith, R.small);
                 })
           ]
@@ -557,7 +557,7 @@ module _ (t : List ℕ) (i c : ℕ) where
   kept_behind h = rw (le-ltb i 8 h)
 
 pub added_line : (l : Line) (count i h k : ℕ) (r : Register) (s t₀ t₁ t : List ℕ) → s ≡ (token l 0).text → h ≡ hash_of (multiplier t₀) (family_of s r) → h < 247
-    → ((j : ℕ) → j < 8 → named (◌== row_name j) (family_of s r) ≡ eqb k j) → t₁ ≡ kept t₀ k (count + 1) → t ≡ added t₁ count i h → Added l count i r t₀ t
+    → ((j : ℕ) → j < 8 → named (◌≟ row_name j) (family_of s r) ≡ eqb k j) → t₁ ≡ kept t₀ k (count + 1) → t ≡ added t₁ count i h → Added l count i r t₀ t
 added_line l count i h k r s t₀ t₁ t w a b n c d = record {
   hash = h;
   hash_is = a ∙ ap (λ (s : List ℕ). hash_of (multiplier t₀) (family_of s r)) w;

@@ -105,7 +105,7 @@ pub record Added (l : Line) (count i : ℕ) (r : Register) (t₀ t : List ℕ) :
   pub hash_is : hash ≡ hash_of (multiplier t₀) (family_of (token l 0).text r)
   pub hash_low : hash < 247
   pub row : ℕ
-  pub row_is : (j : ℕ) → j < 8 → named (◌== row_name j) (family_of (token l 0).text r) ≡ eqb row j
+  pub row_is : (j : ℕ) → j < 8 → named (◌≟ row_name j) (family_of (token l 0).text r) ≡ eqb row j
   pub table : t ≡ added (kept t₀ row (count + 1)) count i hash
 
 -- the name of the family that line l defines if its token 0 is the register r

@@ -220,13 +220,13 @@ named_nowhere x k inv h i g = inv i (omega arith) ∙ sym (ne_eqb 8 i (λ q. ome
 
 module _ (s : List ℕ) (r : Register) (k : ℕ) (e : k ≡ row r) where
   module _ (i : ℕ) (g : i < 8) where
-    pub row_is : k < 8 → named (◌== row_name i) (family_of s r) ≡ eqb k i
-    row_is h = named_by (◌== row_name i) (family_of s r) (row_name k) (at_row s r k e h) ∙ rows_differ k h i g
+    pub row_is : k < 8 → named (◌≟ row_name i) (family_of s r) ≡ eqb k i
+    row_is h = named_by (◌≟ row_name i) (family_of s r) (row_name k) (at_row s r k e h) ∙ rows_differ k h i g
 
-    pub row_text : (x : List ℕ) (j : ℕ) → k ≡ 8 → x ≡ own_name s r → ((i : ℕ) → i < 8 → (x ≟ row_name i) ≡ eqb j i) → named (◌== row_name i) (family_of s r) ≡ eqb j i
-    row_text x j h q f = named_by (◌== row_name i) (family_of s r) x (at_text s r k e x h q) ∙ f i g
+    pub row_text : (x : List ℕ) (j : ℕ) → k ≡ 8 → x ≡ own_name s r → ((i : ℕ) → i < 8 → (x ≟ row_name i) ≡ eqb j i) → named (◌≟ row_name i) (family_of s r) ≡ eqb j i
+    row_text x j h q f = named_by (◌≟ row_name i) (family_of s r) x (at_text s r k e x h q) ∙ f i g
 
-    pub row_none : 8 ≤ k → (k ≡ 8 → ⊥) → named (◌== row_name i) (family_of s r) ≡ eqb 8 i
+    pub row_none : 8 ≤ k → (k ≡ 8 → ⊥) → named (◌≟ row_name i) (family_of s r) ≡ eqb 8 i
     row_none h n = rw (at_none s r k e h n) (sym (ne_eqb 8 i (λ q. omega arith)))
 
 -- `is_var`

@@ -57,11 +57,11 @@ high_family k h =
     same_eq (family_of [] (Legacy k 8)) (family (name_at (32 + k)))
     (below (λ k. same (family_of [] (Legacy k 8)) (family (name_at (32 + k)))) 4 k refl h)
 
-module _ (s : List ℕ) (p : ℕ) (e : found 36 p ≡ position (s ==◌) all_names) where
+module _ (s : List ℕ) (p : ℕ) (e : found 36 p ≡ position (s ≟◌) all_names) where
   is_name : p < 36 → s ≡ name_at p
   is_name h =
-      let q : position (s ==◌) all_names ≡ some p = sym e ∙ rw (lt-ltb p 36 h) in
-      ≟_eq s (name_at p) (position_at (s ==◌) [] all_names p q).1
+      let q : position (s ≟◌) all_names ≡ some p = sym e ∙ rw (lt-ltb p 36 h) in
+      ≟_eq s (name_at p) (position_at (s ≟◌) [] all_names p q).1
 
   pub family_row : (w : ℕ) → w ≡ get_or widths (p % 4) 0 → p < 32 → family_of s (Legacy (p / 4) w) ≡ family s
   family_row w e h = rw e (row_family p h ∙ ap family (sym (is_name (omega arith))))
@@ -94,31 +94,31 @@ none_append p (x ∷ xs) ys e =
     let z = none_append p xs ys y.1 in
     (rw (y.0, z.0), z.1)
 
-legacy_none : (s : List ℕ) (rows : List (List (List ℕ))) → position (s ==◌) (concat rows) ≡ none → legacy_family rows s ≡ none
+legacy_none : (s : List ℕ) (rows : List (List (List ℕ))) → position (s ≟◌) (concat rows) ≡ none → legacy_family rows s ≡ none
 unfolding concat legacy_family
 legacy_none s [] e = refl
 legacy_none s (row ∷ rows) e =
-    let y = none_append (s ==◌) row (concat rows) e in
+    let y = none_append (s ≟◌) row (concat rows) e in
     rw (y.0, legacy_family) (legacy_none s rows y.1)
 
-high_none : (s : List ℕ) → position (s ==◌) (ascii "ah" ∷ ascii "bh" ∷ ascii "ch" ∷ ascii "dh" ∷ []) ≡ none → is_high s ≡ false
+high_none : (s : List ℕ) → position (s ≟◌) (ascii "ah" ∷ ascii "bh" ∷ ascii "ch" ∷ ascii "dh" ∷ []) ≡ none → is_high s ≡ false
 high_none s e =
-    let a = position_none (s ==◌) (ascii "ah") (ascii "bh" ∷ ascii "ch" ∷ ascii "dh" ∷ []) e in
-    let b = position_none (s ==◌) (ascii "bh") (ascii "ch" ∷ ascii "dh" ∷ []) a.1 in
-    let c = position_none (s ==◌) (ascii "ch") (ascii "dh" ∷ []) b.1 in
-    let d = position_none (s ==◌) (ascii "dh") [] c.1 in
+    let a = position_none (s ≟◌) (ascii "ah") (ascii "bh" ∷ ascii "ch" ∷ ascii "dh" ∷ []) e in
+    let b = position_none (s ≟◌) (ascii "bh") (ascii "ch" ∷ ascii "dh" ∷ []) a.1 in
+    let c = position_none (s ≟◌) (ascii "ch") (ascii "dh" ∷ []) b.1 in
+    let d = position_none (s ≟◌) (ascii "dh") [] c.1 in
     rw (a.0, b.0, c.0, d.0)
 
 family_rest : (s : List ℕ) → legacy_family legacy s ≡ none → is_high s ≡ false → family s ≡ rest_family s
 unfolding family other_family
 family_rest s e f = rw (e, family, f)
 
-pub family_other : (s : List ℕ) (p : ℕ) → found 36 p ≡ position (s ==◌) all_names → 36 ≤ p → (r : Register)
+pub family_other : (s : List ℕ) (p : ℕ) → found 36 p ≡ position (s ≟◌) all_names → 36 ≤ p → (r : Register)
     → family_of s r ≡ rest_family s → family_of s r ≡ family s
 unfolding all_names
 family_other s p e h r q =
-    let z : position (s ==◌) all_names ≡ none = sym e ∙ rw (le-ltb p 36 h) in
-    let y = none_append (s ==◌) (concat legacy) (ascii "ah" ∷ ascii "bh" ∷ ascii "ch" ∷ ascii "dh" ∷ []) z in
+    let z : position (s ≟◌) all_names ≡ none = sym e ∙ rw (le-ltb p 36 h) in
+    let y = none_append (s ≟◌) (concat legacy) (ascii "ah" ∷ ascii "bh" ∷ ascii "ch" ∷ ascii "dh" ∷ []) z in
     q ∙ sym (family_rest s (legacy_none s legacy y.0) (high_none s y.1))
 
 not_numbered : (p : ℕ) → p < 36 → is_numbered (name_at p) ≡ false
@@ -130,12 +130,12 @@ not_numbered p h = go (is_numbered (name_at p)) (below (λ p. not (is_numbered (
     go false e = refl
 
 pub family_numbered : (s : List ℕ) (n : ℕ) → n ≡ number_end s → 1 < n → (r : Register) → family_of s r ≡ numbered_family s → family_of s r ≡ family s
-family_numbered s n e h r q = family_other s 36 (go (position (s ==◌) all_names) refl) (omega arith) r (other_numbered s n e h r q)
+family_numbered s n e h r q = family_other s 36 (go (position (s ≟◌) all_names) refl) (omega arith) r (other_numbered s n e h r q)
   where
-    go : (o : Option ℕ) → position (s ==◌) all_names ≡ o → none ≡ o
+    go : (o : Option ℕ) → position (s ≟◌) all_names ≡ o → none ≡ o
     go none f = refl
     go (some k) f =
-        let y = position_at (s ==◌) [] all_names k f in
+        let y = position_at (s ≟◌) [] all_names k f in
         let same : s ≡ name_at k = ≟_eq s (name_at k) y.1 in
         let z : true ≡ false = sym (flag s n e h) ∙ ap is_numbered same ∙ not_numbered k (omega (arith, name_count)) in
         let x : ◌≡◌ {A = ℕ} 0 1 = cc in

@@ -249,7 +249,7 @@ fn row_named(name: &[u8]) -> usize
 
 // The row that has the name of the family, 8 where none has it.
 pub fn row_of(s: &[u8], r: Register) -> usize
-    ensures { (i : ℕ) → i < 8 → named (◌== row_name i) (family_of s.now r) ≡ eqb result i }
+    ensures { (i : ℕ) → i < 8 → named (◌≟ row_name i) (family_of s.now r) ≡ eqb result i }
 {
     let i = row(r);
     if i < 8 {

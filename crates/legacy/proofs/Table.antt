@@ -59,7 +59,7 @@ length_not s t h = sym (≟_length s t h)
 
 module _ (s cell : List ℕ) (r : Bool) (h : length cell ≡ 3) where
   pub letters_two : get_or cell 2 0 ≡ 0 → r ≡ (s ≟ get_or cell 0 0 ∷ get_or cell 1 0 ∷ []) → r ≡ (s ≟ letters cell)
-  letters_two g e = rw (eq-eqb (get_or cell 2 0) 0 g) (e ∙ ap (s ==◌) (two cell h))
+  letters_two g e = rw (eq-eqb (get_or cell 2 0) 0 g) (e ∙ ap (s ≟◌) (two cell h))
     where
       two : (c : List ℕ) → length c ≡ 3 → get_or c 0 0 ∷ get_or c 1 0 ∷ [] ≡ take 2 c
       two [] h = absurd (omega arith)
@@ -67,7 +67,7 @@ module _ (s cell : List ℕ) (r : Bool) (h : length cell ≡ 3) where
       two (x ∷ y ∷ c) h = refl
 
   pub letters_three : (get_or cell 2 0 ≡ 0 → ⊥) → r ≡ (s ≟ get_or cell 0 0 ∷ get_or cell 1 0 ∷ get_or cell 2 0 ∷ []) → r ≡ (s ≟ letters cell)
-  letters_three g e = rw (ne_eqb (get_or cell 2 0) 0 g) (e ∙ ap (s ==◌) (three cell h))
+  letters_three g e = rw (ne_eqb (get_or cell 2 0) 0 g) (e ∙ ap (s ≟◌) (three cell h))
     where
       three : (c : List ℕ) → length c ≡ 3 → get_or c 0 0 ∷ get_or c 1 0 ∷ get_or c 2 0 ∷ [] ≡ c
       three [] h = absurd (omega arith)
@@ -103,12 +103,12 @@ cell_right t d p = letters (get_or t p d) ≟ name_at p
 
 pub cell_is : (t : List (List ℕ)) (d : List ℕ) (p : ℕ) (s : List ℕ) (r : Bool)
     → all (cell_right t d) (up_to 36) ≡ true → p < 36 → r ≡ (s ≟ letters (get_or t p d)) → r ≡ (s ≟ name_at p)
-cell_is t d p s r right h q = q ∙ ap (s ==◌) (≟_eq (letters (get_or t p d)) (name_at p) (below (cell_right t d) 36 p right h))
+cell_is t d p s r right h q = q ∙ ap (s ≟◌) (≟_eq (letters (get_or t p d)) (name_at p) (below (cell_right t d) 36 p right h))
 
 pub first_row : (t : List (List ℕ)) (d : List ℕ) (i : ℕ) (s : List ℕ) (r : Bool)
     → all (λ i. letters (get_or t (4 * i) d) ≟ row_name i) (up_to 8) ≡ true → i < 8 → r ≡ (s ≟ letters (get_or t (4 * i) d)) → r ≡ (s ≟ row_name i)
 first_row t d i s r right h q =
-    q ∙ ap (s ==◌) (≟_eq (letters (get_or t (4 * i) d)) (row_name i) (below (λ i. letters (get_or t (4 * i) d) ≟ row_name i) 8 i right h))
+    q ∙ ap (s ≟◌) (≟_eq (letters (get_or t (4 * i) d)) (row_name i) (below (λ i. letters (get_or t (4 * i) d) ≟ row_name i) 8 i right h))
 
 -- The hashes
 
@@ -152,25 +152,25 @@ unfolding is_some_of
 some_of none k e = let z : ◌≡◌ {A = ℕ} 0 1 = cc in absurd (omega arith)
 some_of (some j) k e = ap some (sym (eqb-true j k e))
 
-own_place : (p : ℕ) → p < 36 → some p ≡ position (name_at p ==◌) all_names
+own_place : (p : ℕ) → p < 36 → some p ≡ position (name_at p ≟◌) all_names
 unfolding all range ◌≟◌ concat legacy all_names position is_some_of
-own_place p h = some_of (position (name_at p ==◌) all_names) p (below (λ p. is_some_of (position (name_at p ==◌) all_names) p) 36 p refl h)
+own_place p h = some_of (position (name_at p ≟◌) all_names) p (below (λ p. is_some_of (position (name_at p ≟◌) all_names) p) 36 p refl h)
 
 pub name_count : length all_names ≡ 36
 unfolding concat legacy all_names
 name_count = refl
 
 module _ (s : List ℕ) (p : ℕ) (b : Bool) (e : b ≡ (s ≟ name_at p)) where
-  pub place_found : p < 36 → b ≡ true → found 36 p ≡ position (s ==◌) all_names
+  pub place_found : p < 36 → b ≡ true → found 36 p ≡ position (s ≟◌) all_names
   place_found h f = rw (lt-ltb p 36 h, ≟_eq s (name_at p) (sym e ∙ f)) (own_place p h)
 
-  pub place_none : (h : ℕ) → h ≡ hash s → ((q : ℕ) → q < 36 → hash (name_at q) ≡ h → p ≡ q) → b ≡ false → found 36 36 ≡ position (s ==◌) all_names
-  place_none h g only f = go (position (s ==◌) all_names) refl
+  pub place_none : (h : ℕ) → h ≡ hash s → ((q : ℕ) → q < 36 → hash (name_at q) ≡ h → p ≡ q) → b ≡ false → found 36 36 ≡ position (s ≟◌) all_names
+  place_none h g only f = go (position (s ≟◌) all_names) refl
     where
-      go : (o : Option ℕ) → position (s ==◌) all_names ≡ o → none ≡ o
+      go : (o : Option ℕ) → position (s ≟◌) all_names ≡ o → none ≡ o
       go none q = refl
       go (some k) q =
-          let y = position_at (s ==◌) [] all_names k q in
+          let y = position_at (s ≟◌) [] all_names k q in
           let same : s ≡ name_at k = ≟_eq s (name_at k) y.1 in
           let z : p ≡ k = only k (omega (arith, name_count)) (sym (g ∙ ap hash same)) in
           let w : (s ≟ name_at p) ≡ true = rw z y.1 in

@@ -99,7 +99,7 @@ fn place_of(h: usize) -> usize
 
 // The place of a name in the table, 36 where it is not there.
 pub fn place(s: &[u8]) -> usize
-    ensures { found 36 result ≡ position (s.now ==◌) all_names }
+    ensures { found 36 result ≡ position (s.now ≟◌) all_names }
 {
     let p = place_of(hash(s));
     if is_at(p, s) {

@@ -92,43 +92,43 @@ any_or f g (t ∷ ts) =
 module _ (L : List Line) (ms : List ℕ) (M : Masks L ms) (m i : ℕ) (e : m ≡ get_or ms i 0) where
   pub mask_goto : eqb (m / 2 % 2) 1 ≡ has_kw (line L i) (ascii "goto")
   unfolding word_bit has_kw
-  mask_goto = rw (e, M.at i) (mask_bit 1 (◌== ascii "goto") refl (λ s. ap (λ (bs : List Bool). get_or bs 0 false) (class_bits s)) (line L i))
+  mask_goto = rw (e, M.at i) (mask_bit 1 (◌≟ ascii "goto") refl (λ s. ap (λ (bs : List Bool). get_or bs 0 false) (class_bits s)) (line L i))
 
   pub mask_else : eqb (m / 4 % 2) 1 ≡ has_kw (line L i) (ascii "else")
   unfolding word_bit has_kw
-  mask_else = rw (e, M.at i) (mask_bit 2 (◌== ascii "else") refl (λ s. ap (λ (bs : List Bool). get_or bs 1 false) (class_bits s)) (line L i))
+  mask_else = rw (e, M.at i) (mask_bit 2 (◌≟ ascii "else") refl (λ s. ap (λ (bs : List Bool). get_or bs 1 false) (class_bits s)) (line L i))
 
   pub mask_loop : eqb (m / 8 % 2) 1 ≡ is_loop (line L i)
   unfolding word_bit has_kw
   mask_loop =
       rw (e, M.at i) (mask_bit 3 (λ s. (s ≟ ascii "while") || (s ≟ ascii "for") || (s ≟ ascii "do")) refl (λ s. ap (λ (bs : List Bool). get_or bs 2 false) (class_bits s)) (line L i))
-      ∙ any_or (λ s. (s ≟ ascii "while") || (s ≟ ascii "for")) (◌== ascii "do") (line L i).tokens
-      ∙ ap (◌|| has_kw (line L i) (ascii "do")) (any_or (◌== ascii "while") (◌== ascii "for") (line L i).tokens)
+      ∙ any_or (λ s. (s ≟ ascii "while") || (s ≟ ascii "for")) (◌≟ ascii "do") (line L i).tokens
+      ∙ ap (◌|| has_kw (line L i) (ascii "do")) (any_or (◌≟ ascii "while") (◌≟ ascii "for") (line L i).tokens)
 
   pub mask_do : eqb (m % 2) 1 ≡ has_kw (line L i) (ascii "do")
   unfolding word_bit has_kw
   mask_do =
       rw (e, M.at i, ← div-one (mask (line L i)))
-      (mask_bit 0 (◌== ascii "do") refl (λ s. ap (λ (bs : List Bool). get_or bs 6 false) (class_bits s)) (line L i))
+      (mask_bit 0 (◌≟ ascii "do") refl (λ s. ap (λ (bs : List Bool). get_or bs 6 false) (class_bits s)) (line L i))
 
   pub mask_switch : eqb (m / 16 % 2) 1 ≡ is_switch (line L i)
   unfolding word_bit has_kw
-  mask_switch = rw (e, M.at i) (mask_bit 4 (◌== ascii "switch") refl (λ s. ap (λ (bs : List Bool). get_or bs 3 false) (class_bits s)) (line L i))
+  mask_switch = rw (e, M.at i) (mask_bit 4 (◌≟ ascii "switch") refl (λ s. ap (λ (bs : List Bool). get_or bs 3 false) (class_bits s)) (line L i))
 
   pub mask_leaves : eqb (m / 32 % 2) 1 ≡ (has_kw (line L i) (ascii "break") || has_kw (line L i) (ascii "continue"))
   unfolding word_bit has_kw
   mask_leaves =
       rw (e, M.at i) (mask_bit 5 (λ s. (s ≟ ascii "break") || (s ≟ ascii "continue")) refl (λ s. ap (λ (bs : List Bool). get_or bs 4 false) (class_bits s)) (line L i))
-      ∙ any_or (◌== ascii "break") (◌== ascii "continue") (line L i).tokens
+      ∙ any_or (◌≟ ascii "break") (◌≟ ascii "continue") (line L i).tokens
 
   pub mask_continue : eqb (m / 128 % 2) 1 ≡ has_kw (line L i) (ascii "continue")
   unfolding word_bit has_kw
-  mask_continue = rw (e, M.at i) (mask_bit 7 (◌== ascii "continue") refl (λ s. ap (λ (bs : List Bool). get_or bs 7 false) (class_bits s)) (line L i))
+  mask_continue = rw (e, M.at i) (mask_bit 7 (◌≟ ascii "continue") refl (λ s. ap (λ (bs : List Bool). get_or bs 7 false) (class_bits s)) (line L i))
 
   pub mask_case : eqb (m / 64 % 2) 1 ≡ (has_kw (line L i) (ascii "case") || has_kw (line L i) (ascii "default"))
   unfolding word_bit has_kw
   mask_case =
       rw (e, M.at i) (mask_bit 6 (λ s. (s ≟ ascii "case") || (s ≟ ascii "default")) refl (λ s. ap (λ (bs : List Bool). get_or bs 5 false) (class_bits s)) (line L i))
-      ∙ any_or (◌== ascii "case") (◌== ascii "default") (line L i).tokens
+      ∙ any_or (◌≟ ascii "case") (◌≟ ascii "default") (line L i).tokens
 
 pub ruleset asking = (mask_goto, mask_else, mask_loop, mask_do, mask_switch, mask_leaves, mask_continue, mask_case)

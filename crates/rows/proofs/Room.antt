@@ -70,7 +70,7 @@ Named n o = length (name_of o) ≤ n
 table_short : (row : List (List ℕ)) (others : List (List (List ℕ))) (s : List ℕ) → length (get_or row 0 []) ≤ 3 → Named 3 (legacy_family others s)
     → Named 3 (legacy_family (row ∷ others) s)
 unfolding legacy_family
-table_short row others s h k = case_has (Named 3) (position (s ==◌) row) k (λ c e. h)
+table_short row others s h k = case_has (Named 3) (position (s ≟◌) row) k (λ c e. h)
 
 legacy_short : (s : List ℕ) → Named 3 (legacy_family legacy s)
 unfolding legacy

@@ -79,7 +79,7 @@ module _ (L : List Line) where
         go : (o : Option (List ℕ)) → eqb (place_defined (defined_families L) o) (suc c) ≡ (elim o [ none ↦ false | some g ↦ g ≟ f ])
         go none = ne_eqb 0 (suc c) (λ q. omega arith)
         go (some g) = same_test _ _
-            (λ e. ap (◌== f) (place_same (defined_families L) f g c z (eqb-true (place (defined_families L) g) (suc c) e)) ∙ ≟_self f)
+            (λ e. ap (◌≟ f) (place_same (defined_families L) f g c z (eqb-true (place (defined_families L) g) (suc c) e)) ∙ ≟_self f)
             (λ e. eq-eqb (place (defined_families L) g) (suc c) (ap (place (defined_families L)) (≟_true g f e) ∙ z))
 
 -- Numbers and marks
