@@ -21,7 +21,7 @@ returns-in_default c = let a = c.args in
     let l = c.loop-i in
     reading_fail (listing a.lines.now a.tokens.now a.text.now) l.ends l.parents l.counts l.top l.i l.invariant.4
     (omega (arith, length_listing a.lines.now a.tokens.now a.text.now)) (counted c.line_braces-b.result) c.line_braces-b.ensures
-    _ _ c.close.result c.close.ensures _ _ c.enum_told-1.given.1
+    _ _ c.close.result c.close.ensures _ _ c.in_default.is
 
 pub enter-top-requires : goal.enter-top-requires
 enter-top-requires c = let a = c.args in
@@ -43,7 +43,7 @@ loop-i-preserved c = let a = c.args in
       reading_next (listing a.lines.now a.tokens.now a.text.now) l.ends l.parents l.counts l.top l.i l.invariant.4
           (omega (arith, c.loop-i-test.true, length_listing a.lines.now a.tokens.now a.text.now)) (counted c.line_braces-b.result) c.line_braces-b.ensures
           _ _ c.close.result c.close.ensures _ (search rules)
-          (omega (arith, c.close.auto.0, l.invariant.1, r.0, t)) (omega (arith, l.invariant.2, r.1, t)) (omega (arith, c.close.auto.1.1.0, l.invariant.3, r.2, t)) _ _ _ _ c.enter-top.ensures.1.0 c.enter-top.ensures.1.1.0 c.enter-top.ensures.1.1.1 c.enter-top.ensures.0,
+          (omega (arith, c.close.auto.0, l.invariant.1, r.0, t)) (omega (arith, l.invariant.2, r.1, t)) (omega (arith, c.close.auto.1.1.0, l.invariant.3, r.2, t)) _ _ _ _ c.enter-top.ensures.ends_after.0 c.enter-top.ensures.ends_after.1.0 c.enter-top.ensures.ends_after.1.1 c.enter-top.ensures.value,
     )
 
 pub returns : goal.returns

@@ -14,14 +14,14 @@ pub overflow_sub-h : goal.overflow_sub-h
 overflow_sub-h c = omega arith
 
 pub offset_bounds-ends-h : goal.offset_bounds-ends-h
-offset_bounds-ends-h c = omega (arith, (c.loop-left.invariant.2 c.requires.1.0 c.requires.1.1 c.requires.1.2).held.below)
+offset_bounds-ends-h c = omega (arith, (c.loop-left.invariant.2 c.requires.held.0 c.requires.held.1 c.requires.held.2).held.below)
 
 pub bounds-ends-h : goal.bounds-ends-h
-bounds-ends-h c = omega (arith, (c.loop-left.invariant.2 c.requires.1.0 c.requires.1.1 c.requires.1.2).held.below)
+bounds-ends-h c = omega (arith, (c.loop-left.invariant.2 c.requires.held.0 c.requires.held.1 c.requires.held.2).held.below)
 
 pub pop-p-requires : goal.pop-p-requires
 pop-p-requires c = let a = c.args in
-    let H = (c.loop-left.invariant.2 c.requires.1.0 c.requires.1.1 c.requires.1.2).held in
+    let H = (c.loop-left.invariant.2 c.requires.held.0 c.requires.held.1 c.requires.held.2).held in
     (omega (arith, H.below), omega (arith, H.below), held_count c.loop-left.ends a.parents.now c.loop-left.counts c.loop-left.p a.i _ H c.if-p-eq0.false)
 
 pub overflow_sub-left : goal.overflow_sub-left
@@ -34,9 +34,9 @@ pub loop-left-preserved : goal.loop-left-preserved
 loop-left-preserved c = let a = c.args in
     let l = c.loop-left in (
       simp length-set l.invariant.0,
-      ap length c.pop-p.ensures.1 ∙ simp length-set l.invariant.1,
+      ap length c.pop-p.ensures.counts_after ∙ simp length-set l.invariant.1,
       λ o H h. closing_next a.i a.k o l.ends a.parents.now l.counts l.p l.left (l.invariant.2 o H h) c.loop-left-test.true c.if-p-eq0.false
-          (omega arith) (omega arith) h _ _ c.pop-p.ensures.1 c.pop-p.ensures.0,
+          (omega arith) (omega arith) h _ _ c.pop-p.ensures.counts_after c.pop-p.ensures.value,
     )
 
 pub returns : goal.returns

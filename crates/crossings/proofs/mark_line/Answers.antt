@@ -7,7 +7,7 @@ pub loop-k-init : goal.loop-k-init
 loop-k-init c = search (joins, rules)
 
 pub mark_goto-requires : goal.mark_goto-requires
-mark_goto-requires c = ((search rules, search rules, search rules, search rules, search rules, search rules), search rules)
+mark_goto-requires c = record { in_bounds = (search rules, search rules, search rules, search rules, search rules, search rules); indexed = search rules }
 
 pub loop-k-preserved : goal.loop-k-preserved
 loop-k-preserved c = search (joins, rules)

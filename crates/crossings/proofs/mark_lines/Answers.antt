@@ -7,7 +7,7 @@ pub loop-i-init : goal.loop-i-init
 loop-i-init c = search (joins, rules)
 
 pub mark_line-requires : goal.mark_line-requires
-mark_line-requires c = ((search rules, search rules, search rules, search rules, search rules), search rules)
+mark_line-requires c = record { in_bounds = (search rules, search rules, search rules, search rules, search rules); indexed = search rules }
 
 pub overflow_add-i : goal.overflow_add-i
 overflow_add-i c = search (joins, rules)
@@ -17,9 +17,6 @@ loop-i-smaller c = search (joins, rules)
 
 pub loop-i-preserved : goal.loop-i-preserved
 loop-i-preserved c = search (joins, rules)
-
-pub shape_of-far : goal.shape_of-far
-shape_of-far c = search (joins, rules)
 
 pub returns : goal.returns
 returns c = search (joins, rules)

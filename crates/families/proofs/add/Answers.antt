@@ -5,8 +5,5 @@ use Rattle.families.proofs.Numbered.{place_rules}
 use borrow.Author.Rules.{rules}
 use Rattle.families.proofs.add.Goals as goal
 
-pub shape_of-table : goal.shape_of-table
-shape_of-table c = simp length-set at c.link.auto.0
-
 pub returns : goal.returns
 returns c = search (place_rules, rules)

@@ -34,11 +34,5 @@ loop-i-smaller c = search (place_rules, rules)
 pub loop-i-preserved : goal.loop-i-preserved
 loop-i-preserved c = (c.number_line-count.auto.1.1.1.0 ∙ c.loop-i.invariant.0, c.number_line-count.auto.1.1.1.1.0 ∙ c.loop-i.invariant.1, c.number_line-count.ensures)
 
-pub shape_of-table : goal.shape_of-table
-shape_of-table c = let e = simp (length-set, length-append, length-drop) at c.loop-i.invariant.0 in omega (arith, e, c.zero.auto.0, length-take-le 256 c.args.table.now (omega arith))
-
-pub shape_of-defs : goal.shape_of-defs
-shape_of-defs c = simp length-set at c.loop-i.invariant.1
-
 pub returns : goal.returns
 returns c = search (place_rules, rules)

@@ -19,11 +19,5 @@ bounds-defs-i c = search (place_rules, rules)
 pub greater-requires : goal.greater-requires
 greater-requires c = search (place_rules, rules)
 
-pub shape_of-table : goal.shape_of-table
-shape_of-table c = search (place_rules, rules)
-
-pub shape_of-defs : goal.shape_of-defs
-shape_of-defs c = search (place_rules, rules)
-
 pub returns : goal.returns
 returns c = search (place_rules, rules)

@@ -16,14 +16,8 @@ add_line-requires c = search (place_rules, rules)
 pub overflow_add-result : goal.overflow_add-result
 overflow_add-result c = search (place_rules, rules)
 
-pub shape_of-table-then-c-eq0 : goal.shape_of-table-then-c-eq0
-shape_of-table-then-c-eq0 c = search (place_rules, rules)
-
 pub returns-then-c-eq0 : goal.returns-then-c-eq0
 returns-then-c-eq0 c = search (place_rules, rules)
-
-pub shape_of-table-then-is_some : goal.shape_of-table-then-is_some
-shape_of-table-then-is_some c = search (place_rules, rules)
 
 pub returns-then-is_some : goal.returns-then-is_some
 returns-then-is_some c = search (place_rules, rules)

@@ -24,8 +24,5 @@ loop-k-smaller c = search (rehash_rules, rules)
 pub loop-k-preserved : goal.loop-k-preserved
 loop-k-preserved c = search (rehash_rules, rules)
 
-pub shape_of-table : goal.shape_of-table
-shape_of-table c = search (rehash_rules, rules)
-
 pub returns : goal.returns
 returns c = search (rehash_rules, rules)

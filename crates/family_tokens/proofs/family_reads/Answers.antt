@@ -13,11 +13,5 @@ returns-then-is_rsp c = search (token_rules, rules)
 pub read_lines-requires : goal.read_lines-requires
 read_lines-requires c = search (token_rules, rules)
 
-pub shape_of-seen : goal.shape_of-seen
-shape_of-seen c = search (token_rules, rules)
-
-pub shape_of-reads : goal.shape_of-reads
-shape_of-reads c = search (token_rules, rules)
-
 pub returns : goal.returns
 returns c = search (token_rules, rules)

@@ -13,14 +13,5 @@ zero-requires-2 c = search (token_rules, rules)
 pub write_tokens-requires : goal.write_tokens-requires
 write_tokens-requires c = search (token_rules, rules)
 
-pub shape_of-numbers : goal.shape_of-numbers
-shape_of-numbers c = search (token_rules, rules)
-
-pub shape_of-own : goal.shape_of-own
-shape_of-own c = search (token_rules, rules)
-
-pub shape_of-read : goal.shape_of-read
-shape_of-read c = search (token_rules, rules)
-
 pub returns : goal.returns
 returns c = search (token_rules, rules)

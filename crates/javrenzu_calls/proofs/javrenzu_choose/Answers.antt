@@ -13,7 +13,7 @@ returns-in-ByWebs c = let a = c.args in
 pub returns-in-BySplits : goal.returns-in-BySplits
 returns-in-BySplits c = let a = c.args in
     let R = c.choose in
-    splits_crossed (choose_call a.lines.now a.tokens.now a.text.now (lent a.numbers.now a.marks.now a.space.now)) R.result _ _ _ R.ensures c.enum_told-1.given.1
+    splits_crossed (choose_call a.lines.now a.tokens.now a.text.now (lent a.numbers.now a.marks.now a.space.now)) R.result _ _ _ R.ensures c.in-BySplits.is
 
 pub returns-in-Refused : goal.returns-in-Refused
 returns-in-Refused c = let a = c.args in

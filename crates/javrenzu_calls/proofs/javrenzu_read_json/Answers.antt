@@ -17,4 +17,4 @@ pub returns-in-Refused : goal.returns-in-Refused
 unfolding refusal_number counts_of
 returns-in-Refused c = let a = c.args in
     let R = c.read_json in
-    read_crossed (read_call a.json.now (columns a.lines.now a.addresses.now a.tokens.now a.text.now)) R.result Refused _ _ _ _ R.ensures c.enum_told-1.given.1
+    read_crossed (read_call a.json.now (columns a.lines.now a.addresses.now a.tokens.now a.text.now)) R.result Refused _ _ _ _ R.ensures c.in-Refused.is

@@ -8,4 +8,4 @@ use Rattle.javrenzu_calls.proofs.javrenzu_recover_goto_loops.Goals as goal
 pub returns : goal.returns
 returns c = let a = c.args in
     let R = c.recover_goto_loops-answer in
-    pass_crossed (pass_call goto_loops (columns a.lines.now a.addresses.now a.tokens.now a.text.now) (columns a.rows.now a.places.now a.words.now a.bytes.now)) R.result _ R.ensures _ _ c.pass_number.ensures.0 c.pass_number.ensures.1
+    pass_crossed (pass_call goto_loops (columns a.lines.now a.addresses.now a.tokens.now a.text.now) (columns a.rows.now a.places.now a.words.now a.bytes.now)) R.result _ R.ensures _ _ c.pass_number.ensures.value c.pass_number.ensures.nbytes_after

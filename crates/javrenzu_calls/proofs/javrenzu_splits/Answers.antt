@@ -8,7 +8,7 @@ use Rattle.javrenzu_calls.proofs.javrenzu_splits.Goals as goal
 pub returns-in-Written : goal.returns-in-Written
 returns-in-Written c = let a = c.args in
     let R = c.split_call in
-    written_crossed (split_call a.lines.now a.tokens.now a.text.now (lent a.numbers.now a.marks.now)) R.result _ _ R.ensures c.enum_told-1.given.1
+    written_crossed (split_call a.lines.now a.tokens.now a.text.now (lent a.numbers.now a.marks.now)) R.result _ _ R.ensures c.in-Written.is
 
 pub returns-in-Refused : goal.returns-in-Refused
 returns-in-Refused c = let a = c.args in

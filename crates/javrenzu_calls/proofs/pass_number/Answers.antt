@@ -9,16 +9,16 @@ pub returns-in-Accepted : goal.returns-in-Accepted
 returns-in-Accepted c = search (pass_accepted, rules)
 
 pub returns-in-TooLarge : goal.returns-in-TooLarge
-returns-in-TooLarge c = pass_refused _ TooLarge 1 c.enum_told-1.given.1 refl
+returns-in-TooLarge c = pass_refused _ TooLarge 1 c.in-TooLarge.is refl
 
 pub returns-in-Malformed : goal.returns-in-Malformed
-returns-in-Malformed c = pass_refused _ Malformed 2 c.enum_told-in-Malformed-1.given.1 refl
+returns-in-Malformed c = pass_refused _ Malformed 2 c.in-Malformed.is refl
 
 pub returns-in-NotUtf8 : goal.returns-in-NotUtf8
-returns-in-NotUtf8 c = pass_refused _ NotUtf8 3 c.enum_told-in-NotUtf8-1.given.1 refl
+returns-in-NotUtf8 c = pass_refused _ NotUtf8 3 c.in-NotUtf8.is refl
 
 pub returns-in-NoRoom : goal.returns-in-NoRoom
-returns-in-NoRoom c = pass_refused _ NoRoom 4 c.enum_told-in-NoRoom-1.given.1 refl
+returns-in-NoRoom c = pass_refused _ NoRoom 4 c.in-NoRoom.is refl
 
 pub returns-in-Overflow : goal.returns-in-Overflow
-returns-in-Overflow c = pass_refused _ Overflow 6 c.enum_told-in-Overflow-1.given.1 refl
+returns-in-Overflow c = pass_refused _ Overflow 6 c.in-Overflow.is refl

@@ -8,22 +8,6 @@ pub loop-k-init : goal.loop-k-init
 unfolding listing_read
 loop-k-init c = search (listings, rules)
 
-pub shape_of-lines-then-addresses-k : goal.shape_of-lines-then-addresses-k
-unfolding listing_read
-shape_of-lines-then-addresses-k c = search (listings, rules)
-
-pub shape_of-addresses-then-addresses-k : goal.shape_of-addresses-then-addresses-k
-unfolding listing_read
-shape_of-addresses-then-addresses-k c = search (listings, rules)
-
-pub shape_of-tokens-then-addresses-k : goal.shape_of-tokens-then-addresses-k
-unfolding listing_read
-shape_of-tokens-then-addresses-k c = search (listings, rules)
-
-pub shape_of-text-then-addresses-k : goal.shape_of-text-then-addresses-k
-unfolding listing_read
-shape_of-text-then-addresses-k c = search (listings, rules)
-
 pub returns-then-addresses-k : goal.returns-then-addresses-k
 unfolding listing_read
 returns-then-addresses-k c = search (listings, rules)
@@ -39,22 +23,6 @@ enum_known-j c = search (listings, rules)
 pub enum_told-1 : goal.enum_told-1
 unfolding listing_read
 enum_told-1 c = search (listings, rules)
-
-pub shape_of-lines-in_default : goal.shape_of-lines-in_default
-unfolding listing_read
-shape_of-lines-in_default c = search (listings, rules)
-
-pub shape_of-addresses-in_default : goal.shape_of-addresses-in_default
-unfolding listing_read
-shape_of-addresses-in_default c = search (listings, rules)
-
-pub shape_of-tokens-in_default : goal.shape_of-tokens-in_default
-unfolding listing_read
-shape_of-tokens-in_default c = search (listings, rules)
-
-pub shape_of-text-in_default : goal.shape_of-text-in_default
-unfolding listing_read
-shape_of-text-in_default c = search (listings, rules)
 
 pub returns-in_default : goal.returns-in_default
 unfolding listing_read
@@ -92,22 +60,6 @@ pub enum_known-l : goal.enum_known-l
 unfolding listing_read
 enum_known-l c = search (listings, rules)
 
-pub shape_of-lines-in-Close : goal.shape_of-lines-in-Close
-unfolding listing_read
-shape_of-lines-in-Close c = search (listings, rules)
-
-pub shape_of-addresses-in-Close : goal.shape_of-addresses-in-Close
-unfolding listing_read
-shape_of-addresses-in-Close c = search (listings, rules)
-
-pub shape_of-tokens-in-Close : goal.shape_of-tokens-in-Close
-unfolding listing_read
-shape_of-tokens-in-Close c = search (listings, rules)
-
-pub shape_of-text-in-Close : goal.shape_of-text-in-Close
-unfolding listing_read
-shape_of-text-in-Close c = search (listings, rules)
-
 pub returns-in-Close : goal.returns-in-Close
 unfolding listing_read
 returns-in-Close c = search (listings, rules)
@@ -115,22 +67,6 @@ returns-in-Close c = search (listings, rules)
 pub enum_told-in-NoSep : goal.enum_told-in-NoSep
 unfolding listing_read
 enum_told-in-NoSep c = search (listings, rules)
-
-pub shape_of-lines-in-NoSep : goal.shape_of-lines-in-NoSep
-unfolding listing_read
-shape_of-lines-in-NoSep c = search (listings, rules)
-
-pub shape_of-addresses-in-NoSep : goal.shape_of-addresses-in-NoSep
-unfolding listing_read
-shape_of-addresses-in-NoSep c = search (listings, rules)
-
-pub shape_of-tokens-in-NoSep : goal.shape_of-tokens-in-NoSep
-unfolding listing_read
-shape_of-tokens-in-NoSep c = search (listings, rules)
-
-pub shape_of-text-in-NoSep : goal.shape_of-text-in-NoSep
-unfolding listing_read
-shape_of-text-in-NoSep c = search (listings, rules)
 
 pub returns-in-NoSep : goal.returns-in-NoSep
 unfolding listing_read
@@ -147,22 +83,6 @@ loop-k-smaller c = search (listings, rules)
 pub loop-k-preserved : goal.loop-k-preserved
 unfolding listing_read
 loop-k-preserved c = search (listings, rules)
-
-pub shape_of-lines : goal.shape_of-lines
-unfolding listing_read
-shape_of-lines c = search (listings, rules)
-
-pub shape_of-addresses : goal.shape_of-addresses
-unfolding listing_read
-shape_of-addresses c = search (listings, rules)
-
-pub shape_of-tokens : goal.shape_of-tokens
-unfolding listing_read
-shape_of-tokens c = search (listings, rules)
-
-pub shape_of-text : goal.shape_of-text
-unfolding listing_read
-shape_of-text c = search (listings, rules)
 
 pub returns : goal.returns
 unfolding listing_read

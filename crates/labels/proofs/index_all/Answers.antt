@@ -10,27 +10,18 @@ use Rattle.labels.proofs.index_all.Goals as goal
 
 pub loop-i-init : goal.loop-i-init
 loop-i-init c = let a = c.args in
-    (search rules, refl, refl, indexed_start (listing a.lines.now a.tokens.now a.text.now) a.heads.now a.nexts.now a.m _ c.size-c.ensures.0 c.requires.1)
+    (search rules, refl, refl, indexed_start (listing a.lines.now a.tokens.now a.text.now) a.heads.now a.nexts.now a.m _ c.size-c.ensures.0 c.requires.by_index)
 
 pub index_line-requires : goal.index_line-requires
 index_line-requires c = let z = simp length-set at c.loop-i.invariant.1 in search rules
 
-pub shape_of-heads-then-more : goal.shape_of-heads-then-more
-shape_of-heads-then-more c = c.index_line.auto.1.1.1.0 ∙ simp length-set at c.loop-i.invariant.1
-
-pub shape_of-nexts-then-more : goal.shape_of-nexts-then-more
-shape_of-nexts-then-more c = c.index_line.auto.1.1.1.1.0 ∙ c.loop-i.invariant.2
-
 pub returns-then-more : goal.returns-then-more
-returns-then-more c = (λ e. absurd (false≢true e), λ e. absurd (false≢true (sym e ∙ c.if-more.true)))
+returns-then-more c = record { indexed = λ e. absurd (false≢true e); value = λ e. absurd (false≢true (sym e ∙ c.if-more.true)) }
 
 pub loop-i-preserved : goal.loop-i-preserved
 loop-i-preserved c = let l = c.loop-i in
     let a = c.index_line in
     (search rules, a.auto.1.1.1.0 ∙ l.invariant.1, a.auto.1.1.1.1.0 ∙ l.invariant.2, a.ensures)
-
-pub shape_of-heads : goal.shape_of-heads
-shape_of-heads c = simp length-set at c.loop-i.invariant.1
 
 pub returns : goal.returns
 returns c = let l = c.loop-i in

@@ -7,10 +7,10 @@ use Rattle.labels.proofs.Buckets.{indexed_other}
 use Rattle.labels.proofs.index_line.Goals as goal
 
 pub index_label-requires : goal.index_label-requires
-index_label-requires c = (c.requires.0, (sym c.has_label.ensures ∙ c.if-has_label.true, c.requires.1))
+index_label-requires c = (c.requires.i_in_bounds, (sym c.has_label.ensures ∙ c.if-has_label.true, c.requires.indexed))
 
 pub returns-else-has_label : goal.returns-else-has_label
 returns-else-has_label c = let a = c.args in
-    indexed_other (listing a.lines.now a.tokens.now a.text.now) a.heads.now a.nexts.now a.i c.requires.1
-    (omega (arith, c.requires.0.0, length_listing a.lines.now a.tokens.now a.text.now)) (omega arith)
+    indexed_other (listing a.lines.now a.tokens.now a.text.now) a.heads.now a.nexts.now a.i c.requires.indexed
+    (omega (arith, c.requires.i_in_bounds.0, length_listing a.lines.now a.tokens.now a.text.now)) (omega arith)
     c.has_label.result c.has_label.ensures c.if-has_label.false

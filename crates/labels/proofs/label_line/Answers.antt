@@ -23,7 +23,7 @@ overflow_cast-p c = search (wider, rules)
 
 pub loop-p-init : goal.loop-p-init
 loop-p-init c = let a = c.args in
-    lookup_start (listing a.lines.now a.tokens.now a.text.now) a.heads.now a.nexts.now (length a.lines.now) c.requires.1
+    lookup_start (listing a.lines.now a.tokens.now a.text.now) a.heads.now a.nexts.now (length a.lines.now) c.requires.indexed
     (sym (length_listing a.lines.now a.tokens.now a.text.now)) a.s.now _ (ap (λ (b : ℕ). get_or a.heads.now b 0) c.bucket-b.ensures.0)
 
 pub overflow_sub-h : goal.overflow_sub-h
@@ -38,7 +38,7 @@ equal-requires c = search (buckets, rules)
 pub returns-then-equal : goal.returns-then-equal
 returns-then-equal c = let a = c.args in
     lookup_found (listing a.lines.now a.tokens.now a.text.now) a.s.now a.nexts.now c.loop-p.p (length a.lines.now) _ c.loop-p.invariant.1
-    c.requires.1.back c.loop-p.invariant.0 c.loop-p-test.true c.equal.result _ c.equal.ensures c.text_at.ensures c.if-equal.true
+    c.requires.indexed.back c.loop-p.invariant.0 c.loop-p-test.true c.equal.result _ c.equal.ensures c.text_at.ensures c.if-equal.true
 
 pub offset_bounds-nexts-h : goal.offset_bounds-nexts-h
 offset_bounds-nexts-h c = search (buckets, rules)
@@ -50,14 +50,14 @@ pub overflow_cast-p-in-loop-p : goal.overflow_cast-p-in-loop-p
 overflow_cast-p-in-loop-p c = search (wider, rules)
 
 pub loop-p-smaller : goal.loop-p-smaller
-loop-p-smaller c = let q = c.requires.1.back (c.loop-p.p - 1) (omega arith) in omega arith
+loop-p-smaller c = let q = c.requires.indexed.back (c.loop-p.p - 1) (omega arith) in omega arith
 
 pub loop-p-preserved : goal.loop-p-preserved
 loop-p-preserved c = let a = c.args in
-    let q = c.requires.1.back (c.loop-p.p - 1) (omega arith) in (
+    let q = c.requires.indexed.back (c.loop-p.p - 1) (omega arith) in (
       omega arith,
       lookup_next (listing a.lines.now a.tokens.now a.text.now) a.s.now a.nexts.now c.loop-p.p (length a.lines.now) _ c.loop-p.invariant.1
-          c.requires.1.back c.loop-p.invariant.0 c.loop-p-test.true c.equal.result _ c.equal.ensures c.text_at.ensures c.if-equal.false,
+          c.requires.indexed.back c.loop-p.invariant.0 c.loop-p-test.true c.equal.result _ c.equal.ensures c.text_at.ensures c.if-equal.false,
     )
 
 pub returns : goal.returns

@@ -27,8 +27,5 @@ loop-i-smaller c = search (line_rules, rules)
 pub loop-i-preserved : goal.loop-i-preserved
 loop-i-preserved c = search (line_rules, rules)
 
-pub shape_of-own : goal.shape_of-own
-shape_of-own c = search (line_rules, rules)
-
 pub returns : goal.returns
 returns c = search (line_rules, rules)

@@ -13,4 +13,4 @@ emit-c-requires c = let g = c.args in
     ((p.0.0, p.0.1, q.1), q.2)
 
 pub returns : goal.returns
-returns c = let g = c.args in let C = columns g.lines.now g.addresses.now g.tokens.now g.text.now in let O = columns g.rows.now g.places.now g.words.now g.bytes.now in written_is C O _ c.requires.1 _ c.emit-c.auto.1.1.1.1.1.1.0 c.emit-c.auto.1.1.1.1.1.1.1.0 c.emit-c.auto.1.1.1.1.1.1.1.1.0 c.emit-c.auto.1.1.1.1.1.1.1.1.1.0 _ _ c.emit-c.ensures c.finish.ensures
+returns c = let g = c.args in let C = columns g.lines.now g.addresses.now g.tokens.now g.text.now in let O = columns g.rows.now g.places.now g.words.now g.bytes.now in written_is C O _ c.requires.fact _ c.emit-c.auto.1.1.1.1.1.1.0 c.emit-c.auto.1.1.1.1.1.1.1.0 c.emit-c.auto.1.1.1.1.1.1.1.1.0 c.emit-c.auto.1.1.1.1.1.1.1.1.1.0 _ _ c.emit-c.ensures c.finish.ensures

@@ -38,8 +38,5 @@ overflow_sub-e c = search (made_for, rules)
 pub remove_two-requires : goal.remove_two-requires
 remove_two-requires c = search (made_for, rules)
 
-pub shape_of-plan : goal.shape_of-plan
-shape_of-plan c = simp length-set at c.remove_two.auto.0
-
 pub returns : goal.returns
 returns c = search (made_for, rules)

@@ -12,9 +12,6 @@ offset_bounds-plan-k c = search (moving, rules)
 pub bounds-plan-k : goal.bounds-plan-k
 bounds-plan-k c = search (moving, rules)
 
-pub shape_of-plan-then-w-eq0 : goal.shape_of-plan-then-w-eq0
-shape_of-plan-then-w-eq0 c = search (moving, rules)
-
 pub returns-then-w-eq0 : goal.returns-then-w-eq0
 returns-then-w-eq0 c = search (moving, rules)
 
@@ -35,9 +32,6 @@ loop-k-smaller c = search (moving, rules)
 
 pub loop-k-preserved : goal.loop-k-preserved
 loop-k-preserved c = search (moving, rules)
-
-pub shape_of-plan : goal.shape_of-plan
-shape_of-plan c = search (moving, rules)
 
 pub returns : goal.returns
 returns c = search (moving, rules)

@@ -33,8 +33,5 @@ loop-j-smaller c = search (removing, rules)
 pub loop-j-preserved : goal.loop-j-preserved
 loop-j-preserved c = search (removing, rules)
 
-pub shape_of-plan : goal.shape_of-plan
-shape_of-plan c = search (removing, rules)
-
 pub returns : goal.returns
 returns c = search (removing, rules)

@@ -40,8 +40,5 @@ loop-k-smaller c = search (closing, rules)
 pub loop-k-preserved : goal.loop-k-preserved
 loop-k-preserved c = search (closing, rules)
 
-pub shape_of-plan : goal.shape_of-plan
-shape_of-plan c = search (closing, rules)
-
 pub returns : goal.returns
 returns c = search (closing, rules)

@@ -33,8 +33,5 @@ loop-k-smaller c = search (sliding, rules)
 pub loop-k-preserved : goal.loop-k-preserved
 loop-k-preserved c = search (sliding, rules)
 
-pub shape_of-plan : goal.shape_of-plan
-shape_of-plan c = search (sliding, rules)
-
 pub returns : goal.returns
 returns c = search (sliding, rules)

@@ -30,8 +30,5 @@ loop-i-smaller c = search (starting, rules)
 pub loop-i-preserved : goal.loop-i-preserved
 loop-i-preserved c = search (starting, rules)
 
-pub shape_of-plan : goal.shape_of-plan
-shape_of-plan c = search (starting, rules)
-
 pub returns : goal.returns
 returns c = search (starting, rules)

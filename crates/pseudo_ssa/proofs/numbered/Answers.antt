@@ -33,4 +33,4 @@ returns-in-OverBudget c = let a = c.args in
     let R = c.recover in
     let Z = c.zero-in-OverBudget in
     numbered_over a.lines.now a.tokens.now a.text.now a.numbers.now a.marks.now a.space.now a.r a.budget c.requires
-    R.new.1.1.1.1.1.1.0 R.new.1.1.1.1.1.1.1.0 R.new.1.1.1.0 _ _ _ R.auto.1.1.1.1.1.1.0 R.auto.1.1.1.1.1.1.1.0 R.auto.1.1.1.0 Z.ensures.1.1 R.result R.ensures c.enum_told-1.given.1 Z.ensures.0 Z.ensures.1.0
+    R.new.1.1.1.1.1.1.0 R.new.1.1.1.1.1.1.1.0 R.new.1.1.1.0 _ _ _ R.auto.1.1.1.1.1.1.0 R.auto.1.1.1.1.1.1.1.0 R.auto.1.1.1.0 Z.ensures.1.1 R.result R.ensures c.in-OverBudget.is Z.ensures.0 Z.ensures.1.0

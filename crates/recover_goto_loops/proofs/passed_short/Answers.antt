@@ -3,4 +3,4 @@
 use Rattle.recover_goto_loops.proofs.passed_short.Goals as goal
 
 pub passed_in-requires : goal.passed_in-requires
-passed_in-requires c = (c.requires.0, c.requires.1)
+passed_in-requires c = record { lines_in_bounds = c.requires.lines_len_bound; bytes_value = c.requires.bytes_value }

@@ -8,4 +8,4 @@ use Rattle.rows.proofs.Room.{refused_short}
 use Rattle.rows.proofs.put_refused.Goals as goal
 
 pub returns : goal.returns
-returns c = (search (append_3, refused_is, rules), refused_short _ (omega arith))
+returns c = record { appended = search (append_3, refused_is, rules); n_len_bound = refused_short _ (omega arith) }

@@ -9,8 +9,5 @@ use Rattle.sweep.proofs.number.Goals as goal
 pub loop-i-init : goal.loop-i-init
 loop-i-init c = (omega arith, omega arith, simp length-set (omega arith), refl, number_start _ _ c.args.defs.now (omega arith))
 
-pub shape_of-defs : goal.shape_of-defs
-shape_of-defs c = c.loop-i.invariant.3 ∙ simp length-set
-
 pub returns : goal.returns
 returns c = search (number_end, rules)

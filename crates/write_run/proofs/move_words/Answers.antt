@@ -11,15 +11,15 @@ pub loop-j-init : goal.loop-j-init
 loop-j-init c = (search rules, search rules, copied_start _ _ (omega arith))
 
 pub moved-requires : goal.moved-requires
-moved-requires c = let h = c.requires.1 c.loop-j.j (search rules) in
+moved-requires c = let h = c.requires.by_index c.loop-j.j (search rules) in
     search (h, rules)
 
 pub loop-j-preserved : goal.loop-j-preserved
 loop-j-preserved c = let a = c.args in (
-  search rules,
-  simp length-set (omega arith),
-  moved_next (take a.k a.words.now) a.run.now a.a a.b _ _ _ c.loop-j.invariant.2 _ c.moved.ensures (search rules) (search rules),
-)
+      search rules,
+      simp length-set (omega arith),
+      moved_next (take a.k a.words.now) a.run.now a.a a.b _ _ _ c.loop-j.invariant.2 _ c.moved.ensures (search rules) (search rules),
+    )
 
 pub returns : goal.returns
 returns c = let a = c.args in

@@ -9,11 +9,5 @@ loop-j-init c = (refl, refl, λ l a. left_start)
 pub loop-j-preserved : goal.loop-j-preserved
 loop-j-preserved c = let i = c.loop-j.invariant in (c.add_cut-d.auto.1.1.1.1.1.1.1.0 ∙ i.0, c.add_cut-d.auto.1.1.1.1.1.1.1.1.0 ∙ i.1, λ l a. run_goes _ _ _ _ _ (i.2 l a) _ c.token_count-n.ensures c.loop-j-test.true (c.add_cut-d.ensures l a))
 
-pub shape_of-words : goal.shape_of-words
-shape_of-words c = c.loop-j.invariant.0
-
-pub shape_of-bytes : goal.shape_of-bytes
-shape_of-bytes c = c.loop-j.invariant.1
-
 pub returns : goal.returns
 returns c = λ l a. run_ends _ _ _ _ _ (c.loop-j.invariant.2 l a) _ c.token_count-n.ensures c.loop-j-test.false

@@ -20,12 +20,6 @@ loop-j-preserved c = let g = c.args in
     let i = c.loop-j.invariant in
     (c.add-d.auto.0 ∙ i.0, c.add-d.auto.1.0 ∙ i.1, λ l a. line_goes g.popped (line (listing g.lines.now g.tokens.now g.text.now) g.i).tokens g.n c.requires _ (i.2 l a) c.loop-j-test.true _ _ c.dressed_text-s.ensures c.kind_at-kind.ensures.0 (c.add-d.ensures l a))
 
-pub shape_of-words : goal.shape_of-words
-shape_of-words c = c.loop-j.invariant.0
-
-pub shape_of-bytes : goal.shape_of-bytes
-shape_of-bytes c = c.loop-j.invariant.1
-
 pub returns : goal.returns
 returns c = let g = c.args in
     λ l a. line_ends g.popped (line (listing g.lines.now g.tokens.now g.text.now) g.i).tokens g.n c.requires _ (c.loop-j.invariant.2 l a) c.loop-j-test.false

@@ -10,11 +10,5 @@ use Rattle.append_pieces.proofs.tokens.add_jumped.Goals as goal
 pub add_first-d-requires : goal.add_first-d-requires
 add_first-d-requires c = cut_within _ _ c.cut_place-n.ensures
 
-pub shape_of-words : goal.shape_of-words
-shape_of-words c = c.add_last.auto.0 ∙ (c.add-e.auto.0 ∙ c.add_first-d.auto.1.1.1.1.1.1.0)
-
-pub shape_of-bytes : goal.shape_of-bytes
-shape_of-bytes c = c.add_last.auto.1.0 ∙ (c.add-e.auto.1.0 ∙ c.add_first-d.auto.1.1.1.1.1.1.1.0)
-
 pub returns : goal.returns
 returns c = let g = c.args in λ l a. adds_as (jumped_parts g.popped (line (listing g.lines.now g.tokens.now g.text.now) g.i) g.kw.now c.cut_place-n.result c.cut_place-n.ensures) (adds_more _ _ (c.add_first-d.ensures l a) (adds_more _ _ (c.add-e.ensures l a) (c.add_last.ensures l a)))

@@ -9,38 +9,14 @@ use Rattle.append_pieces.proofs.tokens.add_piece.Goals as goal
 pub add_first-requires : goal.add_first-requires
 add_first-requires c = omega (arith, c.token_count.ensures)
 
-pub shape_of-words-in-0 : goal.shape_of-words-in-0
-shape_of-words-in-0 c = c.add_first.auto.1.1.1.1.1.1.0
-
-pub shape_of-bytes-in-0 : goal.shape_of-bytes-in-0
-shape_of-bytes-in-0 c = c.add_first.auto.1.1.1.1.1.1.1.0
-
 pub returns-in-0 : goal.returns-in-0
-returns-in-0 c = let g = c.args in let C = listing g.lines.now g.tokens.now g.text.now in λ l a. adds_as (kept_dressed g.popped C g.p c.in-0.keys1 _ c.token_count.ensures) (c.add_first.ensures l a)
-
-pub shape_of-words-in-1 : goal.shape_of-words-in-1
-shape_of-words-in-1 c = c.add_jumped.auto.1.1.1.1.1.1.0
-
-pub shape_of-bytes-in-1 : goal.shape_of-bytes-in-1
-shape_of-bytes-in-1 c = c.add_jumped.auto.1.1.1.1.1.1.1.0
+returns-in-0 c = let g = c.args in let C = listing g.lines.now g.tokens.now g.text.now in λ l a. adds_as (kept_dressed g.popped C g.p c.in-0.is _ c.token_count.ensures) (c.add_first.ensures l a)
 
 pub returns-in-1 : goal.returns-in-1
-returns-in-1 c = let g = c.args in let C = listing g.lines.now g.tokens.now g.text.now in λ l a. adds_as (continued_dressed g.popped C g.p c.in-1.keys2) (c.add_jumped.ensures l a)
-
-pub shape_of-words-in-2 : goal.shape_of-words-in-2
-shape_of-words-in-2 c = c.add_jumped-in-2.auto.1.1.1.1.1.1.0
-
-pub shape_of-bytes-in-2 : goal.shape_of-bytes-in-2
-shape_of-bytes-in-2 c = c.add_jumped-in-2.auto.1.1.1.1.1.1.1.0
+returns-in-1 c = let g = c.args in let C = listing g.lines.now g.tokens.now g.text.now in λ l a. adds_as (continued_dressed g.popped C g.p c.in-1.is) (c.add_jumped.ensures l a)
 
 pub returns-in-2 : goal.returns-in-2
-returns-in-2 c = let g = c.args in let C = listing g.lines.now g.tokens.now g.text.now in λ l a. adds_as (broken_dressed g.popped C g.p c.in-2.keys3) (c.add_jumped-in-2.ensures l a)
-
-pub shape_of-words-in_default : goal.shape_of-words-in_default
-shape_of-words-in_default c = c.add_last.auto.0
-
-pub shape_of-bytes-in_default : goal.shape_of-bytes-in_default
-shape_of-bytes-in_default c = c.add_last.auto.1.0
+returns-in-2 c = let g = c.args in let C = listing g.lines.now g.tokens.now g.text.now in λ l a. adds_as (broken_dressed g.popped C g.p c.in-2.is) (c.add_jumped-in-2.ensures l a)
 
 pub returns-in_default : goal.returns-in_default
 returns-in_default c = let g = c.args in let C = listing g.lines.now g.tokens.now g.text.now in let r = c.in_default.rest in λ l a. adds_as (closed_dressed g.popped C g.p r.0.0.1 r.0.1 r.1) (c.add_last.ensures l a)

@@ -16,22 +16,13 @@ pub overflow_sub-p : goal.overflow_sub-p
 overflow_sub-p c = search (token_rules, rules)
 
 pub chain_token-requires : goal.chain_token-requires
-chain_token-requires c = ((search rules, search rules, search rules, search rules, search (token_rules, rules), search (token_rules, rules)), (search rules, search rules))
+chain_token-requires c = record { finds = (search rules, search rules, search rules, search rules, search (token_rules, rules), search (token_rules, rules)); memo = (search rules, search rules) }
 
 pub loop-p-smaller : goal.loop-p-smaller
 loop-p-smaller c = search (token_rules, rules)
 
 pub loop-p-preserved : goal.loop-p-preserved
 loop-p-preserved c = (search rules, search rules, search rules, search rules, search rules, search rules, search rules, search rules)
-
-pub shape_of-memo : goal.shape_of-memo
-shape_of-memo c = search (token_rules, rules)
-
-pub shape_of-numbers : goal.shape_of-numbers
-shape_of-numbers c = search (token_rules, rules)
-
-pub shape_of-first : goal.shape_of-first
-shape_of-first c = search (token_rules, rules)
 
 pub returns : goal.returns
 returns c = search (token_rules, rules)

@@ -9,22 +9,13 @@ pub overflow_sub-i : goal.overflow_sub-i
 overflow_sub-i c = search (token_rules, rules)
 
 pub chain_line-requires : goal.chain_line-requires
-chain_line-requires c = ((search rules, search rules, search rules, search (token_rules, rules)), (search rules, search rules))
+chain_line-requires c = record { finds = (search rules, search rules, search rules, search (token_rules, rules)); memo = (search rules, search rules) }
 
 pub loop-i-smaller : goal.loop-i-smaller
 loop-i-smaller c = search (token_rules, rules)
 
 pub loop-i-preserved : goal.loop-i-preserved
 loop-i-preserved c = (search rules, search rules, search rules, search rules, search (token_rules, rules), search rules)
-
-pub shape_of-memo : goal.shape_of-memo
-shape_of-memo c = search (token_rules, rules)
-
-pub shape_of-numbers : goal.shape_of-numbers
-shape_of-numbers c = search (token_rules, rules)
-
-pub shape_of-first : goal.shape_of-first
-shape_of-first c = search (token_rules, rules)
 
 pub returns : goal.returns
 returns c = search (token_rules, rules)

@@ -7,4 +7,4 @@ use borrow.Author.Rules.{rules}
 use Rattle.chains.proofs.tokens.chain_tokens.Goals as goal
 
 pub chain_lines-requires : goal.chain_lines-requires
-chain_lines-requires c = ((search rules, search rules, search (token_rules, rules)), (memo_empty _ _ (zeros 128), search rules))
+chain_lines-requires c = record { finds = (search rules, search rules, search (token_rules, rules)); memo = (memo_empty _ _ (zeros 128), search rules) }

@@ -34,11 +34,5 @@ offset_bounds-first-c-2 c = search (token_rules, rules)
 pub bounds-first-c-2 : goal.bounds-first-c-2
 bounds-first-c-2 c = search (token_rules, rules)
 
-pub shape_of-numbers : goal.shape_of-numbers
-shape_of-numbers c = search (token_rules, rules)
-
-pub shape_of-first : goal.shape_of-first
-shape_of-first c = search (token_rules, rules)
-
 pub returns : goal.returns
 returns c = search (token_rules, rules)

@@ -24,8 +24,5 @@ loop-k-smaller c = search (token_rules, rules)
 pub loop-k-preserved : goal.loop-k-preserved
 loop-k-preserved c = search (token_rules, rules)
 
-pub shape_of-first : goal.shape_of-first
-shape_of-first c = search (token_rules, rules)
-
 pub returns : goal.returns
 returns c = search (token_rules, rules)

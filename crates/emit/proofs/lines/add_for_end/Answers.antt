@@ -12,11 +12,5 @@ use Rattle.emit.proofs.lines.add_for_end.Goals as goal
 pub add_test-d-requires : goal.add_test-d-requires
 add_test-d-requires c = c.requires
 
-pub shape_of-words : goal.shape_of-words
-shape_of-words c = c.add.auto.0 ∙ (c.add_piece-f.auto.1.1.1.1.1.0 ∙ (c.add-e.auto.0 ∙ c.add_test-d.auto.1.1.1.1.0))
-
-pub shape_of-bytes : goal.shape_of-bytes
-shape_of-bytes c = c.add.auto.1.0 ∙ (c.add_piece-f.auto.1.1.1.1.1.1.0 ∙ (c.add-e.auto.1.0 ∙ c.add_test-d.auto.1.1.1.1.1.0))
-
 pub returns : goal.returns
 returns c = let g = c.args in let C = listing g.lines.now g.tokens.now g.text.now in λ l a. adds_four _ _ _ _ (c.add_test-d.ensures l a) (c.add-e.ensures l a) (adds_as (ap (λ p. dressed true (piece C p).tokens) c.step.ensures.0) (c.add_piece-f.ensures l a)) (c.add.ensures l a)

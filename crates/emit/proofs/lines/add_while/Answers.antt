@@ -7,11 +7,5 @@ use Rattle.emit.proofs.lines.add_while.Goals as goal
 pub add_test-f-requires : goal.add_test-f-requires
 add_test-f-requires c = c.requires
 
-pub shape_of-words : goal.shape_of-words
-shape_of-words c = c.add.auto.0 ∙ (c.add_test-f.auto.1.1.1.1.0 ∙ (c.add-e.auto.0 ∙ c.add-d.auto.0))
-
-pub shape_of-bytes : goal.shape_of-bytes
-shape_of-bytes c = c.add.auto.1.0 ∙ (c.add_test-f.auto.1.1.1.1.1.0 ∙ (c.add-e.auto.1.0 ∙ c.add-d.auto.1.0))
-
 pub returns : goal.returns
 returns c = λ l a. adds_four _ _ _ _ (c.add-d.ensures l a) (c.add-e.ensures l a) (c.add_test-f.ensures l a) (c.add.ensures l a)

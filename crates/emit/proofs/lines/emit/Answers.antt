@@ -13,17 +13,5 @@ emit_line-c-requires c = let p = c.requires in ((word_sound _ _ _ p.0.0 p.0.1 c.
 pub loop-i-preserved : goal.loop-i-preserved
 loop-i-preserved c = let i = c.loop-i.invariant in let p = c.requires in let e = c.emit_line-c in (e.auto.1.1.1.1.1.0 ∙ i.0, e.auto.1.1.1.1.1.1.0 ∙ i.1, e.auto.1.1.1.1.1.1.1.0 ∙ i.2, e.auto.1.1.1.1.1.1.1.1.0 ∙ i.3, omega (arith, c.loop-i-test.true), emitted_next _ _ _ _ p.0.0 c.loop-i-test.true _ _ _ _ i.5 e.ensures)
 
-pub shape_of-rows : goal.shape_of-rows
-shape_of-rows c = c.loop-i.invariant.0
-
-pub shape_of-places : goal.shape_of-places
-shape_of-places c = c.loop-i.invariant.1
-
-pub shape_of-words : goal.shape_of-words
-shape_of-words c = c.loop-i.invariant.2
-
-pub shape_of-bytes : goal.shape_of-bytes
-shape_of-bytes c = c.loop-i.invariant.3
-
 pub returns : goal.returns
 returns c = let i = c.loop-i.invariant in emitted_end _ _ _ _ i.4 c.loop-i-test.false _ _ i.5

@@ -11,29 +11,11 @@ use Rattle.emit.proofs.tests.add_test.Goals as goal
 pub add_leading-requires : goal.add_leading-requires
 add_leading-requires c = c.requires
 
-pub shape_of-words-in-2 : goal.shape_of-words-in-2
-shape_of-words-in-2 c = c.add.auto.0
-
-pub shape_of-bytes-in-2 : goal.shape_of-bytes-in-2
-shape_of-bytes-in-2 c = c.add.auto.1.0
-
 pub returns-in-2 : goal.returns-in-2
-returns-in-2 c = let g = c.args in let C = listing g.lines.now g.tokens.now g.text.now in λ l a. adds_as (test_one C _ _ _ (remainder c.header.ensures.0 c.in-2.keys1)) (c.add.ensures l a)
-
-pub shape_of-words-in-3 : goal.shape_of-words-in-3
-shape_of-words-in-3 c = c.add_leading.auto.1.1.1.1.0
-
-pub shape_of-bytes-in-3 : goal.shape_of-bytes-in-3
-shape_of-bytes-in-3 c = c.add_leading.auto.1.1.1.1.1.0
+returns-in-2 c = let g = c.args in let C = listing g.lines.now g.tokens.now g.text.now in λ l a. adds_as (test_one C _ _ _ (remainder c.header.ensures.0 c.in-2.is)) (c.add.ensures l a)
 
 pub returns-in-3 : goal.returns-in-3
-returns-in-3 c = let g = c.args in let C = listing g.lines.now g.tokens.now g.text.now in λ l a. adds_as (test_leading C _ _ _ (remainder c.header.ensures.0 c.in-3.keys2) _ c.test.ensures.0) (c.add_leading.ensures l a)
-
-pub shape_of-words-in_default : goal.shape_of-words-in_default
-shape_of-words-in_default c = c.add_condition.auto.1.1.1.1.0
-
-pub shape_of-bytes-in_default : goal.shape_of-bytes-in_default
-shape_of-bytes-in_default c = c.add_condition.auto.1.1.1.1.1.0
+returns-in-3 c = let g = c.args in let C = listing g.lines.now g.tokens.now g.text.now in λ l a. adds_as (test_leading C _ _ _ (remainder c.header.ensures.0 c.in-3.is) _ c.test.ensures.0) (c.add_leading.ensures l a)
 
 pub returns-in_default : goal.returns-in_default
 returns-in_default c = let g = c.args in let C = listing g.lines.now g.tokens.now g.text.now in let r = c.in_default.rest in let e = c.header.ensures.0 in λ l a. adds_as (test_guard C _ _ _ (omega arith) (λ q. r.0.1 (ap (λ h. h % 4) e ∙ q)) (λ q. r.1 (ap (λ h. h % 4) e ∙ q)) _ c.source.ensures) (c.add_condition.ensures l a)

@@ -24,8 +24,5 @@ loop-k-smaller c = search (lists, rules)
 pub loop-k-preserved : goal.loop-k-preserved
 loop-k-preserved c = search (lists, rules)
 
-pub shape_of-list : goal.shape_of-list
-shape_of-list c = search (lists, rules)
-
 pub returns : goal.returns
 returns c = search (lists, rules)

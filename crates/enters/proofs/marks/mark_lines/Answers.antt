@@ -24,8 +24,5 @@ loop-i-smaller c = search (markings, rules)
 pub loop-i-preserved : goal.loop-i-preserved
 loop-i-preserved c = search (markings, rules)
 
-pub shape_of-marks : goal.shape_of-marks
-shape_of-marks c = search (markings, rules)
-
 pub returns : goal.returns
 returns c = search (markings, rules)

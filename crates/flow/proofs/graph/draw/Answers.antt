@@ -21,13 +21,13 @@ loop-i-init c = let a = c.args in
 
 pub line_steps-requires : goal.line_steps-requires
 line_steps-requires c = let a = c.args in
-    ((matrices_kept (length a.lines.now) a.r a.space.now c.loop-i.space c.requires.0 c.loop-i.invariant.1, search rules), c.requires.1)
+    ((matrices_kept (length a.lines.now) a.r a.space.now c.loop-i.space c.requires.matrices c.loop-i.invariant.1, search rules), c.requires.read)
 
 pub loop-i-preserved : goal.loop-i-preserved
 loop-i-preserved c = let a = c.args in
     let l = c.loop-i in
     let L = listing a.lines.now a.tokens.now a.text.now in
-    let E = c.line_steps.ensures.1 c.if-line_steps.true in (
+    let E = c.line_steps.ensures.fact c.if-line_steps.true in (
       search rules,
       c.line_steps.auto.1.1.1.1.1.1.1.1.0 ∙ l.invariant.1,
       search (lines_leading, rules),
@@ -36,7 +36,7 @@ loop-i-preserved c = let a = c.args in
     )
 
 pub returns-else-line_steps : goal.returns-else-line_steps
-returns-else-line_steps c = (search (lines_leading, rules), λ z. absurd (false≢true z))
+returns-else-line_steps c = record { value = search (lines_leading, rules); fact = λ z. absurd (false≢true z) }
 
 pub returns : goal.returns
 returns c = let a = c.args in

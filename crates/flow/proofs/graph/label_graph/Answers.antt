@@ -30,7 +30,7 @@ draw-requires c = let a = c.args in
 pub returns-then-draw : goal.returns-then-draw
 returns-then-draw c = let a = c.args in
     let L = listing a.lines.now a.tokens.now a.text.now in
-    let M = c.requires.1.0.1 in
+    let M = c.requires.fact_2.0.1 in
     let d = c.draw in
     let y = c.if-draw.true in (
       not_refused L true M.answer refl d.result d.ensures.0 y,
@@ -39,6 +39,6 @@ returns-then-draw c = let a = c.args in
 
 pub returns-else-draw : goal.returns-else-draw
 returns-else-draw c = let a = c.args in
-    let M = c.requires.1.0.1 in
+    let M = c.requires.fact_2.0.1 in
     let d = c.draw in
     (refused_label (listing a.lines.now a.tokens.now a.text.now) true M.answer refl d.result d.ensures.0 c.if-draw.false, some_none 9)

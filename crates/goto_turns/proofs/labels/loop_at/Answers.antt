@@ -10,10 +10,10 @@ pub rebuild-requires : goal.rebuild-requires
 rebuild-requires c = let p = c.requires in loop_calls _ _ _ _ _ _ _ p.0 c.if-h-b.true _ c.enters.ensures c.if-enters.false p.1.0.1 p.1.0.2
 
 pub returns-then-enters : goal.returns-then-enters
-returns-then-enters c = loop_entered _ _ _ _ _ _ _ c.requires.0 c.if-h-b.true _ c.enters.ensures c.if-enters.true
+returns-then-enters c = loop_entered _ _ _ _ _ _ _ c.requires.labelled c.if-h-b.true _ c.enters.ensures c.if-enters.true
 
 pub returns-else-enters : goal.returns-else-enters
-returns-else-enters c = loop_rebuilt _ _ _ _ _ _ _ c.requires.0 c.if-h-b.true _ c.enters.ensures c.if-enters.false _ _ c.rebuild.ensures
+returns-else-enters c = loop_rebuilt _ _ _ _ _ _ _ c.requires.labelled c.if-h-b.true _ c.enters.ensures c.if-enters.false _ _ c.rebuild.ensures
 
 pub returns-else-h-b : goal.returns-else-h-b
-returns-else-h-b c = loop_short _ _ _ _ _ _ _ c.requires.0 c.if-h-b.false
+returns-else-h-b c = loop_short _ _ _ _ _ _ _ c.requires.labelled c.if-h-b.false

@@ -8,7 +8,7 @@ pub start-requires : goal.start-requires
 start-requires c = let p = c.requires in (p.0.1, p.0.0)
 
 pub loop-h-init : goal.loop-h-init
-loop-h-init c = running_start _ _ _ _ c.requires.0.0 c.start.ensures
+loop-h-init c = running_start _ _ _ _ c.requires.lines_len_bound.0 c.start.ensures
 
 pub overflow_add-h : goal.overflow_add-h
 overflow_add-h c = omega (arith, c.loop-h.invariant.upto)
@@ -16,23 +16,17 @@ overflow_add-h c = omega (arith, c.loop-h.invariant.upto)
 pub goto_turn-requires : goal.goto_turn-requires
 goto_turn-requires c = let r = c.loop-h.invariant in let p = c.requires in ((omega (arith, c.loop-h-test.true), omega (arith, r.fewer, p.0.0), omega (arith, r.size, r.fewer, p.0.1, c.start.auto.1.0), p.0.2), (r.ahead, p.1))
 
-pub shape_of-plan-in-Beyond : goal.shape_of-plan-in-Beyond
-shape_of-plan-in-Beyond c = c.goto_turn.auto.1.1.1.0 ∙ (c.loop-h.invariant.size ∙ c.start.auto.1.0)
-
 pub returns-in-Beyond : goal.returns-in-Beyond
-returns-in-Beyond c = (running_overflows _ _ _ _ _ _ _ c.loop-h.invariant (omega (arith, c.requires.0.1, c.start.auto.1.0)) c.loop-h-test.true _ _ c.goto_turn.ensures c.enum_told-1.given.1, tt)
+returns-in-Beyond c = record { result_after = running_overflows _ _ _ _ _ _ _ c.loop-h.invariant (omega (arith, c.requires.lines_len_bound.1, c.start.auto.1.0)) c.loop-h-test.true _ _ c.goto_turn.ensures c.in-Beyond.is; emitted = tt }
 
 pub overflow_add-h-in-loop-h : goal.overflow_add-h-in-loop-h
-overflow_add-h-in-loop-h c = omega (arith, c.loop-h.invariant.upto, c.requires.0.0)
+overflow_add-h-in-loop-h c = omega (arith, c.loop-h.invariant.upto, c.requires.lines_len_bound.0)
 
 pub loop-h-smaller : goal.loop-h-smaller
 loop-h-smaller c = omega (arith, c.loop-h.invariant.fewer, c.loop-h-test.true)
 
 pub loop-h-preserved : goal.loop-h-preserved
-loop-h-preserved c = running_goes _ _ _ _ _ _ _ c.loop-h.invariant (omega (arith, c.requires.0.1, c.start.auto.1.0)) c.loop-h-test.true _ _ c.goto_turn.ensures _ c.m-1.given.1 c.goto_turn.auto.1.1.1.0
-
-pub shape_of-plan : goal.shape_of-plan
-shape_of-plan c = c.loop-h.invariant.size ∙ c.start.auto.1.0
+loop-h-preserved c = running_goes _ _ _ _ _ _ _ c.loop-h.invariant (omega (arith, c.requires.lines_len_bound.1, c.start.auto.1.0)) c.loop-h-test.true _ _ c.goto_turn.ensures _ c.in-Go.is c.goto_turn.auto.1.1.1.0
 
 pub returns : goal.returns
-returns c = let r = c.loop-h.invariant in (running_ends _ _ _ _ _ _ _ r (omega (arith, c.requires.0.1, c.start.auto.1.0)) c.loop-h-test.false, emitted_ends _ _ _ _ _ _ _ r (omega (arith, c.requires.0.1, c.start.auto.1.0)))
+returns c = let r = c.loop-h.invariant in (running_ends _ _ _ _ _ _ _ r (omega (arith, c.requires.lines_len_bound.1, c.start.auto.1.0)) c.loop-h-test.false, emitted_ends _ _ _ _ _ _ _ r (omega (arith, c.requires.lines_len_bound.1, c.start.auto.1.0)))

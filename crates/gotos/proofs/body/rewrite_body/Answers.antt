@@ -15,9 +15,6 @@ bounds-plan-k c = search (rewriting, rules)
 pub indent-requires : goal.indent-requires
 indent-requires c = search (rewriting, rules)
 
-pub shape_of-plan-then-indent-eq255 : goal.shape_of-plan-then-indent-eq255
-shape_of-plan-then-indent-eq255 c = search (rewriting, rules)
-
 pub returns-then-indent-eq255 : goal.returns-then-indent-eq255
 returns-then-indent-eq255 c = search (rewriting, rules)
 
@@ -38,9 +35,6 @@ loop-k-smaller c = search (rewriting, rules)
 
 pub loop-k-preserved : goal.loop-k-preserved
 loop-k-preserved c = search (rewriting, rules)
-
-pub shape_of-plan : goal.shape_of-plan
-shape_of-plan c = search (rewriting, rules)
 
 pub returns : goal.returns
 returns c = search (rewriting, rules)

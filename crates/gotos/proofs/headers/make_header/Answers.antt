@@ -4,9 +4,6 @@ use lib.ListN.{length-set}
 use Rattle.gotos.proofs.HeadedRules.{fewer_yes, fewer_no, made_plain, made_tested}
 use Rattle.gotos.proofs.headers.make_header.Goals as goal
 
-pub shape_of-plan-then-tested : goal.shape_of-plan-then-tested
-shape_of-plan-then-tested c = simp length-set at c.remove.auto.0
-
 pub returns-then-tested : goal.returns-then-tested
 returns-then-tested c = let a = c.args in
     (fewer_yes a.n a.tested c.if-tested.true, made_tested a.plan.now a.n a.h a.tested c.requires.0 c.if-tested.true c.head_word.result c.piece.result _ c.head_word.ensures c.piece.ensures.0 c.remove.ensures)

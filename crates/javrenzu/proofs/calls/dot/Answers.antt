@@ -5,7 +5,7 @@ use borrow.Author.Rules.{rules}
 use Rattle.javrenzu.proofs.calls.dot.Goals as goal
 
 pub picture-requires : goal.picture-requires
-picture-requires c = (search rules, (dot_passing _ _ _ _ _ _ _ _ _ _ _ c.recover.ensures.0 c.enum_told-1.given.1, search rules))
+picture-requires c = record { in_bounds = search rules; passing = (dot_passing _ _ _ _ _ _ _ _ _ _ _ c.recover.ensures.space_after c.in-Accepted.is, search rules) }
 
 pub returns-in-Accepted : goal.returns-in-Accepted
 returns-in-Accepted c = search (dot_said, rules)

@@ -7,4 +7,4 @@ use Rattle.javrenzu.proofs.room.bytes.Goals as goal
 
 pub returns : goal.returns
 unfolding byte_zeros
-returns c = (refl, zeros_long 294912)
+returns c = record { value = refl; value_2 = zeros_long 294912 }

@@ -7,4 +7,4 @@ use Rattle.javrenzu.proofs.room.marks.Goals as goal
 
 pub returns : goal.returns
 unfolding mark_zeros
-returns c = (refl, zeros_long 16384)
+returns c = record { value = refl; value_2 = zeros_long 16384 }

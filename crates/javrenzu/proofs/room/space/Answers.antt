@@ -7,4 +7,4 @@ use Rattle.javrenzu.proofs.room.space.Goals as goal
 
 pub returns : goal.returns
 unfolding space_zeros
-returns c = (refl, zeros_long 73792)
+returns c = record { value = refl; value_2 = zeros_long 73792 }

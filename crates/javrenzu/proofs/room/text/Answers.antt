@@ -7,4 +7,4 @@ use Rattle.javrenzu.proofs.room.text.Goals as goal
 
 pub returns : goal.returns
 unfolding text_zeros
-returns c = (refl, zeros_long 262144)
+returns c = record { value = refl; value_2 = zeros_long 262144 }

@@ -7,4 +7,4 @@ use Rattle.javrenzu.proofs.room.words.Goals as goal
 
 pub returns : goal.returns
 unfolding word_zeros
-returns c = (refl, zeros_long 24576)
+returns c = record { value = refl; value_2 = zeros_long 24576 }

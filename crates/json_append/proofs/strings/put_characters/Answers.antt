@@ -16,9 +16,6 @@ slice_bounds-put-count c = search (strings, rules)
 pub put-to-requires : goal.put-to-requires
 put-to-requires c = search (strings, rules)
 
-pub shape_of-out-then-s-j : goal.shape_of-out-then-s-j
-shape_of-out-then-s-j c = search (strings, rules)
-
 pub returns-then-s-j : goal.returns-then-s-j
 returns-then-s-j c = search (strings, rules)
 
@@ -36,9 +33,6 @@ loop-i-smaller c = search (strings, rules)
 
 pub loop-i-preserved : goal.loop-i-preserved
 loop-i-preserved c = going_next _ _ _ _ _ _ c.loop-i.invariant _ c.plain_end-j.ensures _ _ c.put-to.ensures (search rules) _ _ c.put_character-to.ensures
-
-pub shape_of-out : goal.shape_of-out
-shape_of-out c = search (strings, rules)
 
 pub returns : goal.returns
 returns c = search (strings, rules)

@@ -20,4 +20,4 @@ returns-in_default-token_kind c = search (members, steps, rules) depth 12
 
 pub returns : goal.returns
 unfolding token_rest
-returns c = (search (members, steps, rules) depth 12, (search (members, steps, rules), token_in _ _ _ _ _ _ _ _ _ _ c.j-1.given.1 c.string.ensures.1.1 c.v-1.given.1 c.token_kind.ensures))
+returns c = (search (members, steps, rules) depth 12, (search (members, steps, rules), token_in _ _ _ _ _ _ _ _ _ _ c.in-Ends.is c.string.ensures.text_unchanged.1 c.in-Value.is c.token_kind.ensures))

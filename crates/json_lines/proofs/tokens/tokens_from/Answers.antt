@@ -20,14 +20,6 @@ pub enum_told-1 : goal.enum_told-1
 unfolding tokens_read
 enum_told-1 c = search (tokens, rules)
 
-pub shape_of-tokens-in_default : goal.shape_of-tokens-in_default
-unfolding tokens_read
-shape_of-tokens-in_default c = search (tokens, rules)
-
-pub shape_of-text-in_default : goal.shape_of-text-in_default
-unfolding tokens_read
-shape_of-text-in_default c = search (tokens, rules)
-
 pub returns-in_default : goal.returns-in_default
 unfolding tokens_read
 returns-in_default c = search (tokens, rules)
@@ -56,14 +48,6 @@ pub enum_known-l : goal.enum_known-l
 unfolding tokens_read
 enum_known-l c = search (tokens, rules)
 
-pub shape_of-tokens-in-Close : goal.shape_of-tokens-in-Close
-unfolding tokens_read
-shape_of-tokens-in-Close c = search (tokens, rules)
-
-pub shape_of-text-in-Close : goal.shape_of-text-in-Close
-unfolding tokens_read
-shape_of-text-in-Close c = search (tokens, rules)
-
 pub returns-in-Close : goal.returns-in-Close
 unfolding tokens_read
 returns-in-Close c = search (tokens, rules)
@@ -71,14 +55,6 @@ returns-in-Close c = search (tokens, rules)
 pub enum_told-in-NoSep : goal.enum_told-in-NoSep
 unfolding tokens_read
 enum_told-in-NoSep c = search (tokens, rules)
-
-pub shape_of-tokens-in-NoSep : goal.shape_of-tokens-in-NoSep
-unfolding tokens_read
-shape_of-tokens-in-NoSep c = search (tokens, rules)
-
-pub shape_of-text-in-NoSep : goal.shape_of-text-in-NoSep
-unfolding tokens_read
-shape_of-text-in-NoSep c = search (tokens, rules)
 
 pub returns-in-NoSep : goal.returns-in-NoSep
 unfolding tokens_read
@@ -95,14 +71,6 @@ loop-n-smaller c = search (tokens, rules)
 pub loop-n-preserved : goal.loop-n-preserved
 unfolding tokens_read
 loop-n-preserved c = search (tokens, rules)
-
-pub shape_of-tokens : goal.shape_of-tokens
-unfolding tokens_read
-shape_of-tokens c = search (tokens, rules)
-
-pub shape_of-text : goal.shape_of-text
-unfolding tokens_read
-shape_of-text c = search (tokens, rules)
 
 pub returns : goal.returns
 unfolding tokens_read

@@ -12,17 +12,11 @@ bounds-s-i c = search (texts, rules)
 pub overflow_add-result : goal.overflow_add-result
 overflow_add-result c = search (texts, rules)
 
-pub shape_of-text-then-c-eq34 : goal.shape_of-text-then-c-eq34
-shape_of-text-then-c-eq34 c = search (texts, rules)
-
 pub returns-then-c-eq34 : goal.returns-then-c-eq34
 returns-then-c-eq34 c = (search (texts, rules), (search (texts, rules), search (texts, rules)))
 
 pub is_plain-requires : goal.is_plain-requires
 is_plain-requires c = search (texts, rules)
-
-pub shape_of-text-then-text-to : goal.shape_of-text-then-text-to
-shape_of-text-then-text-to c = search (texts, rules)
 
 pub returns-then-text-to : goal.returns-then-text-to
 returns-then-text-to c = search (texts, rules)
@@ -51,9 +45,6 @@ enum_known-p c = search (texts, rules)
 pub enum_told-1 : goal.enum_told-1
 enum_told-1 c = search (texts, rules)
 
-pub shape_of-text-in_default : goal.shape_of-text-in_default
-shape_of-text-in_default c = search (texts, rules)
-
 pub returns-in_default : goal.returns-in_default
 returns-in_default c = search (texts, rules)
 
@@ -62,9 +53,6 @@ size-n-requires c = search (texts, rules)
 
 pub overflow_sub-text : goal.overflow_sub-text
 overflow_sub-text c = search (texts, rules)
-
-pub shape_of-text-then-text-to-2 : goal.shape_of-text-then-text-to-2
-shape_of-text-then-text-to-2 c = search (texts, rules)
 
 pub returns-then-text-to-2 : goal.returns-then-text-to-2
 returns-then-text-to-2 c = search (texts, rules)
@@ -80,9 +68,6 @@ loop-i-smaller c = search (texts, rules)
 
 pub loop-i-preserved : goal.loop-i-preserved
 loop-i-preserved c = search (texts, rules)
-
-pub shape_of-text : goal.shape_of-text
-shape_of-text c = search (texts, rules)
 
 pub returns : goal.returns
 returns c = search (texts, rules)

@@ -19,8 +19,5 @@ returns-in_default c = search (texts, rules)
 pub characters-requires : goal.characters-requires
 characters-requires c = search (texts, rules)
 
-pub shape_of-text : goal.shape_of-text
-shape_of-text c = search (texts, rules)
-
 pub returns : goal.returns
 returns c = search (texts, rules)

@@ -25,8 +25,5 @@ loop-k-preserved c = let a = c.args in
 pub put_byte-requires : goal.put_byte-requires
 put_byte-requires c = search (elements_end, rules)
 
-pub shape_of-out : goal.shape_of-out
-shape_of-out c = search (elements_end, rules)
-
 pub returns : goal.returns
 returns c = search (elements_end, rules)

@@ -10,20 +10,20 @@ use Rattle.line_steps.proofs.steps.falls_to.Goals as goal
 pub returns-then-lines-next : goal.returns-then-lines-next
 returns-then-lines-next c = let a = c.args in
     let n = length_listing a.lines.now a.tokens.now a.text.now in
-    falls_past (listing a.lines.now a.tokens.now a.text.now) (blocks_of (listing a.lines.now a.tokens.now a.text.now)) a.ends.now c.requires.1 a.i (omega (arith, n, c.if-lines-next.true))
+    falls_past (listing a.lines.now a.tokens.now a.text.now) (blocks_of (listing a.lines.now a.tokens.now a.text.now)) a.ends.now c.requires.fact a.i (omega (arith, n, c.if-lines-next.true))
 
 pub returns-then-e-eq0 : goal.returns-then-e-eq0
 returns-then-e-eq0 c = let a = c.args in
     let n = length_listing a.lines.now a.tokens.now a.text.now in
-    falls_next (listing a.lines.now a.tokens.now a.text.now) (blocks_of (listing a.lines.now a.tokens.now a.text.now)) a.ends.now c.requires.1 a.i c.else_end-e.result (omega (arith, n, c.if-lines-next.false)) c.else_end-e.ensures c.if-e-eq0.true
+    falls_next (listing a.lines.now a.tokens.now a.text.now) (blocks_of (listing a.lines.now a.tokens.now a.text.now)) a.ends.now c.requires.fact a.i c.else_end-e.result (omega (arith, n, c.if-lines-next.false)) c.else_end-e.ensures c.if-e-eq0.true
 
 pub chain_end-requires : goal.chain_end-requires
 chain_end-requires c = let a = c.args in
     let n = length_listing a.lines.now a.tokens.now a.text.now in
-    let w = else_later (listing a.lines.now a.tokens.now a.text.now) (blocks_of (listing a.lines.now a.tokens.now a.text.now)) a.ends.now c.requires.1 (a.i + 1) c.else_end-e.result (omega (arith, n, c.if-lines-next.false)) c.else_end-e.ensures c.if-e-eq0.false in
-    ((omega arith, omega arith, c.requires.0.2), c.requires.1)
+    let w = else_later (listing a.lines.now a.tokens.now a.text.now) (blocks_of (listing a.lines.now a.tokens.now a.text.now)) a.ends.now c.requires.fact (a.i + 1) c.else_end-e.result (omega (arith, n, c.if-lines-next.false)) c.else_end-e.ensures c.if-e-eq0.false in
+    ((omega arith, omega arith, c.requires.i_in_bounds.2), c.requires.fact)
 
 pub returns : goal.returns
 returns c = let a = c.args in
     let n = length_listing a.lines.now a.tokens.now a.text.now in
-    falls_chain (listing a.lines.now a.tokens.now a.text.now) (blocks_of (listing a.lines.now a.tokens.now a.text.now)) a.ends.now c.requires.1 a.i c.else_end-e.result (omega (arith, n, c.if-lines-next.false)) c.else_end-e.ensures c.chain_end.result c.if-e-eq0.false c.chain_end.ensures.0
+    falls_chain (listing a.lines.now a.tokens.now a.text.now) (blocks_of (listing a.lines.now a.tokens.now a.text.now)) a.ends.now c.requires.fact a.i c.else_end-e.result (omega (arith, n, c.if-lines-next.false)) c.else_end-e.ensures c.chain_end.result c.if-e-eq0.false c.chain_end.ensures.0

@@ -17,14 +17,14 @@ overflow_cast-p c = search (wider, rules)
 
 pub loop-p-init : goal.loop-p-init
 loop-p-init c = let a = c.args in
-    let P = c.requires.1 in
+    let P = c.requires.fact_2 in
     let n = length_listing a.lines.now a.tokens.now a.text.now in
     let w = P.inward a.i (omega arith) in
     (w, refl, left_start a.parents.now a.i (get_or a.parents.now a.i 0) (λ j g. P.inward j (omega (arith, n))) w (length a.lines.now) a.r (listing a.lines.now a.tokens.now a.text.now) a.ends.now a.space.now)
 
 pub leave-requires : goal.leave-requires
 leave-requires c = let a = c.args in
-    (matrices_kept (length a.lines.now) a.r a.space.now c.loop-p.space c.requires.0.0 c.loop-p.invariant.1, c.requires.0.1, omega arith, c.requires.0.4)
+    (matrices_kept (length a.lines.now) a.r a.space.now c.loop-p.space c.requires.fact.0 c.loop-p.invariant.1, c.requires.fact.1, omega arith, c.requires.fact.4)
 
 pub overflow_cast-p-in-loop-p : goal.overflow_cast-p-in-loop-p
 overflow_cast-p-in-loop-p c = search (wider, rules)
@@ -32,13 +32,13 @@ overflow_cast-p-in-loop-p c = search (wider, rules)
 pub loop-p-smaller : goal.loop-p-smaller
 loop-p-smaller c = let a = c.args in
     let n = length_listing a.lines.now a.tokens.now a.text.now in
-    let w = c.requires.1.inward (c.loop-p.p - 1) (omega arith) in
+    let w = c.requires.fact_2.inward (c.loop-p.p - 1) (omega arith) in
     omega arith
 
 pub loop-p-preserved : goal.loop-p-preserved
 loop-p-preserved c = let a = c.args in
     let l = c.loop-p in
-    let P = c.requires.1 in
+    let P = c.requires.fact_2 in
     let n = length_listing a.lines.now a.tokens.now a.text.now in
     let w = P.inward (l.p - 1) (omega arith) in (
       omega arith,

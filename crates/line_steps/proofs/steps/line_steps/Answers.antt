@@ -10,18 +10,18 @@ use Rattle.line_steps.proofs.steps.line_steps.Goals as goal
 
 pub jumps-requires : goal.jumps-requires
 jumps-requires c = let a = c.args in
-    let R = c.requires.1 in
-    ((matrices_kept (length a.lines.now) a.r a.space.now _ c.requires.0.0 c.block_steps.auto.1.1.1.1.1.0, c.requires.0.1, R.heads_room, R.nexts_room, R.masks), R.labels)
+    let R = c.requires.read in
+    ((matrices_kept (length a.lines.now) a.r a.space.now _ c.requires.matrices.0 c.block_steps.auto.1.1.1.1.1.0, c.requires.matrices.1, R.heads_room, R.nexts_room, R.masks), R.labels)
 
 pub leaves-requires : goal.leaves-requires
 leaves-requires c = let a = c.args in
-    let R = c.requires.1 in
-    ((matrices_kept (length a.lines.now) a.r a.space.now _ c.requires.0.0 (c.jumps.auto.1.1.1.1.1.1.0 ∙ c.block_steps.auto.1.1.1.1.1.0), c.requires.0.1, R.ends_room, R.parents_room, R.masks), (R.ends, R.parents))
+    let R = c.requires.read in
+    ((matrices_kept (length a.lines.now) a.r a.space.now _ c.requires.matrices.0 (c.jumps.auto.1.1.1.1.1.1.0 ∙ c.block_steps.auto.1.1.1.1.1.0), c.requires.matrices.1, R.ends_room, R.parents_room, R.masks), (R.ends, R.parents))
 
 pub loops_back-requires : goal.loops_back-requires
 loops_back-requires c = let a = c.args in
-    let R = c.requires.1 in
-    ((matrices_kept (length a.lines.now) a.r a.space.now _ c.requires.0.0 (c.leaves.auto.1.1.1.1.1.1.0 ∙ c.jumps.auto.1.1.1.1.1.1.0 ∙ c.block_steps.auto.1.1.1.1.1.0), c.requires.0.1, R.ends_room, R.masks), R.ends)
+    let R = c.requires.read in
+    ((matrices_kept (length a.lines.now) a.r a.space.now _ c.requires.matrices.0 (c.leaves.auto.1.1.1.1.1.1.0 ∙ c.jumps.auto.1.1.1.1.1.1.0 ∙ c.block_steps.auto.1.1.1.1.1.0), c.requires.matrices.1, R.ends_room, R.masks), R.ends)
 
 pub returns-then-jumps : goal.returns-then-jumps
 returns-then-jumps c = let a = c.args in
@@ -32,4 +32,4 @@ returns-then-jumps c = let a = c.args in
     )
 
 pub returns-else-jumps : goal.returns-else-jumps
-returns-else-jumps c = (sym c.if-jumps.false ∙ c.jumps.ensures.0, λ z. absurd (false≢true z))
+returns-else-jumps c = record { value = sym c.if-jumps.false ∙ c.jumps.ensures.value; fact = λ z. absurd (false≢true z) }

@@ -9,13 +9,13 @@ pub loop-k-init : goal.loop-k-init
 loop-k-init c = search (jumping, rules)
 
 pub jump_step-requires : goal.jump_step-requires
-jump_step-requires c = ((search (matrices_kept, rules), search rules, search rules, search rules, search rules), search rules)
+jump_step-requires c = record { fact = (search (matrices_kept, rules), search rules, search rules, search rules, search rules); indexed = search rules }
 
 pub loop-k-preserved : goal.loop-k-preserved
 loop-k-preserved c = search (jumping, rules)
 
 pub returns-else-jump_step : goal.returns-else-jump_step
-returns-else-jump_step c = (search (jumping, rules), λ z. absurd (false≢true z))
+returns-else-jump_step c = record { value = search (jumping, rules); fact_2 = λ z. absurd (false≢true z) }
 
 pub returns : goal.returns
-returns c = (search (jumping, rules), λ z. search (jumping, rules))
+returns c = record { value = search (jumping, rules); fact_2 = λ z. search (jumping, rules) }

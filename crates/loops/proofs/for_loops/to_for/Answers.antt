@@ -29,14 +29,11 @@ enum_known-e c = search (for_answers, rules)
 pub enum_told-1 : goal.enum_told-1
 enum_told-1 c = search (for_answers, rules)
 
-pub shape_of-plan-in_default : goal.shape_of-plan-in_default
-shape_of-plan-in_default c = search (for_answers, rules)
-
 pub returns-in_default : goal.returns-in_default
 returns-in_default c = search (for_answers, rules)
 
 pub for_place-requires : goal.for_place-requires
-for_place-requires c = let p = c.requires in let i = place_calls _ _ _ _ _ _ p.0.0 p.0.1 c.first_end.ensures c.e-1.given.1 in ((i.0, i.1, p.0.2, i.2), p.1.1)
+for_place-requires c = let p = c.requires in let i = place_calls _ _ _ _ _ _ p.0.0 p.0.1 c.first_end.ensures c.in-At.is in ((i.0, i.1, p.0.2, i.2), p.1.1)
 
 pub enum_known-k : goal.enum_known-k
 enum_known-k c = search (for_answers, rules)
@@ -44,20 +41,14 @@ enum_known-k c = search (for_answers, rules)
 pub enum_told-in_default-for_place : goal.enum_told-in_default-for_place
 enum_told-in_default-for_place c = search (for_answers, rules)
 
-pub shape_of-plan-in_default-for_place : goal.shape_of-plan-in_default-for_place
-shape_of-plan-in_default-for_place c = search (for_answers, rules)
-
 pub returns-in_default-for_place : goal.returns-in_default-for_place
 returns-in_default-for_place c = search (for_answers, rules)
 
 pub make_for-requires : goal.make_for-requires
-make_for-requires c = let a = c.args in let i = end_inside _ a.plan.now _ (a.w + 1) _ _ c.requires.0.1 c.first_end.ensures c.e-1.given.1 in let p = place_inside _ _ _ _ _ _ c.for_place.ensures c.k-1.given.1 in (p.0, p.1, i.1, c.requires.0.1)
+make_for-requires c = let a = c.args in let i = end_inside _ a.plan.now _ (a.w + 1) _ _ c.requires.w_lt_n.1 c.first_end.ensures c.in-At.is in let p = place_inside _ _ _ _ _ _ c.for_place.ensures c.in-At-for_place.is in (p.0, p.1, i.1, c.requires.w_lt_n.1)
 
 pub overflow_sub-result : goal.overflow_sub-result
 overflow_sub-result c = search (for_answers, rules)
 
-pub shape_of-plan : goal.shape_of-plan
-shape_of-plan c = search (for_answers, rules)
-
 pub returns : goal.returns
-returns c = let p = c.requires in for_done _ _ _ _ _ _ p.0.0 p.0.1 p.1.0.0 p.1.0.1 c.if-w-eq0.false _ c.indent.ensures.0 _ c.first_end.ensures _ c.e-1.given.1 _ c.for_place.ensures _ c.k-1.given.1 _ c.make_for.ensures
+returns c = let p = c.requires in for_done _ _ _ _ _ _ p.0.0 p.0.1 p.1.0.0 p.1.0.1 c.if-w-eq0.false _ c.indent.ensures.0 _ c.first_end.ensures _ c.in-At.is _ c.for_place.ensures _ c.in-At-for_place.is _ c.make_for.ensures

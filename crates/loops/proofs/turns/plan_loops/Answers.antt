@@ -8,7 +8,7 @@ pub start-requires : goal.start-requires
 start-requires c = let p = c.requires in (p.0.1, p.0.0)
 
 pub loop-i-init : goal.loop-i-init
-loop-i-init c = running_start _ _ _ _ c.requires.0.0 c.start.ensures
+loop-i-init c = running_start _ _ _ _ c.requires.lines_len_bound.0 c.start.ensures
 
 pub overflow_add-i : goal.overflow_add-i
 overflow_add-i c = omega (arith, c.loop-i.invariant.upto)
@@ -16,26 +16,17 @@ overflow_add-i c = omega (arith, c.loop-i.invariant.upto)
 pub loop_turn-requires : goal.loop_turn-requires
 loop_turn-requires c = let r = c.loop-i.invariant in let p = c.requires in ((c.loop-i-test.true, omega (arith, r.size, r.fewer, p.0.1, c.start.auto.1.0), p.0.2), (r.ready, p.1))
 
-pub shape_of-plan-in-Stop : goal.shape_of-plan-in-Stop
-shape_of-plan-in-Stop c = c.loop_turn.auto.1.1.1.1.0 ∙ (c.loop-i.invariant.size ∙ c.start.auto.1.0)
-
 pub returns-in-Stop : goal.returns-in-Stop
-returns-in-Stop c = let room = c.requires.0.1 in let r = c.loop-i.invariant in (running_stops _ _ _ _ _ _ _ r (omega (arith, c.start.auto.1.0)) c.loop-i-test.true _ _ c.loop_turn.ensures c.enum_told-1.given.1, emitted_stops _ _ _ _ _ _ _ r (omega (arith, c.start.auto.1.0)) c.loop-i-test.true _ _ c.loop_turn.ensures c.enum_told-1.given.1)
-
-pub shape_of-plan-in-Beyond : goal.shape_of-plan-in-Beyond
-shape_of-plan-in-Beyond c = c.loop_turn.auto.1.1.1.1.0 ∙ (c.loop-i.invariant.size ∙ c.start.auto.1.0)
+returns-in-Stop c = let room = c.requires.lines_len_bound.1 in let r = c.loop-i.invariant in (running_stops _ _ _ _ _ _ _ r (omega (arith, c.start.auto.1.0)) c.loop-i-test.true _ _ c.loop_turn.ensures c.in-Stop.is, emitted_stops _ _ _ _ _ _ _ r (omega (arith, c.start.auto.1.0)) c.loop-i-test.true _ _ c.loop_turn.ensures c.in-Stop.is)
 
 pub returns-in-Beyond : goal.returns-in-Beyond
-returns-in-Beyond c = (running_overflows _ _ _ _ _ _ _ c.loop-i.invariant (omega (arith, c.requires.0.1, c.start.auto.1.0)) c.loop-i-test.true _ _ c.loop_turn.ensures c.enum_told-in-Beyond-1.given.1, tt)
+returns-in-Beyond c = record { result_after = running_overflows _ _ _ _ _ _ _ c.loop-i.invariant (omega (arith, c.requires.lines_len_bound.1, c.start.auto.1.0)) c.loop-i-test.true _ _ c.loop_turn.ensures c.in-Beyond.is; emitted = tt }
 
 pub loop-i-smaller : goal.loop-i-smaller
 loop-i-smaller c = omega (arith, c.loop-i.invariant.fewer)
 
 pub loop-i-preserved : goal.loop-i-preserved
-loop-i-preserved c = running_goes _ _ _ _ _ _ _ c.loop-i.invariant (omega (arith, c.requires.0.1, c.start.auto.1.0)) c.loop-i-test.true _ _ c.loop_turn.ensures _ c.m-1.given.1 c.loop_turn.auto.1.1.1.1.0
-
-pub shape_of-plan : goal.shape_of-plan
-shape_of-plan c = c.loop-i.invariant.size ∙ c.start.auto.1.0
+loop-i-preserved c = running_goes _ _ _ _ _ _ _ c.loop-i.invariant (omega (arith, c.requires.lines_len_bound.1, c.start.auto.1.0)) c.loop-i-test.true _ _ c.loop_turn.ensures _ c.in-Go.is c.loop_turn.auto.1.1.1.1.0
 
 pub returns : goal.returns
-returns c = let r = c.loop-i.invariant in (running_ends _ _ _ _ _ _ _ r (omega (arith, c.requires.0.1, c.start.auto.1.0)) c.loop-i-test.false, emitted_ends _ _ _ _ _ _ _ r (omega (arith, c.requires.0.1, c.start.auto.1.0)))
+returns c = let r = c.loop-i.invariant in (running_ends _ _ _ _ _ _ _ r (omega (arith, c.requires.lines_len_bound.1, c.start.auto.1.0)) c.loop-i-test.false, emitted_ends _ _ _ _ _ _ _ r (omega (arith, c.requires.lines_len_bound.1, c.start.auto.1.0)))

@@ -9,16 +9,10 @@ pub unwrap-requires : goal.unwrap-requires
 unwrap-requires c = let p = c.requires in (p.0.0, omega (arith, p.0.1), p.0.2, ready_header _ _ _ (omega (arith, p.0.0, p.0.1)) p.0.2 p.1.0)
 
 pub to_for-m-requires : goal.to_for-m-requires
-to_for-m-requires c = let p = c.requires in ((omega (arith, p.0.0, p.0.1), omega (arith, p.0.2, c.unwrap.auto.0), p.0.3), (rebuild_calls _ _ _ _ p.0.0 p.0.1 p.0.2 p.1.0 _ c.unwrap.ensures.0 _ c.if-unwrap.true c.unwrap.ensures.1, p.1.1))
-
-pub shape_of-plan-then-unwrap : goal.shape_of-plan-then-unwrap
-shape_of-plan-then-unwrap c = c.to_for-m.auto.1.1.1.1.0 ∙ c.unwrap.auto.0
+to_for-m-requires c = let p = c.requires in ((omega (arith, p.0.0, p.0.1), omega (arith, p.0.2, c.unwrap.auto.0), p.0.3), (rebuild_calls _ _ _ _ p.0.0 p.0.1 p.0.2 p.1.0 _ c.unwrap.ensures.value _ c.if-unwrap.true c.unwrap.ensures.plan_after, p.1.1))
 
 pub returns-then-unwrap : goal.returns-then-unwrap
-returns-then-unwrap c = let p = c.requires in rebuilt_go _ _ _ _ p.0.0 p.0.1 p.0.2 p.1.0 _ c.unwrap.ensures.0 _ c.if-unwrap.true c.unwrap.ensures.1 _ _ _ _ _ c.to_for-m.ensures
-
-pub shape_of-plan-else-unwrap : goal.shape_of-plan-else-unwrap
-shape_of-plan-else-unwrap c = c.unwrap.auto.0
+returns-then-unwrap c = let p = c.requires in rebuilt_go _ _ _ _ p.0.0 p.0.1 p.0.2 p.1.0 _ c.unwrap.ensures.value _ c.if-unwrap.true c.unwrap.ensures.plan_after _ _ _ _ _ c.to_for-m.ensures
 
 pub returns-else-unwrap : goal.returns-else-unwrap
-returns-else-unwrap c = let p = c.requires in rebuilt_beyond _ _ _ _ p.0.0 p.0.1 p.0.2 p.1.0 _ c.unwrap.ensures.0 c.if-unwrap.false _ _ _ _
+returns-else-unwrap c = let p = c.requires in rebuilt_beyond _ _ _ _ p.0.0 p.0.1 p.0.2 p.1.0 _ c.unwrap.ensures.value c.if-unwrap.false _ _ _ _

@@ -12,8 +12,5 @@ overflow_add-plan c = omega (arith, c.slice_known-1.given c.args.i)
 pub move_out-requires : goal.move_out-requires
 move_out-requires c = (omega arith, omega arith, omega (arith, simp length-set at c.remove_two.auto.0))
 
-pub shape_of-plan : goal.shape_of-plan
-shape_of-plan c = c.move_out.auto.0 ∙ (simp length-set at c.remove_two.auto.0)
-
 pub returns : goal.returns
-returns c = let p = c.requires in (words_tests _ _ _ _ _ p.0 p.1 c.remove_two.ensures _ c.move_out.ensures.0, λ e. words_moved _ _ _ _ _ p.0 p.1 c.remove_two.ensures _ (c.move_out.ensures.1 e))
+returns c = let p = c.requires in (words_tests _ _ _ _ _ p.0 p.1 c.remove_two.ensures _ c.move_out.ensures.value, λ e. words_moved _ _ _ _ _ p.0 p.1 c.remove_two.ensures _ (c.move_out.ensures.plan_after e))

@@ -23,7 +23,7 @@ pub loop-k-smaller : goal.loop-k-smaller
 loop-k-smaller c = search (counting, rules)
 
 pub loop-k-preserved : goal.loop-k-preserved
-loop-k-preserved c = (search rules, count_add _ _ _ _ c.loop-k.invariant.1 _ c.is_byte.ensures.0 (search rules), omega (arith, c.is_byte.ensures.1))
+loop-k-preserved c = (search rules, count_add _ _ _ _ c.loop-k.invariant.1 _ c.is_byte-n.ensures.0 (search rules), omega (arith, c.is_byte-n.ensures.1))
 
 pub returns : goal.returns
 returns c = search (counting, rules)

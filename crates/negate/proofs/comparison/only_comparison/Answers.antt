@@ -13,12 +13,12 @@ scan-r-requires c = let a = c.args in
 
 pub returns-then-r-ne1 : goal.returns-then-r-ne1
 unfolding Sound
-returns-then-r-ne1 c = (negation_count _ c.args.g _ c.scan-r.result c.test_count-m.ensures c.scan-r.ensures c.if-r-ne1.true, tt)
+returns-then-r-ne1 c = record { result_value = negation_count _ c.args.g _ c.scan-r.result c.test_count-m.ensures c.scan-r.ensures c.if-r-ne1.true; sound = tt }
 
 pub returns-then-r-lt-NONE : goal.returns-then-r-lt-NONE
 unfolding Sound
-returns-then-r-lt-NONE c = (negation_only _ c.args.g _ c.scan-r.result c.test_count-m.ensures c.scan-r.ensures (search rules) c.if-r-lt-NONE.true, c.if-r-lt-NONE.true)
+returns-then-r-lt-NONE c = record { result_value = negation_only _ c.args.g _ c.scan-r.result c.test_count-m.ensures c.scan-r.ensures (search rules) c.if-r-lt-NONE.true; sound = c.if-r-lt-NONE.true }
 
 pub returns : goal.returns
 unfolding Sound
-returns c = (negation_none _ c.args.g _ c.scan-r.result c.test_count-m.ensures c.scan-r.ensures (search rules) c.if-r-lt-NONE.false, tt)
+returns c = record { result_value = negation_none _ c.args.g _ c.scan-r.result c.test_count-m.ensures c.scan-r.ensures (search rules) c.if-r-lt-NONE.false; sound = tt }

@@ -13,20 +13,5 @@ link_reads-requires c = search (link_rules, rules)
 pub ranks-requires : goal.ranks-requires
 ranks-requires c = search (link_rules, rules)
 
-pub shape_of-space : goal.shape_of-space
-shape_of-space c = search (link_rules, rules)
-
-pub shape_of-rep : goal.shape_of-rep
-shape_of-rep c = search (link_rules, rules)
-
-pub shape_of-rank : goal.shape_of-rank
-shape_of-rank c = search (link_rules, rules)
-
-pub shape_of-set : goal.shape_of-set
-shape_of-set c = search (link_rules, rules)
-
-pub shape_of-marks : goal.shape_of-marks
-shape_of-marks c = search (link_rules, rules)
-
 pub returns : goal.returns
 returns c = search (link_rules, rules)

@@ -9,8 +9,5 @@ first_reaching-requires c = search (link_rules, rules)
 pub web_of-requires : goal.web_of-requires
 web_of-requires c = search (link_rules, rules)
 
-pub shape_of-space : goal.shape_of-space
-shape_of-space c = search (link_rules, rules)
-
 pub returns : goal.returns
 returns c = search (link_rules, rules)

@@ -24,8 +24,5 @@ loop-d-smaller c = search (representative_rules, rules)
 pub loop-d-preserved : goal.loop-d-preserved
 loop-d-preserved c = search (representative_rules, rules)
 
-pub shape_of-rep : goal.shape_of-rep
-shape_of-rep c = search (representative_rules, rules)
-
 pub returns : goal.returns
 returns c = search (representative_rules, rules)

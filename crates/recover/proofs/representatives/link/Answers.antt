@@ -9,9 +9,6 @@ returns-then-ds-lt2 c = search (representative_rules, rules)
 pub are_same-requires : goal.are_same-requires
 are_same-requires c = search (representative_rules, rules)
 
-pub shape_of-rep-then-are_same : goal.shape_of-rep-then-are_same
-shape_of-rep-then-are_same c = search (representative_rules, rules)
-
 pub returns-then-are_same : goal.returns-then-are_same
 returns-then-are_same c = search (representative_rules, rules)
 
@@ -26,12 +23,6 @@ least-m-requires c = search (representative_rules, rules)
 
 pub merge-requires : goal.merge-requires
 merge-requires c = search (representative_rules, rules)
-
-pub shape_of-rep : goal.shape_of-rep
-shape_of-rep c = search (representative_rules, rules)
-
-pub shape_of-marks : goal.shape_of-marks
-shape_of-marks c = search (representative_rules, rules)
 
 pub returns : goal.returns
 returns c = search (representative_rules, rules)

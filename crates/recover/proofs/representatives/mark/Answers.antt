@@ -10,9 +10,6 @@ wide-k-requires c = search (representative_rules, rules)
 pub bounds-marks-k : goal.bounds-marks-k
 bounds-marks-k c = search (representative_rules, rules)
 
-pub shape_of-marks : goal.shape_of-marks
-shape_of-marks c = search (representative_rules, rules)
-
 pub returns-then-k-marks : goal.returns-then-k-marks
 returns-then-k-marks c = search (representative_rules, rules)
 

@@ -21,8 +21,5 @@ loop-k-smaller c = search (representative_rules, rules)
 pub loop-k-preserved : goal.loop-k-preserved
 loop-k-preserved c = (search rules, search rules, marks_next _ _ _ _ _ c.loop-k.invariant.2 _ _ c.loop-k-test.true c.rep_of.ensures c.mark.ensures)
 
-pub shape_of-marks : goal.shape_of-marks
-shape_of-marks c = search (representative_rules, rules)
-
 pub returns : goal.returns
 returns c = search (representative_rules, rules)

@@ -15,14 +15,8 @@ find_bit-q-requires c = search (set_rules, rules)
 pub overflow_sub-result : goal.overflow_sub-result
 overflow_sub-result c = search (set_rules, rules)
 
-pub shape_of-space-then-q-e : goal.shape_of-space-then-q-e
-shape_of-space-then-q-e c = search (set_rules, rules)
-
 pub returns-then-q-e : goal.returns-then-q-e
 returns-then-q-e c = search (set_rules, rules)
-
-pub shape_of-space-else-q-e : goal.shape_of-space-else-q-e
-shape_of-space-else-q-e c = search (set_rules, rules)
 
 pub returns-else-q-e : goal.returns-else-q-e
 returns-else-q-e c = search (set_rules, rules)

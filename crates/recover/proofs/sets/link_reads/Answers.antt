@@ -1,6 +1,5 @@
 use mathlib.Core.Path.{◌∙◌}
 use Prim.Native.Nat.{◌-◌}
-use native.Mathlib.Omega.{arith}
 use Rattle.recover.proofs.LinkReads.{link_rules, links_next, slices_next}
 use borrow.Author.Rules.{rules}
 use Rattle.recover.proofs.sets.link_reads.Goals as goal
@@ -19,18 +18,6 @@ loop-j-smaller c = search (link_rules, rules)
 
 pub loop-j-preserved : goal.loop-j-preserved
 loop-j-preserved c = (c.link_line.auto.0 ∙ c.loop-j.invariant.0, c.link_line.auto.1.1.1.1.1.1.0 ∙ c.loop-j.invariant.1, c.link_line.auto.1.1.1.1.1.1.1.0 ∙ c.loop-j.invariant.2, c.link_line.auto.1.1.1.1.1.1.1.1.0 ∙ c.loop-j.invariant.3, slices_next _ _ _ _ _ _ _ _ _ _ _ _ _ c.loop-j.invariant.4 c.link_line.ensures c.link_line.auto.1.1.1.1.1.1.0 c.link_line.auto.1.1.1.1.1.1.1.0 c.link_line.auto.1.1.1.1.1.1.1.1.0, links_next _ _ _ _ _ _ _ _ _ _ c.loop-j.invariant.5 _ _ _ c.loop-j-test.true c.number.ensures c.link_line.ensures)
-
-pub shape_of-space : goal.shape_of-space
-shape_of-space c = search (link_rules, rules)
-
-pub shape_of-rep : goal.shape_of-rep
-shape_of-rep c = search (link_rules, rules)
-
-pub shape_of-set : goal.shape_of-set
-shape_of-set c = search (link_rules, rules)
-
-pub shape_of-marks : goal.shape_of-marks
-shape_of-marks c = search (link_rules, rules)
 
 pub returns : goal.returns
 returns c = search (link_rules, rules)

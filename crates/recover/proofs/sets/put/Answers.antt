@@ -16,9 +16,6 @@ bounds-set-m c = search (set_rules, rules)
 pub overflow_add-result : goal.overflow_add-result
 overflow_add-result c = search (set_rules, rules)
 
-pub shape_of-set-then-yes : goal.shape_of-set-then-yes
-shape_of-set-then-yes c = search (set_rules, rules)
-
 pub returns-then-yes : goal.returns-then-yes
 returns-then-yes c = search (set_rules, rules)
 

@@ -10,11 +10,5 @@ incoming_row-a-requires c = search (set_rules, rules)
 pub members-requires : goal.members-requires
 members-requires c = search (set_rules, rules)
 
-pub shape_of-space : goal.shape_of-space
-shape_of-space c = search (set_rules, rules)
-
-pub shape_of-set : goal.shape_of-set
-shape_of-set c = search (set_rules, rules)
-
 pub returns : goal.returns
 returns c = search (set_rules, rules)

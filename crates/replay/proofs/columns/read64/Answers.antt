@@ -39,14 +39,8 @@ loop-i-preserved c = search (onward, rules)
 pub enum_told-in-Bad : goal.enum_told-in-Bad
 enum_told-in-Bad c = search (onward, rules)
 
-pub shape_of-out-in-Bad : goal.shape_of-out-in-Bad
-shape_of-out-in-Bad c = search (onward, rules)
-
 pub returns-in-Bad : goal.returns-in-Bad
 returns-in-Bad c = search (onward, rules)
-
-pub shape_of-out : goal.shape_of-out
-shape_of-out c = search (onward, rules)
 
 pub returns : goal.returns
 returns c = search (onward, rules)

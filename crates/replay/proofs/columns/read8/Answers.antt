@@ -27,9 +27,6 @@ enum_known-v c = search (onward, rules)
 pub put8-requires : goal.put8-requires
 put8-requires c = search (onward, rules)
 
-pub shape_of-out-then-not-put8 : goal.shape_of-out-then-not-put8
-shape_of-out-then-not-put8 c = search (onward, rules)
-
 pub returns-then-not-put8 : goal.returns-then-not-put8
 returns-then-not-put8 c = search (onward, rules)
 
@@ -45,14 +42,8 @@ loop-i-preserved c = search (onward, rules)
 pub enum_told-in-Bad : goal.enum_told-in-Bad
 enum_told-in-Bad c = search (onward, rules)
 
-pub shape_of-out-in-Bad : goal.shape_of-out-in-Bad
-shape_of-out-in-Bad c = search (onward, rules)
-
 pub returns-in-Bad : goal.returns-in-Bad
 returns-in-Bad c = search (onward, rules)
-
-pub shape_of-out : goal.shape_of-out
-shape_of-out c = search (onward, rules)
 
 pub returns : goal.returns
 returns c = search (onward, rules)

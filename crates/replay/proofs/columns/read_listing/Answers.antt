@@ -6,9 +6,9 @@ use Rattle.replay.proofs.columns.read_listing.Goals as goal
 
 pub returns : goal.returns
 returns c = omega (
-  arith,
-  words_ahead _ _ _ _ c.read8.ensures c.x-1.given.1,
-  words_ahead _ _ _ _ c.read32-2.ensures c.t-1.given.1,
-  words_ahead _ _ _ _ c.read64.ensures c.a-1.given.1,
-  words_ahead _ _ _ _ c.read32.ensures c.l-1.given.1,
-)
+      arith,
+      words_ahead _ _ _ _ c.read8.ensures c.in-Read-read8.is,
+      words_ahead _ _ _ _ c.read32-2.ensures c.in-Read-read32.is,
+      words_ahead _ _ _ _ c.read64.ensures c.in-Read-read64.is,
+      words_ahead _ _ _ _ c.read32.ensures c.in-Read.is,
+    )

@@ -6,8 +6,8 @@ use Rattle.replay.proofs.rows.replay_row.Goals as goal
 
 pub returns-then-answer : goal.returns-then-answer
 returns-then-answer c = omega (
-  arith,
-  c.skip.ensures.1,
-  listing_ahead _ _ _ _ c.read_listing.ensures c.sizes-1.given.1,
-  number_ahead _ _ _ _ c.number.ensures.1 c.call-1.given.1,
-)
+      arith,
+      c.skip.ensures.lower_bound,
+      listing_ahead _ _ _ _ c.read_listing.ensures c.in-Read.is,
+      number_ahead _ _ _ _ c.number.ensures.at_bound c.in-Number.is,
+    )

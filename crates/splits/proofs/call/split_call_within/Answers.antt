@@ -9,7 +9,7 @@ split_numbers-requires c = let a = c.args in
 
 pub returns-then-q-eq0 : goal.returns-then-q-eq0
 returns-then-q-eq0 c = let a = c.args in
-    accepts (at_most a.most) a.lines.now a.tokens.now a.text.now a.numbers.now a.marks.now c.ask-q.result c.ask-q.ensures c.if-q-eq0.true _ _ c.split_numbers.ensures.0 c.split_numbers.ensures.1
+    accepts (at_most a.most) a.lines.now a.tokens.now a.text.now a.numbers.now a.marks.now c.ask-q.result c.ask-q.ensures c.if-q-eq0.true _ _ c.split_numbers.ensures.numbers_after c.split_numbers.ensures.marks_after
 
 pub returns : goal.returns
 returns c = let a = c.args in

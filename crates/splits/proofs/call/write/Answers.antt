@@ -20,6 +20,6 @@ pub returns : goal.returns
 returns c = let a = c.args in
     let p = c.requires in
     let f = c.find_starts-count.ensures in (
-      numbers_are a.lines.now a.tokens.now a.text.now _ f.1 p.0.1 p.1.0 _ c.write_lines.ensures.0,
-      marks_are a.lines.now a.tokens.now a.text.now _ f.1 p.0.1 p.1.0 _ c.write_lines.ensures.1,
+      numbers_are a.lines.now a.tokens.now a.text.now _ f.1 p.0.1 p.1.0 _ c.write_lines.ensures.numbers_after,
+      marks_are a.lines.now a.tokens.now a.text.now _ f.1 p.0.1 p.1.0 _ c.write_lines.ensures.marks_after,
     )

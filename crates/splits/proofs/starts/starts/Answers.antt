@@ -32,11 +32,8 @@ loop-i-smaller c = search (start_rules, rules)
 pub loop-i-preserved : goal.loop-i-preserved
 loop-i-preserved c = (
   simp length-set c.loop-i.invariant.0,
-  starting_next _ _ _ _ _ _ _ c.loop-i.invariant.1 c.requires.0.1 c.loop-i-test.true (omega (arith, c.loop-i.invariant.0, c.requires.1, c.loop-i-test.true)) _ _ _ c.start_of.ensures c.number.ensures c.greater-reach.ensures,
+  starting_next _ _ _ _ _ _ _ c.loop-i.invariant.1 c.requires.0.1 c.loop-i-test.true (omega (arith, c.loop-i.invariant.0, c.requires.1, c.loop-i-test.true)) _ _ _ c.start_of-v.ensures c.number.ensures c.greater-reach.ensures,
 )
-
-pub shape_of-defs : goal.shape_of-defs
-shape_of-defs c = search (start_rules, rules)
 
 pub returns : goal.returns
 returns c = search (start_rules, rules)

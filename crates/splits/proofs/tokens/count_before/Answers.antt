@@ -21,8 +21,5 @@ offset_bounds-counts-c c = search (writes, rules)
 pub bounds-counts-c : goal.bounds-counts-c
 bounds-counts-c c = search (writes, rules)
 
-pub shape_of-counts : goal.shape_of-counts
-shape_of-counts c = search (writes, rules)
-
 pub returns : goal.returns
 returns c = search (writes, rules)

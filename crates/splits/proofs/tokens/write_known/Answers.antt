@@ -24,7 +24,7 @@ loop-k-init c = let a = c.args in
     )
 
 pub known_place-c-requires : goal.known_place-c-requires
-known_place-c-requires c = c.requires.0
+known_place-c-requires c = c.requires.memo
 
 pub returns-then-c-eq65535 : goal.returns-then-c-eq65535
 returns-then-c-eq65535 c = let l = c.loop-k in

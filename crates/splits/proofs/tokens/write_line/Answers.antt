@@ -37,7 +37,7 @@ write_some-k-requires c = let a = c.args in
     )
 
 pub loop-k-smaller : goal.loop-k-smaller
-loop-k-smaller c = omega (arith, c.write_some-k.ensures.0.0, c.loop-k-test.true)
+loop-k-smaller c = omega (arith, c.write_some-k.ensures.lower_bound.0, c.loop-k-test.true)
 
 pub loop-k-preserved : goal.loop-k-preserved
 loop-k-preserved c = let a = c.args in

@@ -16,7 +16,7 @@ loop-k-init c = let a = c.args in
     let fs = defined_families (listing a.lines.now a.tokens.now a.text.now) in
     let us = token_list a.tokens.now a.text.now in (
       refl,
-      c.requires.0.1,
+      c.requires.finds.1,
       refl,
       refl,
       omega arith,
@@ -59,23 +59,14 @@ loop-k-preserved c = let a = c.args in
     let us = token_list a.tokens.now a.text.now in
     let n : a.to ≤ length us = omega (arith, length_tokens a.tokens.now a.text.now, p.1.1) in (
       c.token_place-c.auto.1.1.1.1.1.0 ∙ l.invariant.0,
-      c.token_place-c.ensures.1,
+      c.token_place-c.ensures.memo_2,
       simp length-set l.invariant.2,
       simp length-set l.invariant.3,
       omega (arith, l.invariant.4),
       omega (arith, c.loop-k-test.true),
-      over_next no_token (token_number fs (λ p. get_or a.counts.now p 0)) a.from us a.numbers.now l.k l.numbers l.invariant.6 l.invariant.4 a.to _ c.loop-k-test.true n (omega (arith, p.1.1, p.1.2)) (number_by fs (get_or us l.k no_token) _ c.token_place-c.ensures.0 _ _ c.number_of-v.ensures),
-      over_next no_token (token_mark fs a.d) a.from us a.marks.now l.k l.marks l.invariant.7 l.invariant.4 a.to _ c.loop-k-test.true n (omega (arith, p.1.1, p.1.3)) (mark_by fs (get_or us l.k no_token) _ c.token_place-c.ensures.0 _ _ c.mark_of-m.ensures),
+      over_next no_token (token_number fs (λ p. get_or a.counts.now p 0)) a.from us a.numbers.now l.k l.numbers l.invariant.6 l.invariant.4 a.to _ c.loop-k-test.true n (omega (arith, p.1.1, p.1.2)) (number_by fs (get_or us l.k no_token) _ c.token_place-c.ensures.result_value _ _ c.number_of-v.ensures),
+      over_next no_token (token_mark fs a.d) a.from us a.marks.now l.k l.marks l.invariant.7 l.invariant.4 a.to _ c.loop-k-test.true n (omega (arith, p.1.1, p.1.3)) (mark_by fs (get_or us l.k no_token) _ c.token_place-c.ensures.result_value _ _ c.mark_of-m.ensures),
     )
-
-pub shape_of-memo : goal.shape_of-memo
-shape_of-memo c = search (writes, rules)
-
-pub shape_of-numbers : goal.shape_of-numbers
-shape_of-numbers c = search (writes, rules)
-
-pub shape_of-marks : goal.shape_of-marks
-shape_of-marks c = search (writes, rules)
 
 pub returns : goal.returns
 returns c = let a = c.args in

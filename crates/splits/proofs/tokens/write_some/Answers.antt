@@ -29,8 +29,8 @@ returns-then-k-to c = let a = c.args in
     let n : w.result + 1 ≤ length us = omega (arith, length_tokens a.tokens.now a.text.now, p.1.1, c.if-k-to.true) in (
       (omega (arith, w.ensures.0.0), omega (arith, c.if-k-to.true)),
       (
-        over_join no_token (token_number fs (λ p. get_or a.counts.now p 0)) a.from us a.numbers.now w.result _ w.ensures.1.0 w.ensures.0.0 (w.result + 1) _ (omega arith) n (omega (arith, n, length_tokens a.tokens.now a.text.now, p.1.2, p.1.3)) c.write_part.ensures.0,
-        (over_join no_token (token_mark fs a.d) a.from us a.marks.now w.result _ w.ensures.1.1 w.ensures.0.0 (w.result + 1) _ (omega arith) n (omega (arith, n, length_tokens a.tokens.now a.text.now, p.1.2, p.1.3)) c.write_part.ensures.1.0, c.write_part.ensures.1.1),
+        over_join no_token (token_number fs (λ p. get_or a.counts.now p 0)) a.from us a.numbers.now w.result _ w.ensures.1.0 w.ensures.0.0 (w.result + 1) _ (omega arith) n (omega (arith, n, length_tokens a.tokens.now a.text.now, p.1.2, p.1.3)) c.write_part.ensures.numbers_after,
+        (over_join no_token (token_mark fs a.d) a.from us a.marks.now w.result _ w.ensures.1.1 w.ensures.0.0 (w.result + 1) _ (omega arith) n (omega (arith, n, length_tokens a.tokens.now a.text.now, p.1.2, p.1.3)) c.write_part.ensures.marks_after.0, c.write_part.ensures.marks_after.1),
       ),
     )
 

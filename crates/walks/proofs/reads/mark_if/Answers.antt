@@ -7,9 +7,6 @@ use Rattle.walks.proofs.reads.mark_if.Goals as goal
 pub bounds-seen-i : goal.bounds-seen-i
 bounds-seen-i c = search (seen_rules, rules)
 
-pub shape_of-seen : goal.shape_of-seen
-shape_of-seen c = search (seen_rules, rules)
-
 pub returns-then-yes : goal.returns-then-yes
 returns-then-yes c = search (seen_rules, rules)
 

@@ -13,9 +13,6 @@ line_start-s-requires c = search (write_rules, rules)
 pub bounds-marks-s : goal.bounds-marks-s
 bounds-marks-s c = search (write_rules, rules)
 
-pub shape_of-marks : goal.shape_of-marks
-shape_of-marks c = search (write_rules, rules)
-
 pub returns-then-s-marks : goal.returns-then-s-marks
 returns-then-s-marks c = search (write_rules, rules)
 

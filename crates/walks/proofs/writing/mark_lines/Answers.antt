@@ -18,8 +18,5 @@ loop-i-smaller c = search (write_rules, rules)
 pub loop-i-preserved : goal.loop-i-preserved
 loop-i-preserved c = search (write_rules, rules)
 
-pub shape_of-marks : goal.shape_of-marks
-shape_of-marks c = search (write_rules, rules)
-
 pub returns : goal.returns
 returns c = search (write_rules, rules)

@@ -30,8 +30,5 @@ loop-p-smaller c = search (write_rules, rules)
 pub loop-p-preserved : goal.loop-p-preserved
 loop-p-preserved c = search (write_rules, rules)
 
-pub shape_of-numbers : goal.shape_of-numbers
-shape_of-numbers c = search (write_rules, rules)
-
 pub returns : goal.returns
 returns c = search (write_rules, rules)

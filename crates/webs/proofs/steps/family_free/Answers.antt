@@ -7,28 +7,22 @@ use Rattle.webs.proofs.StepRules.{known_chain, reads_below, free_done, free_over
 use Rattle.webs.proofs.steps.family_free.Goals as goal
 
 pub family_reads-m-requires : goal.family_reads-m-requires
-family_reads-m-requires c = ((c.requires.0.0.finds.table, c.requires.0.1, omega (arith, c.requires.0.1, c.requires.0.0.finds.few), known_chain _ _ _ _ _ _ _ _ _ c.requires.0.0 c.requires.0.1 _ _ _ c.requires.0.2, c.requires.0.0.defs), (c.requires.0.0.some, c.requires.1.1.1.seen_room, c.requires.1.1.0, omega (arith, c.requires.0.0.bounds.lines)))
+family_reads-m-requires c = record { fact = (c.requires.known.0.finds.table, c.requires.known.1, omega (arith, c.requires.known.1, c.requires.known.0.finds.few), known_chain _ _ _ _ _ _ _ _ _ c.requires.known.0 c.requires.known.1 _ _ _ c.requires.known.2, c.requires.known.0.defs); lines_nonzero = (c.requires.known.0.some, c.requires.k_value.1.1.seen_room, c.requires.k_value.1.0, omega (arith, c.requires.known.0.bounds.lines)) }
 
 pub slice_bounds-family_lines-end : goal.slice_bounds-family_lines-end
-slice_bounds-family_lines-end c = omega (arith, c.family_reads-m.ensures.0, c.family_reads-m.auto.1.1.1.1.1.1.1.1.1.1.0, c.requires.1.1.0)
+slice_bounds-family_lines-end c = omega (arith, c.family_reads-m.ensures.0, c.family_reads-m.auto.1.1.1.1.1.1.1.1.1.1.0, c.requires.k_value.1.0)
 
 pub slice_bounds-family_lines-end-2 : goal.slice_bounds-family_lines-end-2
-slice_bounds-family_lines-end-2 c = sym (length-take c.family_reads-m.result _ ∙ omega (arith, c.family_reads-m.ensures.0, c.family_reads-m.auto.1.1.1.1.1.1.1.1.1.1.0, c.requires.1.1.0))
+slice_bounds-family_lines-end-2 c = sym (length-take c.family_reads-m.result _ ∙ omega (arith, c.family_reads-m.ensures.0, c.family_reads-m.auto.1.1.1.1.1.1.1.1.1.1.0, c.requires.k_value.1.0))
 
 pub family_lines-requires : goal.family_lines-requires
-family_lines-requires c = ((c.requires.0.0.some, c.requires.0.0.bounds.lines, c.requires.0.0.words, c.requires.1.0.1, c.requires.0.2.agree, reads_below _ _ _ _ _ _ _ _ _ c.requires.0.0 c.requires.0.1 _ _ _ c.requires.0.2 _ c.family_reads-m.ensures.1), (omega (arith, c.requires.0.1, c.requires.0.0.finds.few), c.requires.0.0.room, scratch_seen _ _ _ _ _ _ _ _ _ c.requires.1.1.1 c.family_reads-m.auto.1.1.1.1.1.1.1.1.1.0))
+family_lines-requires c = record { n_nonzero = (c.requires.known.0.some, c.requires.known.0.bounds.lines, c.requires.known.0.words, c.requires.k_value.0.1, c.requires.known.2.agree, reads_below _ _ _ _ _ _ _ _ _ c.requires.known.0 c.requires.known.1 _ _ _ c.requires.known.2 _ c.family_reads-m.ensures.1); k_bound = (omega (arith, c.requires.known.1, c.requires.known.0.finds.few), c.requires.known.0.room, scratch_seen _ _ _ _ _ _ _ _ _ c.requires.k_value.1.1 c.family_reads-m.auto.1.1.1.1.1.1.1.1.1.0) }
 
 pub returns-in_default : goal.returns-in_default
-returns-in_default c = free_over _ _ _ _ _ _ _ _ _ c.requires.0.0 c.requires.0.1 _ _ _ c.requires.0.2 c.requires.1.0.0 _ _ _ _ _ _ c.family_reads-m.ensures.1 c.family_lines.ensures _ _ c.enum_told-1.given.1
+returns-in_default c = free_over _ _ _ _ _ _ _ _ _ c.requires.known.0 c.requires.known.1 _ _ _ c.requires.known.2 c.requires.k_value.0.0 _ _ _ _ _ _ c.family_reads-m.ensures.1 c.family_lines.ensures _ _ c.in_default.is
 
 pub write_family-requires : goal.write_family-requires
-write_family-requires c = (known_chain _ _ _ _ _ _ _ _ _ c.requires.0.0 c.requires.0.1 _ _ _ c.requires.0.2, omega (arith, c.requires.0.1, c.requires.0.0.finds.few))
-
-pub shape_of-reads : goal.shape_of-reads
-shape_of-reads c = c.family_reads-m.auto.1.1.1.1.1.1.1.1.1.1.0
-
-pub shape_of-seen : goal.shape_of-seen
-shape_of-seen c = c.family_lines.auto.1.1.1.1.1.1.1.1.1.1.1.0 ∙ c.family_reads-m.auto.1.1.1.1.1.1.1.1.1.0
+write_family-requires c = (known_chain _ _ _ _ _ _ _ _ _ c.requires.known.0 c.requires.known.1 _ _ _ c.requires.known.2, omega (arith, c.requires.known.1, c.requires.known.0.finds.few))
 
 pub returns : goal.returns
-returns c = free_done _ _ _ _ _ _ _ _ _ c.requires.0.0 c.requires.0.1 _ _ _ c.requires.0.2 c.requires.1.0.0 _ _ _ _ _ _ c.family_reads-m.ensures.1 c.family_lines.ensures _ _ _ c.s-1.given.1 c.write_family.ensures
+returns c = free_done _ _ _ _ _ _ _ _ _ c.requires.known.0 c.requires.known.1 _ _ _ c.requires.known.2 c.requires.k_value.0.0 _ _ _ _ _ _ c.family_reads-m.ensures.1 c.family_lines.ensures _ _ _ c.in-Done.is c.write_family.ensures
