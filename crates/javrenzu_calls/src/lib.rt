@@ -1,5 +1,5 @@
-// The public calls for C and Rust. An enum does not cross, so a call answers the number of its refusal, 0 where it accepts, and its other
-// value through a reference.
+// The public calls as C and Rust call them, which the static library `javrenzu_calls_c` exports. An enum does not cross, so a call answers
+// the number of its refusal, 0 where it accepts, and its other value through a reference.
 //
 // Contracts cite `web_call`, `split_call`, `choose_call` and `pass_call` of Rattle.definitions.specs.Calls,
 // `read_call` and `write_call` of Rattle.json_definitions.specs.JsonCalls.
@@ -13,7 +13,7 @@ ghost use Rattle.pseudo_ssa.specs.Answers.{lent};
 ghost use Rattle.javrenzu_calls.specs.Crossing.{refusal_number, number_of, choice_of, chosen_sweeps, counts, counts_of};
 ghost use Rattle.write.specs.Holds.{columns};
 ghost use Rattle.pass_call.specs.Answers.{answered};
-ghost use Rattle.splits.specs.Call.{lent as split-lent};
+ghost use Rattle.splits.specs.Call.{lent as split_lent};
 ghost use Rattle.json_definitions.specs.JsonCalls.{read_call, write_call};
 
 use choose::Choice;
@@ -24,8 +24,7 @@ use pseudo_ssa::Webs;
 use splits::call::Splits;
 
 // The web call. `sweeps` is the total of sweeps, 0 on refusal.
-#[unsafe(no_mangle)]
-pub extern "C" fn javrenzu_webs(
+pub fn javrenzu_webs(
     lines: &[u32],
     tokens: &[u32],
     text: &[u8],
@@ -51,16 +50,15 @@ pub extern "C" fn javrenzu_webs(
 }
 
 // The split call.
-#[unsafe(no_mangle)]
-pub extern "C" fn javrenzu_splits(
+pub fn javrenzu_splits(
     lines: &[u32],
     tokens: &[u32],
     text: &[u8],
     numbers: &mut [u32],
     marks: &mut [u8],
 ) -> usize
-    ensures value { result ≡ refusal_number (split_call lines.now tokens.now text.now (split-lent numbers.old marks.old)).answer }
-    ensures marks_after { split-lent numbers.new marks.new ≡ (split_call lines.now tokens.now text.now (split-lent numbers.old marks.old)).lent }
+    ensures value { result ≡ refusal_number (split_call lines.now tokens.now text.now (split_lent numbers.old marks.old)).answer }
+    ensures marks_after { split_lent numbers.new marks.new ≡ (split_call lines.now tokens.now text.now (split_lent numbers.old marks.old)).lent }
 {
     match splits::call::split_call(lines, tokens, text, numbers, marks) {
         Splits::Written => 0,
@@ -69,8 +67,7 @@ pub extern "C" fn javrenzu_splits(
 }
 
 // The chooser. `choice` is 1 for webs, 2 for splits, 0 on refusal; `sweeps` is the total of sweeps of webs, else 0.
-#[unsafe(no_mangle)]
-pub extern "C" fn javrenzu_choose(
+pub fn javrenzu_choose(
     lines: &[u32],
     tokens: &[u32],
     text: &[u8],
@@ -127,8 +124,7 @@ fn pass_number(answer: Answer, nlines: &mut usize, ntokens: &mut usize, nbytes: 
 }
 
 // `recover_loops`.
-#[unsafe(no_mangle)]
-pub extern "C" fn javrenzu_recover_loops(
+pub fn javrenzu_recover_loops(
     lines: &[u32],
     addresses: &[u64],
     tokens: &[u32],
@@ -152,8 +148,7 @@ pub extern "C" fn javrenzu_recover_loops(
 }
 
 // `recover_goto_loops`.
-#[unsafe(no_mangle)]
-pub extern "C" fn javrenzu_recover_goto_loops(
+pub fn javrenzu_recover_goto_loops(
     lines: &[u32],
     addresses: &[u64],
     tokens: &[u32],
@@ -177,8 +172,7 @@ pub extern "C" fn javrenzu_recover_goto_loops(
 }
 
 // The JSON reader. The counts of lines, tokens and bytes are 0 on refusal.
-#[unsafe(no_mangle)]
-pub extern "C" fn javrenzu_read_json(
+pub fn javrenzu_read_json(
     json: &[u8],
     lines: &mut [u32],
     addresses: &mut [u64],
@@ -207,8 +201,7 @@ pub extern "C" fn javrenzu_read_json(
 }
 
 // The JSON writer. The length of the text is 0 on refusal.
-#[unsafe(no_mangle)]
-pub extern "C" fn javrenzu_write_json(
+pub fn javrenzu_write_json(
     lines: &[u32],
     addresses: &[u64],
     tokens: &[u32],

@@ -1,4 +1,5 @@
-// The reading layer for a test to call from Rust: each function writes the answer of one proved function, as numbers, into `out`.
+// The reading layer for a test to call from Rust, by the static library `leaves_c`: each function writes the answer of one proved function,
+// as numbers, into `out`.
 //
 // An enum does not cross to Rust, so its case is a number: 0 where there is nothing, 1 and up in the order of its other cases.
 
@@ -44,8 +45,7 @@ fn number(b: bool) -> usize {
 }
 
 // The number of the first of questions 1 to 3 that is answered no, 0 for none.
-#[unsafe(no_mangle)]
-pub extern "C" fn leaves_refusal(lines: &[u32], tokens: &[u32], text: &[u8]) -> usize {
+pub fn leaves_refusal(lines: &[u32], tokens: &[u32], text: &[u8]) -> usize {
     let most = Limits {
         lines: 1024,
         tokens: 16384,
@@ -55,57 +55,32 @@ pub extern "C" fn leaves_refusal(lines: &[u32], tokens: &[u32], text: &[u8]) -> 
 }
 
 // Question 3 alone, of the whole text as one token.
-#[unsafe(no_mangle)]
-pub extern "C" fn leaves_is_utf8(text: &[u8]) -> usize {
+pub fn leaves_is_utf8(text: &[u8]) -> usize {
     number(text::is_utf8(text))
 }
 
-#[unsafe(no_mangle)]
-pub extern "C" fn leaves_fam_of(kind: usize, s: &[u8], out: &mut [u64]) {
+pub fn leaves_fam_of(kind: usize, s: &[u8], out: &mut [u64]) {
     put_register(out, family::fam_of(kind, s));
 }
 
-#[unsafe(no_mangle)]
-pub extern "C" fn leaves_same_family(a: &[u8], b: &[u8]) -> usize {
+pub fn leaves_same_family(a: &[u8], b: &[u8]) -> usize {
     number(family::same_family(a, family::family(a), b, family::family(b)))
 }
 
-#[unsafe(no_mangle)]
-pub extern "C" fn leaves_is_label(lines: &[u32], tokens: &[u32], text: &[u8], i: usize) -> usize {
+pub fn leaves_is_label(lines: &[u32], tokens: &[u32], text: &[u8], i: usize) -> usize {
     number(pseudo_opt::labels::is_label(lines, tokens, text, i))
 }
 
-#[unsafe(no_mangle)]
-pub extern "C" fn leaves_has_kw(
-    lines: &[u32],
-    tokens: &[u32],
-    text: &[u8],
-    i: usize,
-    kw: &[u8],
-) -> usize {
+pub fn leaves_has_kw(lines: &[u32], tokens: &[u32], text: &[u8], i: usize, kw: &[u8]) -> usize {
     number(pseudo_opt::keywords::has_kw(lines, tokens, text, i, kw))
 }
 
-#[unsafe(no_mangle)]
-pub extern "C" fn leaves_call_at(
-    lines: &[u32],
-    tokens: &[u32],
-    text: &[u8],
-    i: usize,
-    out: &mut [u64],
-) {
+pub fn leaves_call_at(lines: &[u32], tokens: &[u32], text: &[u8], i: usize, out: &mut [u64]) {
     put_found(out, pseudo_opt::calls::call_at(lines, tokens, text, i));
 }
 
 // The place of the symbol that is the first goto's target, and the length of its bytes.
-#[unsafe(no_mangle)]
-pub extern "C" fn leaves_goto_target(
-    lines: &[u32],
-    tokens: &[u32],
-    text: &[u8],
-    i: usize,
-    out: &mut [u64],
-) {
+pub fn leaves_goto_target(lines: &[u32], tokens: &[u32], text: &[u8], i: usize, out: &mut [u64]) {
     put_found(out, pseudo_opt::labels::goto_symbol(lines, tokens, text, i));
     put(
         out,
@@ -114,14 +89,7 @@ pub extern "C" fn leaves_goto_target(
     );
 }
 
-#[unsafe(no_mangle)]
-pub extern "C" fn leaves_assignment(
-    lines: &[u32],
-    tokens: &[u32],
-    text: &[u8],
-    i: usize,
-    out: &mut [u64],
-) {
+pub fn leaves_assignment(lines: &[u32], tokens: &[u32], text: &[u8], i: usize, out: &mut [u64]) {
     let Assigned::Side { from, to } = assignment::assignment(lines, tokens, text, i) else {
         put_three(out, 0, 0, 0);
         return;
@@ -130,25 +98,11 @@ pub extern "C" fn leaves_assignment(
 }
 
 // The length of the text of token k of a right side.
-#[unsafe(no_mangle)]
-pub extern "C" fn leaves_expr_length(
-    lines: &[u32],
-    tokens: &[u32],
-    text: &[u8],
-    i: usize,
-    k: usize,
-) -> usize {
+pub fn leaves_expr_length(lines: &[u32], tokens: &[u32], text: &[u8], i: usize, k: usize) -> usize {
     assignment::expr_text(lines, tokens, text, i, k).len()
 }
 
-#[unsafe(no_mangle)]
-pub extern "C" fn leaves_defines(
-    lines: &[u32],
-    tokens: &[u32],
-    text: &[u8],
-    i: usize,
-    out: &mut [u64],
-) {
+pub fn leaves_defines(lines: &[u32], tokens: &[u32], text: &[u8], i: usize, out: &mut [u64]) {
     match assignment::definition::defines(lines, tokens, text, i) {
         Defined::Family(r) => put_register(out, r),
         Defined::Nothing => put_three(out, 0, 0, 0),
@@ -156,20 +110,12 @@ pub extern "C" fn leaves_defines(
 }
 
 // The blocks that line i opens and closes.
-#[unsafe(no_mangle)]
-pub extern "C" fn leaves_braces(
-    lines: &[u32],
-    tokens: &[u32],
-    text: &[u8],
-    i: usize,
-    out: &mut [u64],
-) {
+pub fn leaves_braces(lines: &[u32], tokens: &[u32], text: &[u8], i: usize, out: &mut [u64]) {
     let b = braces::line_braces(lines, tokens, text, i);
     put_three(out, 1, b.opens, b.closes);
 }
 
-#[unsafe(no_mangle)]
-pub extern "C" fn leaves_condition(
+pub fn leaves_condition(
     lines: &[u32],
     tokens: &[u32],
     text: &[u8],
