@@ -1,4 +1,4 @@
-//! Links the static libraries that `rt staticlib` writes to target/staticlib of the repository.
+//! Links the static libraries that `tools/build leaves javrenzu_calls` writes to target/staticlib of the repository.
 
 fn main() {
     let top = std::path::Path::new(env!("CARGO_MANIFEST_DIR")).join("..").join("target/staticlib");

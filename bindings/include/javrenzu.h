@@ -1,4 +1,4 @@
-/* The proved calls for C. Link libjavrenzu_calls.a (`rt staticlib javrenzu_calls`).
+/* The proved calls for C. Link libjavrenzu_calls.a (`tools/build javrenzu_calls` writes target/staticlib/libjavrenzu_calls.a).
  *
  * A listing is lent as columns:
  *   lines   one word a line    token_end * 512 + has_address * 256 + indent

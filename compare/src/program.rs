@@ -7,7 +7,7 @@ use oracle::answers;
 use oracle::json;
 use oracle::questions::{refuse_json_reader, Lent};
 
-/// The program that `rt check webs_main` writes.
+/// The program that `tools/build webs_main` writes.
 const PROGRAM: &str = concat!(env!("CARGO_MANIFEST_DIR"), "/../target/bin/webs_main");
 
 /// What the program takes and lends.
