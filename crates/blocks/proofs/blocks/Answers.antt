@@ -13,8 +13,7 @@ loop-i-init c = (search rules, refl, refl, refl, reading_start _ _ _ _)
 
 pub close-requires : goal.close-requires
 close-requires c = let l = c.loop-i in
-    let a = c.args in
-    ((omega arith, omega arith, omega arith, omega arith), (l.invariant.4.at, l.invariant.4.held, omega (arith, l.invariant.4.size, length_listing a.lines.now a.tokens.now a.text.now)))
+    let a = c.args in record { i_in_bounds = (omega arith, omega arith, omega arith, omega arith); held = (l.invariant.4.at, l.invariant.4.held, omega (arith, l.invariant.4.size, length_listing a.lines.now a.tokens.now a.text.now)) }
 
 pub returns-in_default : goal.returns-in_default
 returns-in_default c = let a = c.args in
@@ -29,7 +28,7 @@ enter-top-requires c = let a = c.args in
     let t = c.loop-i-test.true in
     let C = c.close in
     let r = c.requires in
-    (omega (arith, C.auto.0, l.invariant.1, r.0, t), omega (arith, l.invariant.2, r.1, t), omega (arith, C.auto.1.1.0, l.invariant.3, r.2, t), omega (arith, t, r.3), closed_below l.i _ l.invariant.4.at _ _ _ C.result _ (C.ensures l.invariant.4.at l.invariant.4.held (omega (arith, t, l.invariant.4.size, length_listing a.lines.now a.tokens.now a.text.now))) (search rules))
+    (omega (arith, C.auto.ends, l.invariant.1, r.0, t), omega (arith, l.invariant.2, r.1, t), omega (arith, C.auto.counts, l.invariant.3, r.2, t), omega (arith, t, r.3), closed_below l.i _ l.invariant.4.at _ _ _ C.result _ (C.ensures l.invariant.4.at l.invariant.4.held (omega (arith, t, l.invariant.4.size, length_listing a.lines.now a.tokens.now a.text.now))) (search rules))
 
 pub loop-i-preserved : goal.loop-i-preserved
 loop-i-preserved c = let a = c.args in
@@ -37,13 +36,13 @@ loop-i-preserved c = let a = c.args in
     let t = c.loop-i-test.true in
     let r = c.requires in (
       omega (arith, t),
-      c.enter-top.auto.0 ∙ c.close.auto.0 ∙ l.invariant.1,
-      c.enter-top.auto.1.0 ∙ l.invariant.2,
-      c.enter-top.auto.1.1.0 ∙ c.close.auto.1.1.0 ∙ l.invariant.3,
+      c.enter-top.auto.ends ∙ c.close.auto.ends ∙ l.invariant.1,
+      c.enter-top.auto.parents ∙ l.invariant.2,
+      c.enter-top.auto.counts ∙ c.close.auto.counts ∙ l.invariant.3,
       reading_next (listing a.lines.now a.tokens.now a.text.now) l.ends l.parents l.counts l.top l.i l.invariant.4
           (omega (arith, c.loop-i-test.true, length_listing a.lines.now a.tokens.now a.text.now)) (counted c.line_braces-b.result) c.line_braces-b.ensures
           _ _ c.close.result c.close.ensures _ (search rules)
-          (omega (arith, c.close.auto.0, l.invariant.1, r.0, t)) (omega (arith, l.invariant.2, r.1, t)) (omega (arith, c.close.auto.1.1.0, l.invariant.3, r.2, t)) _ _ _ _ c.enter-top.ensures.ends_after.0 c.enter-top.ensures.ends_after.1.0 c.enter-top.ensures.ends_after.1.1 c.enter-top.ensures.value,
+          (omega (arith, c.close.auto.ends, l.invariant.1, r.0, t)) (omega (arith, l.invariant.2, r.1, t)) (omega (arith, c.close.auto.counts, l.invariant.3, r.2, t)) _ _ _ _ c.enter-top.ensures.ends_after.0 c.enter-top.ensures.ends_after.1.0 c.enter-top.ensures.ends_after.1.1 c.enter-top.ensures.value,
     )
 
 pub returns : goal.returns

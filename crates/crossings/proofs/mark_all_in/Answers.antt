@@ -5,4 +5,4 @@ use borrow.Author.Rules.{rules}
 use Rattle.crossings.proofs.mark_all_in.Goals as goal
 
 pub mark_lines-requires : goal.mark_lines-requires
-mark_lines-requires c = let I = c.index in ((omega (arith, I.auto.1.1.1.0), omega (arith, I.auto.1.1.1.1.0), search rules, search rules), I.ensures)
+mark_lines-requires c = let I = c.index in record { in_bounds = (omega (arith, I.auto.heads), omega (arith, I.auto.nexts), search rules, search rules); indexed = I.ensures }

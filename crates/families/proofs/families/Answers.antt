@@ -32,7 +32,7 @@ pub loop-i-smaller : goal.loop-i-smaller
 loop-i-smaller c = search (place_rules, rules)
 
 pub loop-i-preserved : goal.loop-i-preserved
-loop-i-preserved c = (c.number_line-count.auto.1.1.1.0 ∙ c.loop-i.invariant.0, c.number_line-count.auto.1.1.1.1.0 ∙ c.loop-i.invariant.1, c.number_line-count.ensures)
+loop-i-preserved c = (c.number_line-count.auto.table ∙ c.loop-i.invariant.0, c.number_line-count.auto.defs ∙ c.loop-i.invariant.1, c.number_line-count.ensures)
 
 pub returns : goal.returns
 returns c = search (place_rules, rules)

@@ -12,7 +12,7 @@ pub loop-left-preserved : goal.loop-left-preserved
 loop-left-preserved c = let l = c.loop-left in
     let a = c.index_all in
     let e = c.empty in
-    (e.auto.0 ∙ a.auto.1.1.1.0 ∙ l.invariant.0, a.auto.1.1.1.1.0 ∙ l.invariant.1, λ b h. e.ensures b (rw (ap size e.auto.0 ∙ sym c.size-c.ensures.0) at h))
+    (e.auto.heads ∙ a.auto.heads ∙ l.invariant.0, a.auto.nexts ∙ l.invariant.1, λ b h. e.ensures b (rw (ap size e.auto.heads ∙ sym c.size-c.ensures.0) at h))
 
 pub returns : goal.returns
 returns c = c.index_all-2.ensures.indexed (c.index_all-2.ensures.value refl)

@@ -21,10 +21,9 @@ returns-then-more c = record { indexed = λ e. absurd (false≢true e); value = 
 pub loop-i-preserved : goal.loop-i-preserved
 loop-i-preserved c = let l = c.loop-i in
     let a = c.index_line in
-    (search rules, a.auto.1.1.1.0 ∙ l.invariant.1, a.auto.1.1.1.1.0 ∙ l.invariant.2, a.ensures)
+    (search rules, a.auto.heads ∙ l.invariant.1, a.auto.nexts ∙ l.invariant.2, a.ensures)
 
 pub returns : goal.returns
 returns c = let l = c.loop-i in
     let a = c.args in
-    let e : l.i ≡ length a.lines.now = omega arith in
-    (λ h. rw (← e) l.invariant.3, λ h. refl)
+    let e : l.i ≡ length a.lines.now = omega arith in record { indexed = λ h. rw (← e) l.invariant.3; value = λ h. refl }

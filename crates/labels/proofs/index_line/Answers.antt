@@ -7,7 +7,7 @@ use Rattle.labels.proofs.Buckets.{indexed_other}
 use Rattle.labels.proofs.index_line.Goals as goal
 
 pub index_label-requires : goal.index_label-requires
-index_label-requires c = (c.requires.i_in_bounds, (sym c.has_label.ensures ∙ c.if-has_label.true, c.requires.indexed))
+index_label-requires c = record { i_in_bounds = c.requires.i_in_bounds; i_value = sym c.has_label.ensures ∙ c.if-has_label.true; indexed = c.requires.indexed }
 
 pub returns-else-has_label : goal.returns-else-has_label
 returns-else-has_label c = let a = c.args in

@@ -28,7 +28,7 @@ pub loop-j-smaller : goal.loop-j-smaller
 loop-j-smaller c = search (line_rules, rules)
 
 pub loop-j-preserved : goal.loop-j-preserved
-loop-j-preserved c = (c.read_web-v.auto.0 ∙ c.loop-j.invariant.0, simp length-set c.loop-j.invariant.1, reads_next _ _ _ _ _ _ _ _ _ _ _ c.loop-j.invariant.2 _ _ _ c.loop-j-test.true c.number-i.ensures (let h = (line_in _ _ c.requires.swept.1 _ _ c.loop-j-test.true c.number-i.ensures) in omega (arith, c.loop-j.invariant.1, c.requires.swept.2)) c.read_web-v.ensures)
+loop-j-preserved c = (c.read_web-v.auto.space ∙ c.loop-j.invariant.0, simp length-set c.loop-j.invariant.1, reads_next _ _ _ _ _ _ _ _ _ _ _ c.loop-j.invariant.2 _ _ _ c.loop-j-test.true c.number-i.ensures (let h = (line_in _ _ c.requires.swept.1 _ _ c.loop-j-test.true c.number-i.ensures) in omega (arith, c.loop-j.invariant.1, c.requires.swept.2)) c.read_web-v.ensures)
 
 pub returns : goal.returns
 returns c = search (line_rules, rules)

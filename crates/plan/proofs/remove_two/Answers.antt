@@ -11,7 +11,7 @@ pub overflow_sub-k : goal.overflow_sub-k
 overflow_sub-k c = search (closing, rules)
 
 pub loop-k-init : goal.loop-k-init
-loop-k-init c = closing_start _ _ _ (omega arith) (omega arith) (omega (arith, c.slide.auto.0))
+loop-k-init c = closing_start _ _ _ (omega arith) (omega arith) (omega (arith, c.slide.auto.plan))
 
 pub overflow_add-k : goal.overflow_add-k
 overflow_add-k c = search (closing, rules)

@@ -16,21 +16,18 @@ pub recover-requires : goal.recover-requires
 recover-requires c = let a = c.args in
     let R = c.requires in
     let A = R.asked in
-    let t = length a.tokens.now in (
-      (R.two, A.lines, A.tokens, (both _ _ (both _ _ A.formed).0).0, R.row),
-      (A.space_room, part_length t a.numbers.now A.numbers_room, part_length t a.marks.now A.marks_room, R.drawn),
-    )
+    let t = length a.tokens.now in record { in_bounds = (R.two, A.lines, A.tokens, (both _ _ (both _ _ A.formed).0).0, R.row); lines_in_bounds = (A.space_room, part_length t a.numbers.now A.numbers_room, part_length t a.marks.now A.marks_room, R.drawn) }
 
 pub returns-in-Done : goal.returns-in-Done
 returns-in-Done c = let a = c.args in
     let R = c.recover in
     let Z = c.zero in
     numbered_done a.lines.now a.tokens.now a.text.now a.numbers.now a.marks.now a.space.now a.r a.budget c.requires
-    R.new.1.1.1.1.1.1.0 R.new.1.1.1.1.1.1.1.0 R.new.1.1.1.0 _ _ _ R.auto.1.1.1.1.1.1.0 R.auto.1.1.1.1.1.1.1.0 R.auto.1.1.1.0 Z.ensures.1.1 R.result _ R.ensures (search rules) Z.ensures.0 Z.ensures.1.0
+    R.new.1.1.1.1.1.1.0 R.new.1.1.1.1.1.1.1.0 R.new.1.1.1.0 _ _ _ R.auto.numbers R.auto.marks R.auto.space Z.ensures.1.1 R.result _ R.ensures (search rules) Z.ensures.0 Z.ensures.1.0
 
 pub returns-in-OverBudget : goal.returns-in-OverBudget
 returns-in-OverBudget c = let a = c.args in
     let R = c.recover in
     let Z = c.zero-in-OverBudget in
     numbered_over a.lines.now a.tokens.now a.text.now a.numbers.now a.marks.now a.space.now a.r a.budget c.requires
-    R.new.1.1.1.1.1.1.0 R.new.1.1.1.1.1.1.1.0 R.new.1.1.1.0 _ _ _ R.auto.1.1.1.1.1.1.0 R.auto.1.1.1.1.1.1.1.0 R.auto.1.1.1.0 Z.ensures.1.1 R.result R.ensures c.in-OverBudget.is Z.ensures.0 Z.ensures.1.0
+    R.new.1.1.1.1.1.1.0 R.new.1.1.1.1.1.1.1.0 R.new.1.1.1.0 _ _ _ R.auto.numbers R.auto.marks R.auto.space Z.ensures.1.1 R.result R.ensures c.in-OverBudget.is Z.ensures.0 Z.ensures.1.0

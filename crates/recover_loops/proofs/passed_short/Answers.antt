@@ -7,4 +7,4 @@ pub masks-requires : goal.masks-requires
 masks-requires c = record { lines_in_bounds = c.requires.lines_len_bound; by_index = λ k. replicate_default 64 k 0 }
 
 pub passed_in-requires : goal.passed_in-requires
-passed_in-requires c = (c.requires.lines_len_bound, (c.requires.bytes_value, c.masks.ensures))
+passed_in-requires c = record { lines_in_bounds = c.requires.lines_len_bound; bytes_value = c.requires.bytes_value; masks = c.masks.ensures }

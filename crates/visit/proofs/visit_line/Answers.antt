@@ -19,7 +19,7 @@ pub given_word-x-requires : goal.given_word-x-requires
 given_word-x-requires c = visiting_ready _ _ _ _ _ _ _ _ _ c.requires.0 c.loop-k.invariant.2 c.requires.1 c.loop-k.invariant.1 c.loop-k-test.true c.requires.2 c.requires.3
 
 pub loop-k-preserved : goal.loop-k-preserved
-loop-k-preserved c = (search rules, c.put-c.auto.0 ∙ c.loop-k.invariant.1, visiting_next _ _ _ _ _ _ _ _ _ c.requires.0 c.loop-k.invariant.2 c.requires.1 _ _ _ _ _ c.loop-k.invariant.1 c.loop-k-test.true c.row.ensures.0 c.given_word-x.ensures c.put-c.ensures c.either-changed.ensures)
+loop-k-preserved c = (search rules, c.put-c.auto.s ∙ c.loop-k.invariant.1, visiting_next _ _ _ _ _ _ _ _ _ c.requires.0 c.loop-k.invariant.2 c.requires.1 _ _ _ _ _ c.loop-k.invariant.1 c.loop-k-test.true c.row.ensures.0 c.given_word-x.ensures c.put-c.ensures c.either-changed.ensures)
 
 pub returns : goal.returns
 returns c = search (visit_made, rules)

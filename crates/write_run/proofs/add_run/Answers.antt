@@ -29,8 +29,7 @@ returns-then-b-e c = let a = c.args in
 pub move_words-requires : goal.move_words-requires
 move_words-requires c = let a = c.args in
     let p = c.token_start-a.ensures in
-    let q = c.token_start-e.ensures in
-    (simp (length-take, length-drop) (omega arith), λ j h. rw p (run_within a.tokens.now a.text.now c.requires.2 a.from a.to c.requires.0 c.requires.1 a.c.text j (search rules) (rw (← p, ← q) (search rules)) h))
+    let q = c.token_start-e.ensures in record { run_in_bounds = simp (length-take, length-drop) (omega arith); by_index = λ j h. rw p (run_within a.tokens.now a.text.now c.requires.2 a.from a.to c.requires.0 c.requires.1 a.c.text j (search rules) (rw (← p, ← q) (search rules)) h) }
 
 pub returns : goal.returns
 returns c = let a = c.args in

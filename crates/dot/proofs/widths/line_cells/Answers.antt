@@ -12,4 +12,4 @@ pub overflow_add-result : goal.overflow_add-result
 overflow_add-result c = let a = c.args in omega (arith, indent_most a.lines.now a.tokens.now a.text.now a.i)
 
 pub returns : goal.returns
-returns c = let a = c.args in (search (line_is, rules), omega (arith, indent_most a.lines.now a.tokens.now a.text.now a.i))
+returns c = let a = c.args in record { value = search (line_is, rules); upper_bound = omega (arith, indent_most a.lines.now a.tokens.now a.text.now a.i) }

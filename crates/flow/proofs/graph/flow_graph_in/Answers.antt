@@ -7,12 +7,8 @@ use Rattle.flow.proofs.graph.flow_graph_in.Goals as goal
 
 pub label_graph-requires : goal.label_graph-requires
 label_graph-requires c = let p = c.requires in
-    let K = c.blocks-2 in (
-      (omega (arith, K.auto.1.1.1.0, p.0.0), omega (arith, K.auto.1.1.1.1.0, p.0.1), p.0.3, p.0.4, p.0.5),
-      ((p.1.0, rw c.if-blocks.true at K.ensures), (p.1.1.0, p.1.1.1)),
-    )
+    let K = c.blocks-2 in record { fact = (omega (arith, K.auto.ends, p.0.0), omega (arith, K.auto.parents, p.0.1), p.0.3, p.0.4, p.0.5); fact_2 = (p.1.0, rw c.if-blocks.true at K.ensures); by_index = p.1.1.0; matrices = p.1.1.1 }
 
 pub returns-else-blocks : goal.returns-else-blocks
 returns-else-blocks c = let a = c.args in
-    let K = c.blocks-2 in
-    (refused_brace (listing a.lines.now a.tokens.now a.text.now) K.result K.ensures.answer c.if-blocks.false, some_none 8)
+    let K = c.blocks-2 in record { result_value = refused_brace (listing a.lines.now a.tokens.now a.text.now) K.result K.ensures.answer c.if-blocks.false; fact_2 = some_none 8 }

@@ -13,32 +13,25 @@ use Rattle.flow.proofs.graph.label_graph.Goals as goal
 pub draw-requires : goal.draw-requires
 draw-requires c = let a = c.args in
     let p = c.requires in
-    let I = c.index in (
-      matrices_kept (length a.lines.now) a.r a.space.now _ p.1.1.1 c.no_edges.auto.0,
-      record {
+    let I = c.index in record { matrices = matrices_kept (length a.lines.now) a.r a.space.now _ p.1.1.1 c.no_edges.auto.space; read = record {
         masks = p.1.0.0;
         ends_room = p.0.0;
         parents_room = p.0.1;
-        heads_room = omega (arith, I.auto.1.1.1.0, p.0.2);
-        nexts_room = omega (arith, I.auto.1.1.1.1.0, p.0.3);
+        heads_room = omega (arith, I.auto.heads, p.0.2);
+        nexts_room = omega (arith, I.auto.nexts, p.0.3);
         ends = p.1.0.1.ends refl;
         parents = p.1.0.1.parents refl;
         labels = I.ensures;
-      },
-    )
+      } }
 
 pub returns-then-draw : goal.returns-then-draw
 returns-then-draw c = let a = c.args in
     let L = listing a.lines.now a.tokens.now a.text.now in
     let M = c.requires.fact_2.0.1 in
     let d = c.draw in
-    let y = c.if-draw.true in (
-      not_refused L true M.answer refl d.result d.ensures.0 y,
-      λ z. graph_drawn L (length a.lines.now) a.r _ _ _ (length_listing a.lines.now a.tokens.now a.text.now) true M.answer refl d.result d.ensures.0 y c.no_edges.ensures (d.ensures.1 y),
-    )
+    let y = c.if-draw.true in record { result_value = not_refused L true M.answer refl d.result d.ensures.0 y; fact_3 = λ z. graph_drawn L (length a.lines.now) a.r _ _ _ (length_listing a.lines.now a.tokens.now a.text.now) true M.answer refl d.result d.ensures.0 y c.no_edges.ensures (d.ensures.1 y) }
 
 pub returns-else-draw : goal.returns-else-draw
 returns-else-draw c = let a = c.args in
     let M = c.requires.fact_2.0.1 in
-    let d = c.draw in
-    (refused_label (listing a.lines.now a.tokens.now a.text.now) true M.answer refl d.result d.ensures.0 c.if-draw.false, some_none 9)
+    let d = c.draw in record { result_value = refused_label (listing a.lines.now a.tokens.now a.text.now) true M.answer refl d.result d.ensures.0 c.if-draw.false; fact_3 = some_none 9 }

@@ -14,10 +14,10 @@ pub overflow_add-h : goal.overflow_add-h
 overflow_add-h c = omega (arith, c.loop-h.invariant.upto)
 
 pub goto_turn-requires : goal.goto_turn-requires
-goto_turn-requires c = let r = c.loop-h.invariant in let p = c.requires in ((omega (arith, c.loop-h-test.true), omega (arith, r.fewer, p.0.0), omega (arith, r.size, r.fewer, p.0.1, c.start.auto.1.0), p.0.2), (r.ahead, p.1))
+goto_turn-requires c = let r = c.loop-h.invariant in let p = c.requires in record { h_lt_n = (omega (arith, c.loop-h-test.true), omega (arith, r.fewer, p.0.0), omega (arith, r.size, r.fewer, p.0.1, c.start.auto.plan), p.0.2); ahead = r.ahead; marked = p.1 }
 
 pub returns-in-Beyond : goal.returns-in-Beyond
-returns-in-Beyond c = record { result_after = running_overflows _ _ _ _ _ _ _ c.loop-h.invariant (omega (arith, c.requires.lines_len_bound.1, c.start.auto.1.0)) c.loop-h-test.true _ _ c.goto_turn.ensures c.in-Beyond.is; emitted = tt }
+returns-in-Beyond c = record { result_after = running_overflows _ _ _ _ _ _ _ c.loop-h.invariant (omega (arith, c.requires.lines_len_bound.1, c.start.auto.plan)) c.loop-h-test.true _ _ c.goto_turn.ensures c.in-Beyond.is; emitted = tt }
 
 pub overflow_add-h-in-loop-h : goal.overflow_add-h-in-loop-h
 overflow_add-h-in-loop-h c = omega (arith, c.loop-h.invariant.upto, c.requires.lines_len_bound.0)
@@ -26,7 +26,7 @@ pub loop-h-smaller : goal.loop-h-smaller
 loop-h-smaller c = omega (arith, c.loop-h.invariant.fewer, c.loop-h-test.true)
 
 pub loop-h-preserved : goal.loop-h-preserved
-loop-h-preserved c = running_goes _ _ _ _ _ _ _ c.loop-h.invariant (omega (arith, c.requires.lines_len_bound.1, c.start.auto.1.0)) c.loop-h-test.true _ _ c.goto_turn.ensures _ c.in-Go.is c.goto_turn.auto.1.1.1.0
+loop-h-preserved c = running_goes _ _ _ _ _ _ _ c.loop-h.invariant (omega (arith, c.requires.lines_len_bound.1, c.start.auto.plan)) c.loop-h-test.true _ _ c.goto_turn.ensures _ c.in-Go.is c.goto_turn.auto.plan
 
 pub returns : goal.returns
-returns c = let r = c.loop-h.invariant in (running_ends _ _ _ _ _ _ _ r (omega (arith, c.requires.lines_len_bound.1, c.start.auto.1.0)) c.loop-h-test.false, emitted_ends _ _ _ _ _ _ _ r (omega (arith, c.requires.lines_len_bound.1, c.start.auto.1.0)))
+returns c = let r = c.loop-h.invariant in record { result_after = running_ends _ _ _ _ _ _ _ r (omega (arith, c.requires.lines_len_bound.1, c.start.auto.plan)) c.loop-h-test.false; emitted = emitted_ends _ _ _ _ _ _ _ r (omega (arith, c.requires.lines_len_bound.1, c.start.auto.plan)) }

@@ -13,7 +13,7 @@ pub overflow_add-result : goal.overflow_add-result
 overflow_add-result c = search (texts, rules)
 
 pub returns-then-c-eq34 : goal.returns-then-c-eq34
-returns-then-c-eq34 c = (search (texts, rules), (search (texts, rules), search (texts, rules)))
+returns-then-c-eq34 c = record { result_after = search (texts, rules); text_unchanged = search (texts, rules); within = search (texts, rules) }
 
 pub is_plain-requires : goal.is_plain-requires
 is_plain-requires c = search (texts, rules)

@@ -13,8 +13,7 @@ use Rattle.line_steps.proofs.Drawings.{matrices_kept}
 use Rattle.line_steps.proofs.steps.block_steps.Goals as goal
 
 pub cases-requires : goal.cases-requires
-cases-requires c = let a = c.args in
-    ((matrices_kept (length a.lines.now) a.r a.space.now _ c.requires.matrices.0 (c.past_end.auto.1.0 ∙ c.step.auto.0), c.requires.matrices.1, c.requires.matrices.2, c.requires.matrices.3), c.requires.fact)
+cases-requires c = let a = c.args in record { matrices = (matrices_kept (length a.lines.now) a.r a.space.now _ c.requires.matrices.0 (c.past_end.auto.space ∙ c.step.auto.space), c.requires.matrices.1, c.requires.matrices.2, c.requires.matrices.3); fact = c.requires.fact }
 
 pub returns : goal.returns
 returns c = let a = c.args in

@@ -23,7 +23,7 @@ case_step-requires c = let a = c.args in
 pub loop-j-preserved : goal.loop-j-preserved
 loop-j-preserved c = let a = c.args in
     let l = c.loop-j in (
-      c.case_step.auto.1.1.1.1.0 ∙ l.invariant.0,
+      c.case_step.auto.space ∙ l.invariant.0,
       steps_next (length a.lines.now) a.r a.h (from a.h (filter (λ j. is_case (line (listing a.lines.now a.tokens.now a.text.now) j)) (range (a.h + 1) (a.c - (a.h + 1))))) a.space.now l.space (filter (λ j. is_case (line (listing a.lines.now a.tokens.now a.text.now) j)) (range l.j (a.c - l.j))) l.invariant.1
           _ (if is_case (line (listing a.lines.now a.tokens.now a.text.now) l.j) then l.j ∷ [] else []) (filter (λ j. is_case (line (listing a.lines.now a.tokens.now a.text.now) j)) (range (l.j + 1) (a.c - (l.j + 1)))) c.case_step.ensures (case_left (λ j. is_case (line (listing a.lines.now a.tokens.now a.text.now) j)) l.j a.c c.loop-j-test.true),
     )

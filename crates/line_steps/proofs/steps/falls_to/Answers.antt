@@ -20,8 +20,7 @@ returns-then-e-eq0 c = let a = c.args in
 pub chain_end-requires : goal.chain_end-requires
 chain_end-requires c = let a = c.args in
     let n = length_listing a.lines.now a.tokens.now a.text.now in
-    let w = else_later (listing a.lines.now a.tokens.now a.text.now) (blocks_of (listing a.lines.now a.tokens.now a.text.now)) a.ends.now c.requires.fact (a.i + 1) c.else_end-e.result (omega (arith, n, c.if-lines-next.false)) c.else_end-e.ensures c.if-e-eq0.false in
-    ((omega arith, omega arith, c.requires.i_in_bounds.2), c.requires.fact)
+    let w = else_later (listing a.lines.now a.tokens.now a.text.now) (blocks_of (listing a.lines.now a.tokens.now a.text.now)) a.ends.now c.requires.fact (a.i + 1) c.else_end-e.result (omega (arith, n, c.if-lines-next.false)) c.else_end-e.ensures c.if-e-eq0.false in record { c_in_bounds = (omega arith, omega arith, c.requires.i_in_bounds.2); fact = c.requires.fact }
 
 pub returns : goal.returns
 returns c = let a = c.args in

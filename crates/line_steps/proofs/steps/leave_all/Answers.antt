@@ -42,7 +42,7 @@ loop-p-preserved c = let a = c.args in
     let n = length_listing a.lines.now a.tokens.now a.text.now in
     let w = P.inward (l.p - 1) (omega arith) in (
       omega arith,
-      c.leave.auto.1.1.1.1.1.0 ∙ l.invariant.1,
+      c.leave.auto.space ∙ l.invariant.1,
       steps_next (length a.lines.now) a.r a.i (from a.i (lefts (listing a.lines.now a.tokens.now a.text.now) a.ends.now (linked a.parents.now a.i (get_or a.parents.now a.i 0)))) a.space.now l.space (lefts (listing a.lines.now a.tokens.now a.text.now) a.ends.now (linked a.parents.now l.p l.p)) l.invariant.2
           _ (left (listing a.lines.now a.tokens.now a.text.now) a.ends.now (l.p - 1)) (lefts (listing a.lines.now a.tokens.now a.text.now) a.ends.now (linked a.parents.now (get_or a.parents.now (l.p - 1) 0) (get_or a.parents.now (l.p - 1) 0))) c.leave.ensures
           (left_next a.parents.now a.i l.p (λ j g. P.inward j (omega (arith, n))) l.invariant.0 c.loop-p-test.true (listing a.lines.now a.tokens.now a.text.now) a.ends.now),

@@ -33,7 +33,7 @@ pub returns-in_default : goal.returns-in_default
 returns-in_default c = search (for_answers, rules)
 
 pub for_place-requires : goal.for_place-requires
-for_place-requires c = let p = c.requires in let i = place_calls _ _ _ _ _ _ p.0.0 p.0.1 c.first_end.ensures c.in-At.is in ((i.0, i.1, p.0.2, i.2), p.1.1)
+for_place-requires c = let p = c.requires in let i = place_calls _ _ _ _ _ _ p.0.0 p.0.1 c.first_end.ensures c.in-At.is in record { w_in_bounds = (i.0, i.1, p.0.2, i.2); masks = p.1.1 }
 
 pub enum_known-k : goal.enum_known-k
 enum_known-k c = search (for_answers, rules)

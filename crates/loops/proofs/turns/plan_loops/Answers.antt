@@ -14,19 +14,19 @@ pub overflow_add-i : goal.overflow_add-i
 overflow_add-i c = omega (arith, c.loop-i.invariant.upto)
 
 pub loop_turn-requires : goal.loop_turn-requires
-loop_turn-requires c = let r = c.loop-i.invariant in let p = c.requires in ((c.loop-i-test.true, omega (arith, r.size, r.fewer, p.0.1, c.start.auto.1.0), p.0.2), (r.ready, p.1))
+loop_turn-requires c = let r = c.loop-i.invariant in let p = c.requires in record { i_bound = (c.loop-i-test.true, omega (arith, r.size, r.fewer, p.0.1, c.start.auto.plan), p.0.2); ready = r.ready; masks = p.1 }
 
 pub returns-in-Stop : goal.returns-in-Stop
-returns-in-Stop c = let room = c.requires.lines_len_bound.1 in let r = c.loop-i.invariant in (running_stops _ _ _ _ _ _ _ r (omega (arith, c.start.auto.1.0)) c.loop-i-test.true _ _ c.loop_turn.ensures c.in-Stop.is, emitted_stops _ _ _ _ _ _ _ r (omega (arith, c.start.auto.1.0)) c.loop-i-test.true _ _ c.loop_turn.ensures c.in-Stop.is)
+returns-in-Stop c = let room = c.requires.lines_len_bound.1 in let r = c.loop-i.invariant in record { result_after = running_stops _ _ _ _ _ _ _ r (omega (arith, c.start.auto.plan)) c.loop-i-test.true _ _ c.loop_turn.ensures c.in-Stop.is; emitted = emitted_stops _ _ _ _ _ _ _ r (omega (arith, c.start.auto.plan)) c.loop-i-test.true _ _ c.loop_turn.ensures c.in-Stop.is }
 
 pub returns-in-Beyond : goal.returns-in-Beyond
-returns-in-Beyond c = record { result_after = running_overflows _ _ _ _ _ _ _ c.loop-i.invariant (omega (arith, c.requires.lines_len_bound.1, c.start.auto.1.0)) c.loop-i-test.true _ _ c.loop_turn.ensures c.in-Beyond.is; emitted = tt }
+returns-in-Beyond c = record { result_after = running_overflows _ _ _ _ _ _ _ c.loop-i.invariant (omega (arith, c.requires.lines_len_bound.1, c.start.auto.plan)) c.loop-i-test.true _ _ c.loop_turn.ensures c.in-Beyond.is; emitted = tt }
 
 pub loop-i-smaller : goal.loop-i-smaller
 loop-i-smaller c = omega (arith, c.loop-i.invariant.fewer)
 
 pub loop-i-preserved : goal.loop-i-preserved
-loop-i-preserved c = running_goes _ _ _ _ _ _ _ c.loop-i.invariant (omega (arith, c.requires.lines_len_bound.1, c.start.auto.1.0)) c.loop-i-test.true _ _ c.loop_turn.ensures _ c.in-Go.is c.loop_turn.auto.1.1.1.1.0
+loop-i-preserved c = running_goes _ _ _ _ _ _ _ c.loop-i.invariant (omega (arith, c.requires.lines_len_bound.1, c.start.auto.plan)) c.loop-i-test.true _ _ c.loop_turn.ensures _ c.in-Go.is c.loop_turn.auto.plan
 
 pub returns : goal.returns
-returns c = let r = c.loop-i.invariant in (running_ends _ _ _ _ _ _ _ r (omega (arith, c.requires.lines_len_bound.1, c.start.auto.1.0)) c.loop-i-test.false, emitted_ends _ _ _ _ _ _ _ r (omega (arith, c.requires.lines_len_bound.1, c.start.auto.1.0)))
+returns c = let r = c.loop-i.invariant in record { result_after = running_ends _ _ _ _ _ _ _ r (omega (arith, c.requires.lines_len_bound.1, c.start.auto.plan)) c.loop-i-test.false; emitted = emitted_ends _ _ _ _ _ _ _ r (omega (arith, c.requires.lines_len_bound.1, c.start.auto.plan)) }

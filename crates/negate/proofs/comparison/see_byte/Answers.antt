@@ -27,10 +27,7 @@ overflow_add-result-then-w-lt-NONE c = let a = c.args in
 
 pub returns-then-w-lt-NONE : goal.returns-then-w-lt-NONE
 returns-then-w-lt-NONE c = let a = c.args in
-    let w = c.width.result in (
-      byte_found a.s.now a.i c.requires.0 c.part-rest.result.now c.part-rest.ensures (seen a.r) (seen c.see_logical-n.result) c.comparison_at-w.result c.comparison_at-w.ensures.0 c.if-w-lt-NONE.true _ c.see_logical-n.ensures.0 w c.width.ensures,
-      (found_after a.s.now a.i c.requires.0 c.part-rest.result.now c.part-rest.ensures (seen a.r) (seen c.see_logical-n.result) c.comparison_at-w.result c.comparison_at-w.ensures.0 c.if-w-lt-NONE.true w c.width.ensures, found_within a.s.now a.i c.requires.0 c.part-rest.result.now c.part-rest.ensures (seen a.r) (seen c.see_logical-n.result) c.comparison_at-w.result c.comparison_at-w.ensures.0 c.if-w-lt-NONE.true w c.width.ensures, omega (arith, c.see_logical-n.ensures.1)),
-    )
+    let w = c.width.result in record { r_value = byte_found a.s.now a.i c.requires.0 c.part-rest.result.now c.part-rest.ensures (seen a.r) (seen c.see_logical-n.result) c.comparison_at-w.result c.comparison_at-w.ensures.0 c.if-w-lt-NONE.true _ c.see_logical-n.ensures.0 w c.width.ensures; i_lt_next = (found_after a.s.now a.i c.requires.0 c.part-rest.result.now c.part-rest.ensures (seen a.r) (seen c.see_logical-n.result) c.comparison_at-w.result c.comparison_at-w.ensures.0 c.if-w-lt-NONE.true w c.width.ensures, found_within a.s.now a.i c.requires.0 c.part-rest.result.now c.part-rest.ensures (seen a.r) (seen c.see_logical-n.result) c.comparison_at-w.result c.comparison_at-w.ensures.0 c.if-w-lt-NONE.true w c.width.ensures, omega (arith, c.see_logical-n.ensures.1)) }
 
 pub bounds-s-i : goal.bounds-s-i
 bounds-s-i c = search (bytes, rules)

@@ -14,7 +14,7 @@ pub slice_bounds-link-end : goal.slice_bounds-link-end
 slice_bounds-link-end c = search (link_rules, rules)
 
 pub slice_bounds-link-end-2 : goal.slice_bounds-link-end-2
-slice_bounds-link-end-2 c = sym (length-take-le c.reaching-m.result _ (omega (arith, c.reaching-m.ensures.few, c.reaching-m.auto.1.1.1.1.1.1.0, c.requires.2.sized.room)))
+slice_bounds-link-end-2 c = sym (length-take-le c.reaching-m.result _ (omega (arith, c.reaching-m.ensures.few, c.reaching-m.auto.set, c.requires.2.sized.room)))
 
 pub link-requires : goal.link-requires
 link-requires c = search (link_rules, rules)

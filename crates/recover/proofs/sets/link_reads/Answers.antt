@@ -17,7 +17,7 @@ pub loop-j-smaller : goal.loop-j-smaller
 loop-j-smaller c = search (link_rules, rules)
 
 pub loop-j-preserved : goal.loop-j-preserved
-loop-j-preserved c = (c.link_line.auto.0 ∙ c.loop-j.invariant.0, c.link_line.auto.1.1.1.1.1.1.0 ∙ c.loop-j.invariant.1, c.link_line.auto.1.1.1.1.1.1.1.0 ∙ c.loop-j.invariant.2, c.link_line.auto.1.1.1.1.1.1.1.1.0 ∙ c.loop-j.invariant.3, slices_next _ _ _ _ _ _ _ _ _ _ _ _ _ c.loop-j.invariant.4 c.link_line.ensures c.link_line.auto.1.1.1.1.1.1.0 c.link_line.auto.1.1.1.1.1.1.1.0 c.link_line.auto.1.1.1.1.1.1.1.1.0, links_next _ _ _ _ _ _ _ _ _ _ c.loop-j.invariant.5 _ _ _ c.loop-j-test.true c.number.ensures c.link_line.ensures)
+loop-j-preserved c = (c.link_line.auto.space ∙ c.loop-j.invariant.0, c.link_line.auto.rep ∙ c.loop-j.invariant.1, c.link_line.auto.set ∙ c.loop-j.invariant.2, c.link_line.auto.marks ∙ c.loop-j.invariant.3, slices_next _ _ _ _ _ _ _ _ _ _ _ _ _ c.loop-j.invariant.4 c.link_line.ensures c.link_line.auto.rep c.link_line.auto.set c.link_line.auto.marks, links_next _ _ _ _ _ _ _ _ _ _ c.loop-j.invariant.5 _ _ _ c.loop-j-test.true c.number.ensures c.link_line.ensures)
 
 pub returns : goal.returns
 returns c = search (link_rules, rules)

@@ -6,7 +6,7 @@ use Rattle.splits.proofs.call.find_starts_in.Goals as goal
 pub starts-requires : goal.starts-requires
 starts-requires c = (
   (defs_by _ _ _ _ _ _ c.families-count.ensures, c.crossings.ensures),
-  omega (arith, c.families-count.auto.1.1.1.1.0, c.requires.lines_nonzero.3),
+  omega (arith, c.families-count.auto.defs, c.requires.lines_nonzero.3),
 )
 
 pub returns : goal.returns

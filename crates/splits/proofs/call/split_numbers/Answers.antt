@@ -14,15 +14,9 @@ slice_bounds-write_all-end-4 c = let a = c.args in
 
 pub write_all-requires : goal.write_all-requires
 write_all-requires c = let a = c.args in
-    let p = c.requires in (
-      p.0,
-      (p.1, omega (arith, length-take (length a.tokens.now) a.numbers.now, p.2), omega (arith, length-take (length a.tokens.now) a.marks.now, p.3)),
-    )
+    let p = c.requires in record { lines_len_bound = p.0; tokens_value = (p.1, omega (arith, length-take (length a.tokens.now) a.numbers.now, p.2), omega (arith, length-take (length a.tokens.now) a.marks.now, p.3)) }
 
 pub returns : goal.returns
 returns c = let a = c.args in
     let p = c.requires in
-    let w = c.write_all in (
-      filled_by _ _ a.numbers.now _ (length a.tokens.now) w.ensures.0 (omega (arith, w.auto.1.1.1.0, length-take (length a.tokens.now) a.numbers.now, p.2)) c.zero_words32.ensures,
-      filled_by _ _ a.marks.now _ (length a.tokens.now) w.ensures.1 (omega (arith, w.auto.1.1.1.1.0, length-take (length a.tokens.now) a.marks.now, p.3)) c.zero_bytes.ensures,
-    )
+    let w = c.write_all in record { numbers_after = filled_by _ _ a.numbers.now _ (length a.tokens.now) w.ensures.0 (omega (arith, w.auto.numbers, length-take (length a.tokens.now) a.numbers.now, p.2)) c.zero_words32.ensures; marks_after = filled_by _ _ a.marks.now _ (length a.tokens.now) w.ensures.1 (omega (arith, w.auto.marks, length-take (length a.tokens.now) a.marks.now, p.3)) c.zero_bytes.ensures }

@@ -27,8 +27,7 @@ pub known_place-c-requires : goal.known_place-c-requires
 known_place-c-requires c = c.requires.memo
 
 pub returns-then-c-eq65535 : goal.returns-then-c-eq65535
-returns-then-c-eq65535 c = let l = c.loop-k in
-    ((l.invariant.2, l.invariant.3), (l.invariant.4, l.invariant.5))
+returns-then-c-eq65535 c = let l = c.loop-k in record { lower_bound = l.invariant.2; numbers_after = l.invariant.3; marks_after = (l.invariant.4, l.invariant.5) }
 
 pub loop-k-preserved : goal.loop-k-preserved
 loop-k-preserved c = let a = c.args in
@@ -47,5 +46,4 @@ loop-k-preserved c = let a = c.args in
     )
 
 pub returns : goal.returns
-returns c = let l = c.loop-k in
-    ((l.invariant.2, l.invariant.3), (l.invariant.4, l.invariant.5))
+returns c = let l = c.loop-k in record { lower_bound = l.invariant.2; numbers_after = l.invariant.3; marks_after = (l.invariant.4, l.invariant.5) }

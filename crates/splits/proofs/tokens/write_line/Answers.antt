@@ -31,10 +31,7 @@ pub write_some-k-requires : goal.write_some-k-requires
 write_some-k-requires c = let a = c.args in
     let p = c.requires in
     let l = c.loop-k in
-    let e = c.line_end-e in (
-      (p.0.0, l.invariant.5, omega (arith, p.0.2, l.invariant.2)),
-      (c.loop-k-test.true, omega (arith, e.ensures), l.invariant.3 ∙ p.1.2, l.invariant.4 ∙ p.1.3, p.1.4),
-    )
+    let e = c.line_end-e in record { finds = (p.0.0, l.invariant.5, omega (arith, p.0.2, l.invariant.2)); from_lt_to = (c.loop-k-test.true, omega (arith, e.ensures), l.invariant.3 ∙ p.1.2, l.invariant.4 ∙ p.1.3, p.1.4) }
 
 pub loop-k-smaller : goal.loop-k-smaller
 loop-k-smaller c = omega (arith, c.write_some-k.ensures.lower_bound.0, c.loop-k-test.true)
@@ -51,9 +48,9 @@ loop-k-preserved c = let a = c.args in
     let n : w.result ≤ length us = omega (arith, length_tokens a.tokens.now a.text.now, e.ensures, w.ensures.0.1) in (
       omega (arith, l.invariant.0, w.ensures.0.0),
       w.ensures.0.1,
-      w.auto.1.1.1.1.1.1.0 ∙ l.invariant.2,
-      w.auto.1.1.1.1.1.1.1.0 ∙ l.invariant.3,
-      w.auto.1.1.1.1.1.1.1.1.0 ∙ l.invariant.4,
+      w.auto.memo ∙ l.invariant.2,
+      w.auto.numbers ∙ l.invariant.3,
+      w.auto.marks ∙ l.invariant.4,
       w.ensures.1.1.1,
       over_join no_token (token_number fs (λ p. get_or a.counts.now p 0)) s.result us a.numbers.now l.k l.numbers l.invariant.6 l.invariant.0 w.result _ (omega (arith, w.ensures.0.0)) n (omega (arith, n, length_tokens a.tokens.now a.text.now, p.1.2, p.1.3)) w.ensures.1.0,
       over_join no_token (token_mark fs a.d) s.result us a.marks.now l.k l.marks l.invariant.7 l.invariant.0 w.result _ (omega (arith, w.ensures.0.0)) n (omega (arith, n, length_tokens a.tokens.now a.text.now, p.1.2, p.1.3)) w.ensures.1.1.0,
@@ -65,7 +62,4 @@ returns c = let a = c.args in
     let s = c.line_start-k in
     let e = c.line_end-e in
     let fs = defined_families (listing a.lines.now a.tokens.now a.text.now) in
-    let us = token_list a.tokens.now a.text.now in (
-      line_by a.lines.now a.tokens.now a.i s.result e.result s.ensures e.ensures (token_number fs (λ p. get_or a.counts.now p 0)) us a.numbers.now _ (over_done no_token (token_number fs (λ p. get_or a.counts.now p 0)) s.result us a.numbers.now l.k l.numbers l.invariant.6 l.invariant.0 e.result l.invariant.1 c.loop-k-test.false),
-      (line_by a.lines.now a.tokens.now a.i s.result e.result s.ensures e.ensures (token_mark fs a.d) us a.marks.now _ (over_done no_token (token_mark fs a.d) s.result us a.marks.now l.k l.marks l.invariant.7 l.invariant.0 e.result l.invariant.1 c.loop-k-test.false), l.invariant.5),
-    )
+    let us = token_list a.tokens.now a.text.now in record { numbers_after = line_by a.lines.now a.tokens.now a.i s.result e.result s.ensures e.ensures (token_number fs (λ p. get_or a.counts.now p 0)) us a.numbers.now _ (over_done no_token (token_number fs (λ p. get_or a.counts.now p 0)) s.result us a.numbers.now l.k l.numbers l.invariant.6 l.invariant.0 e.result l.invariant.1 c.loop-k-test.false); marks_after = line_by a.lines.now a.tokens.now a.i s.result e.result s.ensures e.ensures (token_mark fs a.d) us a.marks.now _ (over_done no_token (token_mark fs a.d) s.result us a.marks.now l.k l.marks l.invariant.7 l.invariant.0 e.result l.invariant.1 c.loop-k-test.false); memo = l.invariant.5 }

@@ -37,10 +37,7 @@ count_before-requires c = let a = c.args in
 
 pub write_line-requires : goal.write_line-requires
 write_line-requires c = let p = c.requires in
-    let l = c.loop-i in (
-      (p.0.0, l.invariant.1, omega (arith, p.0.2, l.invariant.0)),
-      (p.1.0.0, c.loop-i-test.true, l.invariant.4 ∙ p.1.0.2, l.invariant.5 ∙ p.1.0.3, omega (arith, p.1.1.0 l.i c.loop-i-test.true, c.number-d.ensures)),
-    )
+    let l = c.loop-i in record { finds = (p.0.0, l.invariant.1, omega (arith, p.0.2, l.invariant.0)); tokens_value = (p.1.0.0, c.loop-i-test.true, l.invariant.4 ∙ p.1.0.2, l.invariant.5 ∙ p.1.0.3, omega (arith, p.1.1.0 l.i c.loop-i-test.true, c.number-d.ensures)) }
 
 pub loop-i-preserved : goal.loop-i-preserved
 loop-i-preserved c = let a = c.args in
@@ -50,12 +47,12 @@ loop-i-preserved c = let a = c.args in
     let us = token_list a.tokens.now a.text.now in
     let n = length_tokens a.tokens.now a.text.now in
     let T = tallied_next a.starts.now l.i l.counts l.invariant.6 _ (omega arith) _ (omega (arith, p.1.1.0 l.i c.loop-i-test.true, p.1.1.1, l.invariant.3)) c.count_before.ensures in (
-      c.write_line.auto.1.1.1.1.1.1.0 ∙ l.invariant.0,
+      c.write_line.auto.memo ∙ l.invariant.0,
       c.write_line.ensures.marks_after.1,
       omega (arith, c.loop-i-test.true),
-      c.count_before.auto.1.0 ∙ l.invariant.3,
-      c.write_line.auto.1.1.1.1.1.1.1.0 ∙ l.invariant.4,
-      c.write_line.auto.1.1.1.1.1.1.1.1.0 ∙ l.invariant.5,
+      c.count_before.auto.counts ∙ l.invariant.3,
+      c.write_line.auto.numbers ∙ l.invariant.4,
+      c.write_line.auto.marks ∙ l.invariant.5,
       T,
       written_next a.lines.now a.tokens.now p.1.0.0 (number_at fs a.starts.now) us a.numbers.now l.i l.numbers l.invariant.7 c.loop-i-test.true n _ (c.write_line.ensures.numbers_after ∙ ap (λ f. over (line_start a.lines.now l.i) (line_end a.lines.now a.tokens.now l.i) f us l.numbers) (number_tallied fs a.starts.now l.i _ T)),
       written_next a.lines.now a.tokens.now p.1.0.0 (mark_at fs a.starts.now) us a.marks.now l.i l.marks l.invariant.8 c.loop-i-test.true n _ (c.write_line.ensures.marks_after.0 ∙ ap (λ d. over (line_start a.lines.now l.i) (line_end a.lines.now a.tokens.now l.i) (token_mark fs d) us l.marks) c.number-d.ensures),
@@ -66,7 +63,4 @@ returns c = let a = c.args in
     let p = c.requires in
     let l = c.loop-i in
     let fs = defined_families (listing a.lines.now a.tokens.now a.text.now) in
-    let us = token_list a.tokens.now a.text.now in (
-      written_end a.lines.now a.tokens.now p.1.0.0 (number_at fs a.starts.now) us a.numbers.now l.i l.numbers l.invariant.7 l.invariant.2 c.loop-i-test.false p.1.0.2,
-      written_end a.lines.now a.tokens.now p.1.0.0 (mark_at fs a.starts.now) us a.marks.now l.i l.marks l.invariant.8 l.invariant.2 c.loop-i-test.false p.1.0.3,
-    )
+    let us = token_list a.tokens.now a.text.now in record { numbers_after = written_end a.lines.now a.tokens.now p.1.0.0 (number_at fs a.starts.now) us a.numbers.now l.i l.numbers l.invariant.7 l.invariant.2 c.loop-i-test.false p.1.0.2; marks_after = written_end a.lines.now a.tokens.now p.1.0.0 (mark_at fs a.starts.now) us a.marks.now l.i l.marks l.invariant.8 l.invariant.2 c.loop-i-test.false p.1.0.3 }

@@ -27,8 +27,7 @@ loop-k-init c = let a = c.args in
 
 pub token_place-c-requires : goal.token_place-c-requires
 token_place-c-requires c = let p = c.requires in
-    let l = c.loop-k in
-    (p.0.0, (l.invariant.1, omega (arith, p.0.2, l.invariant.0)))
+    let l = c.loop-k in record { finds = p.0.0; memo = (l.invariant.1, omega (arith, p.0.2, l.invariant.0)) }
 
 pub number_of-v-requires : goal.number_of-v-requires
 number_of-v-requires c = search (writes, rules)
@@ -58,7 +57,7 @@ loop-k-preserved c = let a = c.args in
     let fs = defined_families (listing a.lines.now a.tokens.now a.text.now) in
     let us = token_list a.tokens.now a.text.now in
     let n : a.to ≤ length us = omega (arith, length_tokens a.tokens.now a.text.now, p.1.1) in (
-      c.token_place-c.auto.1.1.1.1.1.0 ∙ l.invariant.0,
+      c.token_place-c.auto.memo ∙ l.invariant.0,
       c.token_place-c.ensures.memo_2,
       simp length-set l.invariant.2,
       simp length-set l.invariant.3,
@@ -72,10 +71,4 @@ pub returns : goal.returns
 returns c = let a = c.args in
     let fs = defined_families (listing a.lines.now a.tokens.now a.text.now) in
     let us = token_list a.tokens.now a.text.now in
-    let l = c.loop-k in (
-      over_done no_token (token_number fs (λ p. get_or a.counts.now p 0)) a.from us a.numbers.now l.k l.numbers l.invariant.6 l.invariant.4 a.to l.invariant.5 c.loop-k-test.false,
-      (
-        over_done no_token (token_mark fs a.d) a.from us a.marks.now l.k l.marks l.invariant.7 l.invariant.4 a.to l.invariant.5 c.loop-k-test.false,
-        l.invariant.1,
-      ),
-    )
+    let l = c.loop-k in record { numbers_after = over_done no_token (token_number fs (λ p. get_or a.counts.now p 0)) a.from us a.numbers.now l.k l.numbers l.invariant.6 l.invariant.4 a.to l.invariant.5 c.loop-k-test.false; marks_after = over_done no_token (token_mark fs a.d) a.from us a.marks.now l.k l.marks l.invariant.7 l.invariant.4 a.to l.invariant.5 c.loop-k-test.false; memo = l.invariant.1 }

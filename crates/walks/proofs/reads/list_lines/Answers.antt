@@ -21,7 +21,7 @@ pub loop-i-smaller : goal.loop-i-smaller
 loop-i-smaller c = search (seen_rules, rules)
 
 pub loop-i-preserved : goal.loop-i-preserved
-loop-i-preserved c = (omega arith, omega (arith, c.loop-i-test.true), omega (arith, c.put-m.ensures.step, c.loop-i.invariant.2), c.put-m.auto.0 ∙ c.loop-i.invariant.3, list_next _ _ _ _ c.loop-i.invariant.4 c.loop-i.invariant.0 _ _ _ (seen_line _ _ _ _ _ c.requires.0 _ c.loop-i.invariant.0 c.loop-i-test.true _ c.is_seen.ensures) c.put-m.ensures)
+loop-i-preserved c = (omega arith, omega (arith, c.loop-i-test.true), omega (arith, c.put-m.ensures.step, c.loop-i.invariant.2), c.put-m.auto.set ∙ c.loop-i.invariant.3, list_next _ _ _ _ c.loop-i.invariant.4 c.loop-i.invariant.0 _ _ _ (seen_line _ _ _ _ _ c.requires.0 _ c.loop-i.invariant.0 c.loop-i-test.true _ c.is_seen.ensures) c.put-m.ensures)
 
 pub returns : goal.returns
 returns c = search (seen_rules, rules)

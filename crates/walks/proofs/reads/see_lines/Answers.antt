@@ -30,7 +30,7 @@ pub loop-p-smaller : goal.loop-p-smaller
 loop-p-smaller c = search (seen_rules, rules)
 
 pub loop-p-preserved : goal.loop-p-preserved
-loop-p-preserved c = (c.mark_if.auto.0 ∙ c.loop-p.invariant.0, seen_next _ _ _ _ _ _ _ c.requires.0 _ _ c.loop-p.invariant.1 c.loop-p-test.true (omega (arith, c.requires.2, c.loop-p.invariant.0)) _ c.line_at-i.ensures _ c.reads_at.ensures _ c.mark_if.ensures _ c.next_at-p.ensures)
+loop-p-preserved c = (c.mark_if.auto.seen ∙ c.loop-p.invariant.0, seen_next _ _ _ _ _ _ _ c.requires.0 _ _ c.loop-p.invariant.1 c.loop-p-test.true (omega (arith, c.requires.2, c.loop-p.invariant.0)) _ c.line_at-i.ensures _ c.reads_at.ensures _ c.mark_if.ensures _ c.next_at-p.ensures)
 
 pub returns : goal.returns
 returns c = search (seen_rules, rules)

@@ -15,4 +15,4 @@ pub returns-then-address_taken : goal.returns-then-address_taken
 returns-then-address_taken c = taken_done _ _ _ _ _ _ _ _ _ c.requires.known.0 c.requires.known.1 _ _ _ c.requires.known.2 (sym c.address_taken.ensures ∙ c.if-address_taken.true) _ c.args.own.now c.args.read.now _ c.write_zeros.ensures
 
 pub family_free-requires : goal.family_free-requires
-family_free-requires c = (c.requires.known, ((sym c.address_taken.ensures ∙ c.if-address_taken.false, c.requires.lines_in_bounds.0), (c.requires.lines_in_bounds.1, c.requires.lines_in_bounds.2)))
+family_free-requires c = record { known = c.requires.known; k_value = (sym c.address_taken.ensures ∙ c.if-address_taken.false, c.requires.lines_in_bounds.0); lines_in_bounds = (c.requires.lines_in_bounds.1, c.requires.lines_in_bounds.2) }
