@@ -42,7 +42,7 @@ loop-i-preserved c = let a = c.args in
       reading_next (listing a.lines.now a.tokens.now a.text.now) l.ends l.parents l.counts l.top l.i l.invariant.4
           (omega (arith, c.loop-i-test.true, length_listing a.lines.now a.tokens.now a.text.now)) (counted c.line_braces-b.result) c.line_braces-b.ensures
           _ _ c.close.result c.close.ensures _ (search rules)
-          (omega (arith, c.close.auto.ends, l.invariant.1, r.0, t)) (omega (arith, l.invariant.2, r.1, t)) (omega (arith, c.close.auto.counts, l.invariant.3, r.2, t)) _ _ _ _ c.enter-top.ensures.ends_after.0 c.enter-top.ensures.ends_after.1.0 c.enter-top.ensures.ends_after.1.1 c.enter-top.ensures.value,
+          (omega (arith, c.close.auto.ends, l.invariant.1, r.0, t)) (omega (arith, l.invariant.2, r.1, t)) (omega (arith, c.close.auto.counts, l.invariant.3, r.2, t)) _ _ _ _ c.enter-top.ensures.ends_after c.enter-top.ensures.parents_after c.enter-top.ensures.counts_after c.enter-top.ensures.value,
     )
 
 pub returns : goal.returns

@@ -7,15 +7,6 @@ use Rattle.families.proofs.is_some.Goals as goal
 pub enum_known-r : goal.enum_known-r
 enum_known-r c = search (hash_rules, rules)
 
-pub enum_told-1 : goal.enum_told-1
-enum_told-1 c = search (hash_rules, rules)
-
-pub enum_told-in-Var : goal.enum_told-in-Var
-enum_told-in-Var c = search (hash_rules, rules)
-
-pub enum_told-in-Nothing : goal.enum_told-in-Nothing
-enum_told-in-Nothing c = search (hash_rules, rules)
-
 pub returns-in-Legacy : goal.returns-in-Legacy
 returns-in-Legacy c = λ s. search (hash_rules, rules)
 

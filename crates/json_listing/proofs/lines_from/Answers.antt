@@ -20,10 +20,6 @@ pub enum_known-j : goal.enum_known-j
 unfolding listing_read
 enum_known-j c = search (listings, rules)
 
-pub enum_told-1 : goal.enum_told-1
-unfolding listing_read
-enum_told-1 c = search (listings, rules)
-
 pub returns-in_default : goal.returns-in_default
 unfolding listing_read
 returns-in_default c = search (listings, rules)
@@ -63,10 +59,6 @@ enum_known-l c = search (listings, rules)
 pub returns-in-Close : goal.returns-in-Close
 unfolding listing_read
 returns-in-Close c = search (listings, rules)
-
-pub enum_told-in-NoSep : goal.enum_told-in-NoSep
-unfolding listing_read
-enum_told-in-NoSep c = search (listings, rules)
 
 pub returns-in-NoSep : goal.returns-in-NoSep
 unfolding listing_read

@@ -6,10 +6,10 @@ use Rattle.labels.proofs.Buckets.{indexed_label}
 use Rattle.labels.proofs.index_label.Goals as goal
 
 pub link-p-requires : goal.link-p-requires
-link-p-requires c = omega (arith, c.requires.i_value.1.below c.bucket-b.result c.bucket-b.ensures.1, c.requires.i_in_bounds.2)
+link-p-requires c = omega (arith, c.requires.indexed.below c.bucket-b.result c.bucket-b.ensures.1, c.requires.i_in_bounds.2)
 
 pub returns : goal.returns
 returns c = let a = c.args in
-    indexed_label (listing a.lines.now a.tokens.now a.text.now) a.heads.now a.nexts.now a.i c.requires.i_value.1
+    indexed_label (listing a.lines.now a.tokens.now a.text.now) a.heads.now a.nexts.now a.i c.requires.indexed
     (omega (arith, c.requires.i_in_bounds.0, length_listing a.lines.now a.tokens.now a.text.now)) (omega arith)
-    c.requires.i_value.0 c.bucket-b.result _ c.bucket-b.ensures.0 c.text_at-s.ensures c.requires.i_in_bounds.1 c.link-p.result c.link-p.ensures
+    c.requires.i_value c.bucket-b.result _ c.bucket-b.ensures.0 c.text_at-s.ensures c.requires.i_in_bounds.1 c.link-p.result c.link-p.ensures

@@ -19,9 +19,6 @@ leading_test-requires c = search (head_words, rules)
 pub enum_known-g : goal.enum_known-g
 enum_known-g c = search (head_words, rules)
 
-pub enum_told-1 : goal.enum_told-1
-enum_told-1 c = search (head_words, rules)
-
 pub returns-in_default : goal.returns-in_default
 returns-in_default c = search (head_words, rules)
 

@@ -10,9 +10,6 @@ goto_symbol-requires c = search (forms, rules)
 pub enum_known-j : goal.enum_known-j
 enum_known-j c = search (forms, rules)
 
-pub enum_told-1 : goal.enum_told-1
-enum_told-1 c = search (forms, rules)
-
 pub returns-in_default : goal.returns-in_default
 returns-in_default c = search (forms, rules)
 

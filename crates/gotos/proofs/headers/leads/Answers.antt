@@ -19,12 +19,6 @@ piece-requires c = search (leads, rules)
 pub leading_test-requires : goal.leading_test-requires
 leading_test-requires c = search (leads, rules)
 
-pub enum_told-1 : goal.enum_told-1
-enum_told-1 c = search (leads, rules)
-
-pub enum_told-in-Nothing : goal.enum_told-in-Nothing
-enum_told-in-Nothing c = search (leads, rules)
-
 pub returns-in-At : goal.returns-in-At
 returns-in-At c = search (leads, rules)
 

@@ -20,4 +20,4 @@ returns-in_default-token_kind c = search (members, steps, rules) depth 12
 
 pub returns : goal.returns
 unfolding token_rest
-returns c = record { result_after = search (members, steps, rules) depth 12; text_unchanged = search (members, steps, rules); within = token_in _ _ _ _ _ _ _ _ _ _ c.in-Ends.is c.string.ensures.text_unchanged.1 c.in-Value.is c.token_kind.ensures }
+returns c = record { result_after = search (members, steps, rules) depth 12; text_unchanged = search (members, steps, rules); within = token_in _ _ _ _ _ _ _ _ _ _ c.in-Ends.is c.string.ensures.within c.in-Value.is c.token_kind.ensures }

@@ -16,10 +16,6 @@ pub enum_known-j : goal.enum_known-j
 unfolding tokens_read
 enum_known-j c = search (tokens, rules)
 
-pub enum_told-1 : goal.enum_told-1
-unfolding tokens_read
-enum_told-1 c = search (tokens, rules)
-
 pub returns-in_default : goal.returns-in_default
 unfolding tokens_read
 returns-in_default c = search (tokens, rules)
@@ -51,10 +47,6 @@ enum_known-l c = search (tokens, rules)
 pub returns-in-Close : goal.returns-in-Close
 unfolding tokens_read
 returns-in-Close c = search (tokens, rules)
-
-pub enum_told-in-NoSep : goal.enum_told-in-NoSep
-unfolding tokens_read
-enum_told-in-NoSep c = search (tokens, rules)
 
 pub returns-in-NoSep : goal.returns-in-NoSep
 unfolding tokens_read

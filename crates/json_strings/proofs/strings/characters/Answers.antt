@@ -42,9 +42,6 @@ character-requires c = search (texts, rules)
 pub enum_known-p : goal.enum_known-p
 enum_known-p c = search (texts, rules)
 
-pub enum_told-1 : goal.enum_told-1
-enum_told-1 c = search (texts, rules)
-
 pub returns-in_default : goal.returns-in_default
 returns-in_default c = search (texts, rules)
 

@@ -10,9 +10,6 @@ lexeme-requires c = search (texts, rules)
 pub enum_known-i : goal.enum_known-i
 enum_known-i c = search (texts, rules)
 
-pub enum_told-1 : goal.enum_told-1
-enum_told-1 c = search (texts, rules)
-
 pub returns-in_default : goal.returns-in_default
 returns-in_default c = search (texts, rules)
 

@@ -10,9 +10,6 @@ assignment-requires c = search (init_lines, rules)
 pub enum_known-from : goal.enum_known-from
 enum_known-from c = search (init_lines, rules)
 
-pub enum_told-1 : goal.enum_told-1
-enum_told-1 c = search (init_lines, rules)
-
 pub returns-in_default : goal.returns-in_default
 returns-in_default c = search (init_lines, rules)
 
@@ -36,12 +33,6 @@ returns-then-rest_names c = search (init_lines, rules)
 
 pub call_at-requires : goal.call_at-requires
 call_at-requires c = search (init_lines, rules)
-
-pub enum_told-in-At : goal.enum_told-in-At
-enum_told-in-At c = search (init_lines, rules)
-
-pub enum_told-in-Nothing : goal.enum_told-in-Nothing
-enum_told-in-Nothing c = search (init_lines, rules)
 
 pub returns-in-At : goal.returns-in-At
 returns-in-At c = search (init_lines, rules)

@@ -20,17 +20,11 @@ bounds-plan-k c = search (init_places, rules)
 pub before_at-requires : goal.before_at-requires
 before_at-requires c = search (init_places, rules)
 
-pub enum_told-1 : goal.enum_told-1
-enum_told-1 c = search (init_places, rules)
-
 pub overflow_sub-result : goal.overflow_sub-result
 overflow_sub-result c = search (init_places, rules)
 
 pub returns-in-Init : goal.returns-in-Init
 returns-in-Init c = search (init_places, rules)
-
-pub enum_told-in-Passing : goal.enum_told-in-Passing
-enum_told-in-Passing c = search (init_places, rules)
 
 pub overflow_sub-k : goal.overflow_sub-k
 overflow_sub-k c = search (init_places, rules)
@@ -43,9 +37,6 @@ loop-left-smaller c = search (init_places, rules)
 
 pub loop-left-preserved : goal.loop-left-preserved
 loop-left-preserved c = search (init_places, rules)
-
-pub enum_told-in-Other : goal.enum_told-in-Other
-enum_told-in-Other c = search (init_places, rules)
 
 pub returns-in-Other : goal.returns-in-Other
 returns-in-Other c = search (init_places, rules)

@@ -26,9 +26,6 @@ first_end-requires c = search (for_answers, rules)
 pub enum_known-e : goal.enum_known-e
 enum_known-e c = search (for_answers, rules)
 
-pub enum_told-1 : goal.enum_told-1
-enum_told-1 c = search (for_answers, rules)
-
 pub returns-in_default : goal.returns-in_default
 returns-in_default c = search (for_answers, rules)
 
@@ -37,9 +34,6 @@ for_place-requires c = let p = c.requires in let i = place_calls _ _ _ _ _ _ p.0
 
 pub enum_known-k : goal.enum_known-k
 enum_known-k c = search (for_answers, rules)
-
-pub enum_told-in_default-for_place : goal.enum_told-in_default-for_place
-enum_told-in_default-for_place c = search (for_answers, rules)
 
 pub returns-in_default-for_place : goal.returns-in_default-for_place
 returns-in_default-for_place c = search (for_answers, rules)

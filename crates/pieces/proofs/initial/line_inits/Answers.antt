@@ -10,9 +10,6 @@ assignment-requires c = search (init_lines, rules)
 pub enum_known-from : goal.enum_known-from
 enum_known-from c = search (init_lines, rules)
 
-pub enum_told-1 : goal.enum_told-1
-enum_told-1 c = search (init_lines, rules)
-
 pub returns-in_default : goal.returns-in_default
 returns-in_default c = search (init_lines, rules)
 

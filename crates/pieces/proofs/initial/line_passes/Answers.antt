@@ -7,12 +7,6 @@ use Rattle.pieces.proofs.initial.line_passes.Goals as goal
 pub assignment-requires : goal.assignment-requires
 assignment-requires c = search (init_lines, rules)
 
-pub enum_told-1 : goal.enum_told-1
-enum_told-1 c = search (init_lines, rules)
-
-pub enum_told-in_default : goal.enum_told-in_default
-enum_told-in_default c = search (init_lines, rules)
-
 pub returns-in_default : goal.returns-in_default
 returns-in_default c = search (init_lines, rules)
 
@@ -30,12 +24,6 @@ returns-then-line_names c = search (init_lines, rules)
 
 pub call_at-requires : goal.call_at-requires
 call_at-requires c = search (init_lines, rules)
-
-pub enum_told-in-At : goal.enum_told-in-At
-enum_told-in-At c = search (init_lines, rules)
-
-pub enum_told-in-Nothing : goal.enum_told-in-Nothing
-enum_told-in-Nothing c = search (init_lines, rules)
 
 pub returns-in-At : goal.returns-in-At
 returns-in-At c = search (init_lines, rules)

@@ -7,9 +7,6 @@ use Rattle.pieces.proofs.leading.first_of.Goals as goal
 pub enum_known-f : goal.enum_known-f
 enum_known-f c = search (firsts, rules)
 
-pub enum_told-1 : goal.enum_told-1
-enum_told-1 c = search (firsts, rules)
-
 pub returns-in_default : goal.returns-in_default
 returns-in_default c = search (firsts, rules)
 

@@ -19,9 +19,6 @@ keyword_at-requires c = search (keeps, rules)
 pub enum_known-g : goal.enum_known-g
 enum_known-g c = search (keeps, rules)
 
-pub enum_told-1 : goal.enum_told-1
-enum_told-1 c = search (keeps, rules)
-
 pub returns-in_default : goal.returns-in_default
 returns-in_default c = search (keeps, rules)
 

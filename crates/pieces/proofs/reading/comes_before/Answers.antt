@@ -7,9 +7,6 @@ use Rattle.pieces.proofs.reading.comes_before.Goals as goal
 pub enum_known-f : goal.enum_known-f
 enum_known-f c = search (cuts, rules)
 
-pub enum_told-1 : goal.enum_told-1
-enum_told-1 c = search (cuts, rules)
-
 pub returns-in-At : goal.returns-in-At
 returns-in-At c = search (cuts, rules)
 

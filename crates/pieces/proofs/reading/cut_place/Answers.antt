@@ -10,9 +10,6 @@ keyword_at-requires c = search (cuts, rules)
 pub enum_known-g : goal.enum_known-g
 enum_known-g c = search (cuts, rules)
 
-pub enum_told-1 : goal.enum_told-1
-enum_told-1 c = search (cuts, rules)
-
 pub token_count-requires : goal.token_count-requires
 token_count-requires c = search (cuts, rules)
 

@@ -11,9 +11,6 @@ keyword_at-requires c = search (conditions, opened, rules)
 pub enum_known-k : goal.enum_known-k
 enum_known-k c = search (conditions, opened, rules)
 
-pub enum_told-1 : goal.enum_told-1
-enum_told-1 c = search (conditions, opened, rules)
-
 pub returns-in_default : goal.returns-in_default
 returns-in_default c = search (conditions, opened, rules)
 

@@ -10,9 +10,6 @@ condition-requires c = search (names_of, rules)
 pub enum_known-k : goal.enum_known-k
 enum_known-k c = search (names_of, rules)
 
-pub enum_told-1 : goal.enum_told-1
-enum_told-1 c = search (names_of, rules)
-
 pub returns-in_default : goal.returns-in_default
 returns-in_default c = search (names_of, rules)
 

@@ -10,9 +10,6 @@ condition-requires c = search (same_conditions, rules)
 pub enum_known-j : goal.enum_known-j
 enum_known-j c = search (same_conditions, rules)
 
-pub enum_told-1 : goal.enum_told-1
-enum_told-1 c = search (same_conditions, rules)
-
 pub returns-in_default : goal.returns-in_default
 returns-in_default c = search (same_conditions, rules)
 
@@ -21,9 +18,6 @@ condition-requires-2 c = search (same_conditions, rules)
 
 pub enum_known-k : goal.enum_known-k
 enum_known-k c = search (same_conditions, rules)
-
-pub enum_told-in_default-condition : goal.enum_told-in_default-condition
-enum_told-in_default-condition c = search (same_conditions, rules)
 
 pub returns-in_default-condition : goal.returns-in_default-condition
 returns-in_default-condition c = search (same_conditions, rules)

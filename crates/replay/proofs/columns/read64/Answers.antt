@@ -9,9 +9,6 @@ number-requires c = search (onward, rules)
 pub enum_known-n : goal.enum_known-n
 enum_known-n c = search (onward, rules)
 
-pub enum_told-1 : goal.enum_told-1
-enum_told-1 c = search (onward, rules)
-
 pub returns-in_default : goal.returns-in_default
 returns-in_default c = search (onward, rules)
 
@@ -35,9 +32,6 @@ loop-i-smaller c = search (onward, rules)
 
 pub loop-i-preserved : goal.loop-i-preserved
 loop-i-preserved c = search (onward, rules)
-
-pub enum_told-in-Bad : goal.enum_told-in-Bad
-enum_told-in-Bad c = search (onward, rules)
 
 pub returns-in-Bad : goal.returns-in-Bad
 returns-in-Bad c = search (onward, rules)

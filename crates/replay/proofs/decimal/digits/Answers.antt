@@ -24,14 +24,8 @@ loop-i-smaller c = search (number_rules, rules)
 pub loop-i-preserved : goal.loop-i-preserved
 loop-i-preserved c = search (number_rules, rules)
 
-pub enum_told-1 : goal.enum_told-1
-enum_told-1 c = search (number_rules, rules)
-
 pub returns-in-Over : goal.returns-in-Over
 returns-in-Over c = search (number_rules, rules)
-
-pub enum_told-in-Beyond : goal.enum_told-in-Beyond
-enum_told-in-Beyond c = search (number_rules, rules)
 
 pub returns-in-Beyond : goal.returns-in-Beyond
 returns-in-Beyond c = search (number_rules, rules)

@@ -48,14 +48,14 @@ loop-i-preserved c = let a = c.args in
     let n = length_tokens a.tokens.now a.text.now in
     let T = tallied_next a.starts.now l.i l.counts l.invariant.6 _ (omega arith) _ (omega (arith, p.1.1.0 l.i c.loop-i-test.true, p.1.1.1, l.invariant.3)) c.count_before.ensures in (
       c.write_line.auto.memo ∙ l.invariant.0,
-      c.write_line.ensures.marks_after.1,
+      c.write_line.ensures.memo,
       omega (arith, c.loop-i-test.true),
       c.count_before.auto.counts ∙ l.invariant.3,
       c.write_line.auto.numbers ∙ l.invariant.4,
       c.write_line.auto.marks ∙ l.invariant.5,
       T,
       written_next a.lines.now a.tokens.now p.1.0.0 (number_at fs a.starts.now) us a.numbers.now l.i l.numbers l.invariant.7 c.loop-i-test.true n _ (c.write_line.ensures.numbers_after ∙ ap (λ f. over (line_start a.lines.now l.i) (line_end a.lines.now a.tokens.now l.i) f us l.numbers) (number_tallied fs a.starts.now l.i _ T)),
-      written_next a.lines.now a.tokens.now p.1.0.0 (mark_at fs a.starts.now) us a.marks.now l.i l.marks l.invariant.8 c.loop-i-test.true n _ (c.write_line.ensures.marks_after.0 ∙ ap (λ d. over (line_start a.lines.now l.i) (line_end a.lines.now a.tokens.now l.i) (token_mark fs d) us l.marks) c.number-d.ensures),
+      written_next a.lines.now a.tokens.now p.1.0.0 (mark_at fs a.starts.now) us a.marks.now l.i l.marks l.invariant.8 c.loop-i-test.true n _ (c.write_line.ensures.marks_after ∙ ap (λ d. over (line_start a.lines.now l.i) (line_end a.lines.now a.tokens.now l.i) (token_mark fs d) us l.marks) c.number-d.ensures),
     )
 
 pub returns : goal.returns

@@ -24,7 +24,7 @@ returns-then-k-to c = let a = c.args in
     let w = c.write_known-k in
     let fs = defined_families (listing a.lines.now a.tokens.now a.text.now) in
     let us = token_list a.tokens.now a.text.now in
-    let n : w.result + 1 ≤ length us = omega (arith, length_tokens a.tokens.now a.text.now, p.1.1, c.if-k-to.true) in record { lower_bound = omega (arith, w.ensures.0.0); numbers_after = omega (arith, c.if-k-to.true); marks_after = over_join no_token (token_number fs (λ p. get_or a.counts.now p 0)) a.from us a.numbers.now w.result _ w.ensures.1.0 w.ensures.0.0 (w.result + 1) _ (omega arith) n (omega (arith, n, length_tokens a.tokens.now a.text.now, p.1.2, p.1.3)) c.write_part.ensures.numbers_after; memo = (over_join no_token (token_mark fs a.d) a.from us a.marks.now w.result _ w.ensures.1.1 w.ensures.0.0 (w.result + 1) _ (omega arith) n (omega (arith, n, length_tokens a.tokens.now a.text.now, p.1.2, p.1.3)) c.write_part.ensures.marks_after.0, c.write_part.ensures.marks_after.1) }
+    let n : w.result + 1 ≤ length us = omega (arith, length_tokens a.tokens.now a.text.now, p.1.1, c.if-k-to.true) in record { lower_bound = omega (arith, w.ensures.0.0); numbers_after = omega (arith, c.if-k-to.true); marks_after = over_join no_token (token_number fs (λ p. get_or a.counts.now p 0)) a.from us a.numbers.now w.result _ w.ensures.1.0 w.ensures.0.0 (w.result + 1) _ (omega arith) n (omega (arith, n, length_tokens a.tokens.now a.text.now, p.1.2, p.1.3)) c.write_part.ensures.numbers_after; memo = (over_join no_token (token_mark fs a.d) a.from us a.marks.now w.result _ w.ensures.1.1 w.ensures.0.0 (w.result + 1) _ (omega arith) n (omega (arith, n, length_tokens a.tokens.now a.text.now, p.1.2, p.1.3)) c.write_part.ensures.marks_after, c.write_part.ensures.memo) }
 
 pub returns : goal.returns
 returns c = let p = c.requires in
