@@ -118,10 +118,13 @@ module _ {A : Type 0} (f : ℕ → A) (h : A → A) where
   changed_at : (p a n : ℕ) → take p (map f (range a n)) ++ on_first h (drop p (map f (range a n))) ≡ map (changed (a + p)) (range a n)
   unfolding range on_first
   changed_at p a zero = rw (take-nil {A = A} p, drop-nil {A = A} p)
-  changed_at zero a (suc n) = rw (add-zero a, eq-eqb a a refl) (ap (λ (xs : List A). h (f a) ∷ xs) (unchanged a (suc a) n (omega arith)))
+  changed_at zero a (suc n) =
+      let here : h (f a) ∷ map f (range (suc a) n) ≡ map (changed a) (range a (suc n)) = rw (eq-eqb a a refl) (ap (λ (xs : List A). h (f a) ∷ xs) (unchanged a (suc a) n (omega arith))) in
+      here ∙ ap (λ (k : ℕ). map (changed k) (range a (suc n))) (sym (add-zero a))
   changed_at (suc p) a (suc n) =
       let z : a + suc p ≡ suc a + p = omega arith in
-      rw (z, ne_eqb a (suc a + p) (λ e. omega arith)) (ap (λ (xs : List A). f a ∷ xs) (changed_at p (suc a) n))
+      let there : f a ∷ (take p (map f (range (suc a) n)) ++ on_first h (drop p (map f (range (suc a) n)))) ≡ map (changed (suc a + p)) (range a (suc n)) = rw (ne_eqb a (suc a + p) (λ e. omega arith)) (ap (λ (xs : List A). f a ∷ xs) (changed_at p (suc a) n)) in
+      there ∙ ap (λ (k : ℕ). map (changed k) (range a (suc n))) (sym z)
 
   pub one_changed : (p n : ℕ) → on_part p (p + 1) h (map f (range 0 n)) ≡ map (changed p) (range 0 n)
   one_changed p n = on_part_one h p (map f (range 0 n)) ∙ changed_at p 0 n ∙ ap (λ (k : ℕ). map (changed k) (range 0 n)) (zero-add p)
