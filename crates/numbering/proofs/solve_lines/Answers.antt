@@ -7,7 +7,7 @@ pub returns-in_default : goal.returns-in_default
 returns-in_default c = solved_over _ _ _ _ _ _ _ _ c.solve.ensures c.in_default.is _ _ _ _
 
 pub line_numbers-requires : goal.line_numbers-requires
-line_numbers-requires c = record { swept = solved_swept _ _ _ _ _ _ _ _ c.solve.ensures _ c.in-Done.is c.requires.room.0 c.requires.room.1 c.requires.room.2 c.solve.auto.space; sized = c.requires.room.3; own_len = (c.requires.sized, c.requires.own_len) }
+line_numbers-requires c = record { swept = (solved_swept _ _ _ _ _ _ _ _ c.solve.ensures _ c.in-Done.is c.requires.room.0 c.requires.room.1 c.requires.room.2 c.solve.auto.space, c.requires.room.3); sized = c.requires.sized; own_len = c.requires.own_len }
 
 pub returns : goal.returns
 returns c = solved_done _ _ _ _ _ _ _ _ c.solve.ensures _ c.in-Done.is c.requires.room.0.wide _ _ _ _ c.line_numbers.ensures

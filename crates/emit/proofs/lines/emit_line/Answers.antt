@@ -4,7 +4,7 @@ use Rattle.emit.proofs.Planned.{line_ended}
 use Rattle.emit.proofs.lines.emit_line.Goals as goal
 
 pub add_planned-d-requires : goal.add_planned-d-requires
-add_planned-d-requires c = let p = c.requires in record { w_value = p.0.0; text_value = p.1 }
+add_planned-d-requires c = let p = c.requires in record { w_value = p.w_value.0; text_value = p.text_value }
 
 pub returns : goal.returns
-returns c = let p = c.requires in line_ended _ _ _ _ _ p.0.1 _ _ _ _ _ _ _ _ c.add_planned-d.ensures _ _ _ c.source.ensures c.indent.ensures.0 c.address_of-a.ensures _ _ _ c.end_line.ensures
+returns c = let p = c.requires in line_ended _ _ _ _ _ p.w_value.1 _ _ _ _ _ _ _ _ c.add_planned-d.ensures _ _ _ c.source.ensures c.indent.ensures.0 c.address_of-a.ensures _ _ _ c.end_line.ensures

@@ -7,7 +7,7 @@ use Rattle.flow.proofs.graph.flow_graph_in.Goals as goal
 
 pub label_graph-requires : goal.label_graph-requires
 label_graph-requires c = let p = c.requires in
-    let K = c.blocks-2 in record { fact = (omega (arith, K.auto.ends, p.0.0), omega (arith, K.auto.parents, p.0.1), p.0.3, p.0.4, p.0.5); fact_2 = (p.1.0, rw c.if-blocks.true at K.ensures); by_index = p.1.1.0; matrices = p.1.1.1 }
+    let K = c.blocks-2 in record { fact = (omega (arith, K.auto.ends, p.fact.0), omega (arith, K.auto.parents, p.fact.1), p.fact.3, p.fact.4, p.fact.5); fact_2 = (p.masks, rw c.if-blocks.true at K.ensures); by_index = p.by_index; matrices = p.matrices }
 
 pub returns-else-blocks : goal.returns-else-blocks
 returns-else-blocks c = let a = c.args in

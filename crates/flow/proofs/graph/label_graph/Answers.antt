@@ -13,14 +13,14 @@ use Rattle.flow.proofs.graph.label_graph.Goals as goal
 pub draw-requires : goal.draw-requires
 draw-requires c = let a = c.args in
     let p = c.requires in
-    let I = c.index in record { matrices = matrices_kept (length a.lines.now) a.r a.space.now _ p.1.1.1 c.no_edges.auto.space; read = record {
-        masks = p.1.0.0;
-        ends_room = p.0.0;
-        parents_room = p.0.1;
-        heads_room = omega (arith, I.auto.heads, p.0.2);
-        nexts_room = omega (arith, I.auto.nexts, p.0.3);
-        ends = p.1.0.1.ends refl;
-        parents = p.1.0.1.parents refl;
+    let I = c.index in record { matrices = matrices_kept (length a.lines.now) a.r a.space.now _ p.matrices c.no_edges.auto.space; read = record {
+        masks = p.fact_2.0;
+        ends_room = p.fact.0;
+        parents_room = p.fact.1;
+        heads_room = omega (arith, I.auto.heads, p.fact.2);
+        nexts_room = omega (arith, I.auto.nexts, p.fact.3);
+        ends = p.fact_2.1.ends refl;
+        parents = p.fact_2.1.parents refl;
         labels = I.ensures;
       } }
 

@@ -5,7 +5,7 @@ use Prim.Native.Nat.{◌-◌}
 use Rattle.goto_turns.proofs.turns.run.Goals as goal
 
 pub start-requires : goal.start-requires
-start-requires c = let p = c.requires in (p.0.1, p.0.0)
+start-requires c = let p = c.requires in (p.lines_len_bound.1, p.lines_len_bound.0)
 
 pub loop-h-init : goal.loop-h-init
 loop-h-init c = running_start _ _ _ _ c.requires.lines_len_bound.0 c.start.ensures
@@ -14,7 +14,7 @@ pub overflow_add-h : goal.overflow_add-h
 overflow_add-h c = omega (arith, c.loop-h.invariant.upto)
 
 pub goto_turn-requires : goal.goto_turn-requires
-goto_turn-requires c = let r = c.loop-h.invariant in let p = c.requires in record { h_lt_n = (omega (arith, c.loop-h-test.true), omega (arith, r.fewer, p.0.0), omega (arith, r.size, r.fewer, p.0.1, c.start.auto.plan), p.0.2); ahead = r.ahead; marked = p.1 }
+goto_turn-requires c = let r = c.loop-h.invariant in let p = c.requires in record { h_lt_n = (omega (arith, c.loop-h-test.true), omega (arith, r.fewer, p.lines_len_bound.0), omega (arith, r.size, r.fewer, p.lines_len_bound.1, c.start.auto.plan), p.lines_len_bound.2); ahead = r.ahead; marked = p.marked }
 
 pub returns-in-Beyond : goal.returns-in-Beyond
 returns-in-Beyond c = record { result_after = running_overflows _ _ _ _ _ _ _ c.loop-h.invariant (omega (arith, c.requires.lines_len_bound.1, c.start.auto.plan)) c.loop-h-test.true _ _ c.goto_turn.ensures c.in-Beyond.is; emitted = tt }

@@ -1,4 +1,5 @@
 -- `line_steps::steps::block_steps` meets its contract. Assumes nothing.
+use mathlib.Core.List.{[]}
 use mathlib.Core.List.{◌∷◌, ◌++◌}
 use mathlib.Core.Path.{◌∙◌}
 use native.Mathlib.Omega.{arith}

@@ -1,4 +1,5 @@
 -- `line_steps::steps::case_step` meets its contract. Assumes nothing.
+use mathlib.Core.List.{[]}
 use mathlib.Core.List.{◌∷◌}
 use lib.ListN.{length}
 use Rattle.definitions.specs.FlowGraph.{is_case}

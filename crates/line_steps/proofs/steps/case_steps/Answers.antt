@@ -1,3 +1,4 @@
+use mathlib.Core.List.{[]}
 use Rattle.std.specs.Prelude.{if◌then◌else◌}
 use Prim.Native.Nat.{◌+◌, ◌-◌}
 use mathlib.Core.List.{◌∷◌}

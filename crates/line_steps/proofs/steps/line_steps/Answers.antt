@@ -23,7 +23,7 @@ loops_back-requires c = let a = c.args in
 pub returns-then-jumps : goal.returns-then-jumps
 returns-then-jumps c = let a = c.args in
     let L = listing a.lines.now a.tokens.now a.text.now in
-    let J = c.jumps.ensures in record { value = sym c.if-jumps.true ∙ J.0; fact = λ z. line_drawn (length a.lines.now) a.r a.i L (blocks_of L) _ _ _ _ _ c.block_steps.ensures (J.1 c.if-jumps.true) c.leaves.ensures c.loops_back.ensures }
+    let J = c.jumps.ensures in record { value = sym c.if-jumps.true ∙ J.value; fact = λ z. line_drawn (length a.lines.now) a.r a.i L (blocks_of L) _ _ _ _ _ c.block_steps.ensures (J.fact_2 c.if-jumps.true) c.leaves.ensures c.loops_back.ensures }
 
 pub returns-else-jumps : goal.returns-else-jumps
 returns-else-jumps c = record { value = sym c.if-jumps.false ∙ c.jumps.ensures.value; fact = λ z. absurd (false≢true z) }

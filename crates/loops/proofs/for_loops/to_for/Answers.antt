@@ -30,7 +30,7 @@ pub returns-in_default : goal.returns-in_default
 returns-in_default c = search (for_answers, rules)
 
 pub for_place-requires : goal.for_place-requires
-for_place-requires c = let p = c.requires in let i = place_calls _ _ _ _ _ _ p.0.0 p.0.1 c.first_end.ensures c.in-At.is in record { w_in_bounds = (i.0, i.1, p.0.2, i.2); masks = p.1.1 }
+for_place-requires c = let p = c.requires in let i = place_calls _ _ _ _ _ _ p.w_lt_n.0 p.w_lt_n.1 c.first_end.ensures c.in-At.is in record { w_in_bounds = (i.0, i.1, p.w_lt_n.2, i.2); masks = p.masks }
 
 pub enum_known-k : goal.enum_known-k
 enum_known-k c = search (for_answers, rules)
@@ -45,4 +45,4 @@ pub overflow_sub-result : goal.overflow_sub-result
 overflow_sub-result c = search (for_answers, rules)
 
 pub returns : goal.returns
-returns c = let p = c.requires in for_done _ _ _ _ _ _ p.0.0 p.0.1 p.1.0.0 p.1.0.1 c.if-w-eq0.false _ c.indent.ensures.0 _ c.first_end.ensures _ c.in-At.is _ c.for_place.ensures _ c.in-At-for_place.is _ c.make_for.ensures
+returns c = let p = c.requires in for_done _ _ _ _ _ _ p.w_lt_n.0 p.w_lt_n.1 p.w_value.0 p.w_value.1 c.if-w-eq0.false _ c.indent.ensures.0 _ c.first_end.ensures _ c.in-At.is _ c.for_place.ensures _ c.in-At-for_place.is _ c.make_for.ensures

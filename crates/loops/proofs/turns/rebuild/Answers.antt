@@ -6,13 +6,13 @@ use mathlib.Core.Path.{◌∙◌}
 use Rattle.loops.proofs.turns.rebuild.Goals as goal
 
 pub unwrap-requires : goal.unwrap-requires
-unwrap-requires c = let p = c.requires in (p.0.0, omega (arith, p.0.1), p.0.2, ready_header _ _ _ (omega (arith, p.0.0, p.0.1)) p.0.2 p.1.0)
+unwrap-requires c = let p = c.requires in (p.i_bound.0, omega (arith, p.i_bound.1), p.i_bound.2, ready_header _ _ _ (omega (arith, p.i_bound.0, p.i_bound.1)) p.i_bound.2 p.ready)
 
 pub to_for-m-requires : goal.to_for-m-requires
-to_for-m-requires c = let p = c.requires in record { w_lt_n = (omega (arith, p.0.0, p.0.1), omega (arith, p.0.2, c.unwrap.auto.plan), p.0.3); w_value = rebuild_calls _ _ _ _ p.0.0 p.0.1 p.0.2 p.1.0 _ c.unwrap.ensures.value _ c.if-unwrap.true c.unwrap.ensures.plan_after; masks = p.1.1 }
+to_for-m-requires c = let p = c.requires in record { w_lt_n = (omega (arith, p.i_bound.0, p.i_bound.1), omega (arith, p.i_bound.2, c.unwrap.auto.plan), p.i_bound.3); w_value = rebuild_calls _ _ _ _ p.i_bound.0 p.i_bound.1 p.i_bound.2 p.ready _ c.unwrap.ensures.value _ c.if-unwrap.true c.unwrap.ensures.plan_after; masks = p.masks }
 
 pub returns-then-unwrap : goal.returns-then-unwrap
-returns-then-unwrap c = let p = c.requires in rebuilt_go _ _ _ _ p.0.0 p.0.1 p.0.2 p.1.0 _ c.unwrap.ensures.value _ c.if-unwrap.true c.unwrap.ensures.plan_after _ _ _ _ _ c.to_for-m.ensures
+returns-then-unwrap c = let p = c.requires in rebuilt_go _ _ _ _ p.i_bound.0 p.i_bound.1 p.i_bound.2 p.ready _ c.unwrap.ensures.value _ c.if-unwrap.true c.unwrap.ensures.plan_after _ _ _ _ _ c.to_for-m.ensures
 
 pub returns-else-unwrap : goal.returns-else-unwrap
-returns-else-unwrap c = let p = c.requires in rebuilt_beyond _ _ _ _ p.0.0 p.0.1 p.0.2 p.1.0 _ c.unwrap.ensures.value c.if-unwrap.false _ _ _ _
+returns-else-unwrap c = let p = c.requires in rebuilt_beyond _ _ _ _ p.i_bound.0 p.i_bound.1 p.i_bound.2 p.ready _ c.unwrap.ensures.value c.if-unwrap.false _ _ _ _

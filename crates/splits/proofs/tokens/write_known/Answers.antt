@@ -27,7 +27,7 @@ pub known_place-c-requires : goal.known_place-c-requires
 known_place-c-requires c = c.requires.memo
 
 pub returns-then-c-eq65535 : goal.returns-then-c-eq65535
-returns-then-c-eq65535 c = let l = c.loop-k in record { lower_bound = l.invariant.2; numbers_after = l.invariant.3; marks_after = (l.invariant.4, l.invariant.5) }
+returns-then-c-eq65535 c = let l = c.loop-k in record { lower_bound = (l.invariant.2, l.invariant.3); numbers_after = l.invariant.4; marks_after = l.invariant.5 }
 
 pub loop-k-preserved : goal.loop-k-preserved
 loop-k-preserved c = let a = c.args in
@@ -35,15 +35,15 @@ loop-k-preserved c = let a = c.args in
     let l = c.loop-k in
     let fs = defined_families (listing a.lines.now a.tokens.now a.text.now) in
     let us = token_list a.tokens.now a.text.now in
-    let n : a.to ≤ length us = omega (arith, length_tokens a.tokens.now a.text.now, p.1.1) in
+    let n : a.to ≤ length us = omega (arith, length_tokens a.tokens.now a.text.now, p.from_le_to.1) in
     let e = c.known_place-c.ensures c.if-c-eq65535.false in (
       simp length-set l.invariant.0,
       simp length-set l.invariant.1,
       omega (arith, l.invariant.2),
       omega (arith, c.loop-k-test.true),
-      over_next no_token (token_number fs (λ p. get_or a.counts.now p 0)) a.from us a.numbers.now l.k l.numbers l.invariant.4 l.invariant.2 a.to _ c.loop-k-test.true n (omega (arith, p.1.1, p.1.2)) (number_by fs (get_or us l.k no_token) _ e _ _ c.number_of-v.ensures),
-      over_next no_token (token_mark fs a.d) a.from us a.marks.now l.k l.marks l.invariant.5 l.invariant.2 a.to _ c.loop-k-test.true n (omega (arith, p.1.1, p.1.3)) (mark_by fs (get_or us l.k no_token) _ e _ _ c.mark_of-m.ensures),
+      over_next no_token (token_number fs (λ p. get_or a.counts.now p 0)) a.from us a.numbers.now l.k l.numbers l.invariant.4 l.invariant.2 a.to _ c.loop-k-test.true n (omega (arith, p.from_le_to.1, p.from_le_to.2)) (number_by fs (get_or us l.k no_token) _ e _ _ c.number_of-v.ensures),
+      over_next no_token (token_mark fs a.d) a.from us a.marks.now l.k l.marks l.invariant.5 l.invariant.2 a.to _ c.loop-k-test.true n (omega (arith, p.from_le_to.1, p.from_le_to.3)) (mark_by fs (get_or us l.k no_token) _ e _ _ c.mark_of-m.ensures),
     )
 
 pub returns : goal.returns
-returns c = let l = c.loop-k in record { lower_bound = l.invariant.2; numbers_after = l.invariant.3; marks_after = (l.invariant.4, l.invariant.5) }
+returns c = let l = c.loop-k in record { lower_bound = (l.invariant.2, l.invariant.3); numbers_after = l.invariant.4; marks_after = l.invariant.5 }

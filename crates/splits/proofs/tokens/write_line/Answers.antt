@@ -18,11 +18,11 @@ loop-k-init c = let a = c.args in
     let fs = defined_families (listing a.lines.now a.tokens.now a.text.now) in
     let us = token_list a.tokens.now a.text.now in (
       omega arith,
-      line_order_by a.lines.now a.tokens.now a.i _ _ s.ensures e.ensures p.1.0 p.1.1,
+      line_order_by a.lines.now a.tokens.now a.i _ _ s.ensures e.ensures p.tokens_value.0 p.tokens_value.1,
       refl,
       refl,
       refl,
-      p.0.1,
+      p.finds.1,
       over_start no_token (token_number fs (λ p. get_or a.counts.now p 0)) s.result us a.numbers.now,
       over_start no_token (token_mark fs a.d) s.result us a.marks.now,
     )
@@ -31,7 +31,7 @@ pub write_some-k-requires : goal.write_some-k-requires
 write_some-k-requires c = let a = c.args in
     let p = c.requires in
     let l = c.loop-k in
-    let e = c.line_end-e in record { finds = (p.0.0, l.invariant.5, omega (arith, p.0.2, l.invariant.2)); from_lt_to = (c.loop-k-test.true, omega (arith, e.ensures), l.invariant.3 ∙ p.1.2, l.invariant.4 ∙ p.1.3, p.1.4) }
+    let e = c.line_end-e in record { finds = (p.finds.0, l.invariant.5, omega (arith, p.finds.2, l.invariant.2)); from_lt_to = (c.loop-k-test.true, omega (arith, e.ensures), l.invariant.3 ∙ p.tokens_value.2, l.invariant.4 ∙ p.tokens_value.3, p.tokens_value.4) }
 
 pub loop-k-smaller : goal.loop-k-smaller
 loop-k-smaller c = omega (arith, c.write_some-k.ensures.lower_bound.0, c.loop-k-test.true)
@@ -52,8 +52,8 @@ loop-k-preserved c = let a = c.args in
       w.auto.numbers ∙ l.invariant.3,
       w.auto.marks ∙ l.invariant.4,
       w.ensures.1.1.1,
-      over_join no_token (token_number fs (λ p. get_or a.counts.now p 0)) s.result us a.numbers.now l.k l.numbers l.invariant.6 l.invariant.0 w.result _ (omega (arith, w.ensures.0.0)) n (omega (arith, n, length_tokens a.tokens.now a.text.now, p.1.2, p.1.3)) w.ensures.1.0,
-      over_join no_token (token_mark fs a.d) s.result us a.marks.now l.k l.marks l.invariant.7 l.invariant.0 w.result _ (omega (arith, w.ensures.0.0)) n (omega (arith, n, length_tokens a.tokens.now a.text.now, p.1.2, p.1.3)) w.ensures.1.1.0,
+      over_join no_token (token_number fs (λ p. get_or a.counts.now p 0)) s.result us a.numbers.now l.k l.numbers l.invariant.6 l.invariant.0 w.result _ (omega (arith, w.ensures.0.0)) n (omega (arith, n, length_tokens a.tokens.now a.text.now, p.tokens_value.2, p.tokens_value.3)) w.ensures.1.0,
+      over_join no_token (token_mark fs a.d) s.result us a.marks.now l.k l.marks l.invariant.7 l.invariant.0 w.result _ (omega (arith, w.ensures.0.0)) n (omega (arith, n, length_tokens a.tokens.now a.text.now, p.tokens_value.2, p.tokens_value.3)) w.ensures.1.1.0,
     )
 
 pub returns : goal.returns

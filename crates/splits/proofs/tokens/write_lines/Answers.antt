@@ -17,27 +17,27 @@ loop-i-init c = let a = c.args in
     let fs = defined_families (listing a.lines.now a.tokens.now a.text.now) in
     let us = token_list a.tokens.now a.text.now in (
       refl,
-      p.0.1,
+      p.finds.1,
       search rules,
       refl,
       refl,
       refl,
-      tallied_start a.starts.now a.counts.now p.1.1.2,
-      written_start a.lines.now a.tokens.now p.1.0.0 (number_at fs a.starts.now) us a.numbers.now,
-      written_start a.lines.now a.tokens.now p.1.0.0 (mark_at fs a.starts.now) us a.marks.now,
+      tallied_start a.starts.now a.counts.now p.by_index.2,
+      written_start a.lines.now a.tokens.now p.tokens_value.0 (number_at fs a.starts.now) us a.numbers.now,
+      written_start a.lines.now a.tokens.now p.tokens_value.0 (mark_at fs a.starts.now) us a.marks.now,
     )
 
 pub count_before-requires : goal.count_before-requires
 count_before-requires c = let a = c.args in
     let p = c.requires in
     let l = c.loop-i in (
-      start_low a.starts.now (length a.lines.now) p.1.1.0 _ (omega arith) (length l.counts) (omega (arith, p.1.1.1, l.invariant.3)),
-      tallied_few a.starts.now l.i l.counts l.invariant.6 _ (omega (arith, c.loop-i-test.true, p.1.0.1)),
+      start_low a.starts.now (length a.lines.now) p.by_index.0 _ (omega arith) (length l.counts) (omega (arith, p.by_index.1, l.invariant.3)),
+      tallied_few a.starts.now l.i l.counts l.invariant.6 _ (omega (arith, c.loop-i-test.true, p.tokens_value.1)),
     )
 
 pub write_line-requires : goal.write_line-requires
 write_line-requires c = let p = c.requires in
-    let l = c.loop-i in record { finds = (p.0.0, l.invariant.1, omega (arith, p.0.2, l.invariant.0)); tokens_value = (p.1.0.0, c.loop-i-test.true, l.invariant.4 ∙ p.1.0.2, l.invariant.5 ∙ p.1.0.3, omega (arith, p.1.1.0 l.i c.loop-i-test.true, c.number-d.ensures)) }
+    let l = c.loop-i in record { finds = (p.finds.0, l.invariant.1, omega (arith, p.finds.2, l.invariant.0)); tokens_value = (p.tokens_value.0, c.loop-i-test.true, l.invariant.4 ∙ p.tokens_value.2, l.invariant.5 ∙ p.tokens_value.3, omega (arith, p.by_index.0 l.i c.loop-i-test.true, c.number-d.ensures)) }
 
 pub loop-i-preserved : goal.loop-i-preserved
 loop-i-preserved c = let a = c.args in
@@ -46,7 +46,7 @@ loop-i-preserved c = let a = c.args in
     let fs = defined_families (listing a.lines.now a.tokens.now a.text.now) in
     let us = token_list a.tokens.now a.text.now in
     let n = length_tokens a.tokens.now a.text.now in
-    let T = tallied_next a.starts.now l.i l.counts l.invariant.6 _ (omega arith) _ (omega (arith, p.1.1.0 l.i c.loop-i-test.true, p.1.1.1, l.invariant.3)) c.count_before.ensures in (
+    let T = tallied_next a.starts.now l.i l.counts l.invariant.6 _ (omega arith) _ (omega (arith, p.by_index.0 l.i c.loop-i-test.true, p.by_index.1, l.invariant.3)) c.count_before.ensures in (
       c.write_line.auto.memo ∙ l.invariant.0,
       c.write_line.ensures.memo,
       omega (arith, c.loop-i-test.true),
@@ -54,8 +54,8 @@ loop-i-preserved c = let a = c.args in
       c.write_line.auto.numbers ∙ l.invariant.4,
       c.write_line.auto.marks ∙ l.invariant.5,
       T,
-      written_next a.lines.now a.tokens.now p.1.0.0 (number_at fs a.starts.now) us a.numbers.now l.i l.numbers l.invariant.7 c.loop-i-test.true n _ (c.write_line.ensures.numbers_after ∙ ap (λ f. over (line_start a.lines.now l.i) (line_end a.lines.now a.tokens.now l.i) f us l.numbers) (number_tallied fs a.starts.now l.i _ T)),
-      written_next a.lines.now a.tokens.now p.1.0.0 (mark_at fs a.starts.now) us a.marks.now l.i l.marks l.invariant.8 c.loop-i-test.true n _ (c.write_line.ensures.marks_after ∙ ap (λ d. over (line_start a.lines.now l.i) (line_end a.lines.now a.tokens.now l.i) (token_mark fs d) us l.marks) c.number-d.ensures),
+      written_next a.lines.now a.tokens.now p.tokens_value.0 (number_at fs a.starts.now) us a.numbers.now l.i l.numbers l.invariant.7 c.loop-i-test.true n _ (c.write_line.ensures.numbers_after ∙ ap (λ f. over (line_start a.lines.now l.i) (line_end a.lines.now a.tokens.now l.i) f us l.numbers) (number_tallied fs a.starts.now l.i _ T)),
+      written_next a.lines.now a.tokens.now p.tokens_value.0 (mark_at fs a.starts.now) us a.marks.now l.i l.marks l.invariant.8 c.loop-i-test.true n _ (c.write_line.ensures.marks_after ∙ ap (λ d. over (line_start a.lines.now l.i) (line_end a.lines.now a.tokens.now l.i) (token_mark fs d) us l.marks) c.number-d.ensures),
     )
 
 pub returns : goal.returns
@@ -63,4 +63,4 @@ returns c = let a = c.args in
     let p = c.requires in
     let l = c.loop-i in
     let fs = defined_families (listing a.lines.now a.tokens.now a.text.now) in
-    let us = token_list a.tokens.now a.text.now in record { numbers_after = written_end a.lines.now a.tokens.now p.1.0.0 (number_at fs a.starts.now) us a.numbers.now l.i l.numbers l.invariant.7 l.invariant.2 c.loop-i-test.false p.1.0.2; marks_after = written_end a.lines.now a.tokens.now p.1.0.0 (mark_at fs a.starts.now) us a.marks.now l.i l.marks l.invariant.8 l.invariant.2 c.loop-i-test.false p.1.0.3 }
+    let us = token_list a.tokens.now a.text.now in record { numbers_after = written_end a.lines.now a.tokens.now p.tokens_value.0 (number_at fs a.starts.now) us a.numbers.now l.i l.numbers l.invariant.7 l.invariant.2 c.loop-i-test.false p.tokens_value.2; marks_after = written_end a.lines.now a.tokens.now p.tokens_value.0 (mark_at fs a.starts.now) us a.marks.now l.i l.marks l.invariant.8 l.invariant.2 c.loop-i-test.false p.tokens_value.3 }

@@ -27,7 +27,7 @@ loop-k-init c = let a = c.args in
 
 pub token_place-c-requires : goal.token_place-c-requires
 token_place-c-requires c = let p = c.requires in
-    let l = c.loop-k in record { finds = p.0.0; memo = (l.invariant.1, omega (arith, p.0.2, l.invariant.0)) }
+    let l = c.loop-k in record { finds = p.finds.0; memo = (l.invariant.1, omega (arith, p.finds.2, l.invariant.0)) }
 
 pub number_of-v-requires : goal.number_of-v-requires
 number_of-v-requires c = search (writes, rules)
@@ -56,15 +56,15 @@ loop-k-preserved c = let a = c.args in
     let l = c.loop-k in
     let fs = defined_families (listing a.lines.now a.tokens.now a.text.now) in
     let us = token_list a.tokens.now a.text.now in
-    let n : a.to ≤ length us = omega (arith, length_tokens a.tokens.now a.text.now, p.1.1) in (
+    let n : a.to ≤ length us = omega (arith, length_tokens a.tokens.now a.text.now, p.from_le_to.1) in (
       c.token_place-c.auto.memo ∙ l.invariant.0,
       c.token_place-c.ensures.memo_2,
       simp length-set l.invariant.2,
       simp length-set l.invariant.3,
       omega (arith, l.invariant.4),
       omega (arith, c.loop-k-test.true),
-      over_next no_token (token_number fs (λ p. get_or a.counts.now p 0)) a.from us a.numbers.now l.k l.numbers l.invariant.6 l.invariant.4 a.to _ c.loop-k-test.true n (omega (arith, p.1.1, p.1.2)) (number_by fs (get_or us l.k no_token) _ c.token_place-c.ensures.result_value _ _ c.number_of-v.ensures),
-      over_next no_token (token_mark fs a.d) a.from us a.marks.now l.k l.marks l.invariant.7 l.invariant.4 a.to _ c.loop-k-test.true n (omega (arith, p.1.1, p.1.3)) (mark_by fs (get_or us l.k no_token) _ c.token_place-c.ensures.result_value _ _ c.mark_of-m.ensures),
+      over_next no_token (token_number fs (λ p. get_or a.counts.now p 0)) a.from us a.numbers.now l.k l.numbers l.invariant.6 l.invariant.4 a.to _ c.loop-k-test.true n (omega (arith, p.from_le_to.1, p.from_le_to.2)) (number_by fs (get_or us l.k no_token) _ c.token_place-c.ensures.result_value _ _ c.number_of-v.ensures),
+      over_next no_token (token_mark fs a.d) a.from us a.marks.now l.k l.marks l.invariant.7 l.invariant.4 a.to _ c.loop-k-test.true n (omega (arith, p.from_le_to.1, p.from_le_to.3)) (mark_by fs (get_or us l.k no_token) _ c.token_place-c.ensures.result_value _ _ c.mark_of-m.ensures),
     )
 
 pub returns : goal.returns

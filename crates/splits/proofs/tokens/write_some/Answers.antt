@@ -12,11 +12,11 @@ use Rattle.splits.proofs.WriteRules.{over_join}
 use Rattle.splits.proofs.tokens.write_some.Goals as goal
 
 pub write_known-k-requires : goal.write_known-k-requires
-write_known-k-requires c = let p = c.requires in record { memo = (p.0.1, p.0.2); from_le_to = (omega (arith, p.1.0), p.1.1, p.1.2, p.1.3, p.1.4) }
+write_known-k-requires c = let p = c.requires in record { memo = (p.finds.1, p.finds.2); from_le_to = (omega (arith, p.from_lt_to.0), p.from_lt_to.1, p.from_lt_to.2, p.from_lt_to.3, p.from_lt_to.4) }
 
 pub write_part-requires : goal.write_part-requires
 write_part-requires c = let p = c.requires in
-    let w = c.write_known-k in record { finds = p.0; from_le_to = (omega arith, omega (arith, c.if-k-to.true, p.1.1), w.auto.numbers ∙ p.1.2, w.auto.marks ∙ p.1.3, p.1.4) }
+    let w = c.write_known-k in record { finds = p.finds; from_le_to = (omega arith, omega (arith, c.if-k-to.true, p.from_lt_to.1), w.auto.numbers ∙ p.from_lt_to.2, w.auto.marks ∙ p.from_lt_to.3, p.from_lt_to.4) }
 
 pub returns-then-k-to : goal.returns-then-k-to
 returns-then-k-to c = let a = c.args in
@@ -24,8 +24,8 @@ returns-then-k-to c = let a = c.args in
     let w = c.write_known-k in
     let fs = defined_families (listing a.lines.now a.tokens.now a.text.now) in
     let us = token_list a.tokens.now a.text.now in
-    let n : w.result + 1 ≤ length us = omega (arith, length_tokens a.tokens.now a.text.now, p.1.1, c.if-k-to.true) in record { lower_bound = omega (arith, w.ensures.0.0); numbers_after = omega (arith, c.if-k-to.true); marks_after = over_join no_token (token_number fs (λ p. get_or a.counts.now p 0)) a.from us a.numbers.now w.result _ w.ensures.1.0 w.ensures.0.0 (w.result + 1) _ (omega arith) n (omega (arith, n, length_tokens a.tokens.now a.text.now, p.1.2, p.1.3)) c.write_part.ensures.numbers_after; memo = (over_join no_token (token_mark fs a.d) a.from us a.marks.now w.result _ w.ensures.1.1 w.ensures.0.0 (w.result + 1) _ (omega arith) n (omega (arith, n, length_tokens a.tokens.now a.text.now, p.1.2, p.1.3)) c.write_part.ensures.marks_after, c.write_part.ensures.memo) }
+    let n : w.result + 1 ≤ length us = omega (arith, length_tokens a.tokens.now a.text.now, p.from_lt_to.1, c.if-k-to.true) in record { lower_bound = (omega (arith, w.ensures.0.0), omega (arith, c.if-k-to.true)); numbers_after = over_join no_token (token_number fs (λ p. get_or a.counts.now p 0)) a.from us a.numbers.now w.result _ w.ensures.1.0 w.ensures.0.0 (w.result + 1) _ (omega arith) n (omega (arith, n, length_tokens a.tokens.now a.text.now, p.from_lt_to.2, p.from_lt_to.3)) c.write_part.ensures.numbers_after; marks_after = over_join no_token (token_mark fs a.d) a.from us a.marks.now w.result _ w.ensures.1.1 w.ensures.0.0 (w.result + 1) _ (omega arith) n (omega (arith, n, length_tokens a.tokens.now a.text.now, p.from_lt_to.2, p.from_lt_to.3)) c.write_part.ensures.marks_after; memo = c.write_part.ensures.memo }
 
 pub returns : goal.returns
 returns c = let p = c.requires in
-    let w = c.write_known-k in record { lower_bound = omega (arith, p.1.0, c.if-k-to.false); numbers_after = w.ensures.0.1; marks_after = w.ensures.1.0; memo = (w.ensures.1.1, p.0.1) }
+    let w = c.write_known-k in record { lower_bound = (omega (arith, p.from_lt_to.0, c.if-k-to.false), w.ensures.0.1); numbers_after = w.ensures.1.0; marks_after = w.ensures.1.1; memo = p.finds.1 }
