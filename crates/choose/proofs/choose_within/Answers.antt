@@ -40,4 +40,4 @@ returns-else-number-lt7 c = let a = c.args in
     let ms = R.new.1.1.1.1.0 in
     let ws = R.new.1.1.1.1.1.0 in
     let S = c.split_numbers in
-    chosen_splits (at_most a.most) a.lines.now a.tokens.now a.text.now a.numbers.now a.marks.now a.space.now _ ns ms ws _ _ (late (at_most a.most) a.lines.now a.tokens.now a.text.now a.numbers.now a.marks.now a.space.now _ ns ms ws (equation_of (at_most a.most) few.0 a.lines.now a.tokens.now a.text.now a.numbers.now a.marks.now a.space.now ns ms ws R.result (Refused c.in-Refused.number) (search rules) R.ensures) (search rules)) S.ensures.0 S.ensures.1
+    chosen_splits (at_most a.most) a.lines.now a.tokens.now a.text.now a.numbers.now a.marks.now a.space.now _ ns ms ws _ _ (late (at_most a.most) a.lines.now a.tokens.now a.text.now a.numbers.now a.marks.now a.space.now _ ns ms ws (equation_of (at_most a.most) few.0 a.lines.now a.tokens.now a.text.now a.numbers.now a.marks.now a.space.now ns ms ws R.result (Refused c.in-Refused.number) (search rules) R.ensures) (search rules)) S.ensures.numbers_after S.ensures.marks_after

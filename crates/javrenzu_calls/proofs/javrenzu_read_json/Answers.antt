@@ -11,10 +11,12 @@ pub returns-in-Accepted : goal.returns-in-Accepted
 unfolding refusal_number counts_of
 returns-in-Accepted c = let a = c.args in
     let R = c.read_json in
-    read_crossed (read_call a.json.now (columns a.lines.now a.addresses.now a.tokens.now a.text.now)) R.result (Accepted _ _ _) _ _ _ _ R.ensures (search rules)
+    let w = read_crossed (read_call a.json.now (columns a.lines.now a.addresses.now a.tokens.now a.text.now)) R.result (Accepted _ _ _) _ _ _ _ R.ensures (search rules) in
+    record { value = w.0; nbytes_after = w.1.0; text_after = w.1.1 }
 
 pub returns-in-Refused : goal.returns-in-Refused
 unfolding refusal_number counts_of
 returns-in-Refused c = let a = c.args in
     let R = c.read_json in
-    read_crossed (read_call a.json.now (columns a.lines.now a.addresses.now a.tokens.now a.text.now)) R.result Refused _ _ _ _ R.ensures c.in-Refused.is
+    let w = read_crossed (read_call a.json.now (columns a.lines.now a.addresses.now a.tokens.now a.text.now)) R.result Refused _ _ _ _ R.ensures c.in-Refused.is in
+    record { value = w.0; nbytes_after = w.1.0; text_after = w.1.1 }

@@ -8,9 +8,11 @@ use Rattle.javrenzu_calls.proofs.javrenzu_splits.Goals as goal
 pub returns-in-Written : goal.returns-in-Written
 returns-in-Written c = let a = c.args in
     let R = c.split_call in
-    written_crossed (split_call a.lines.now a.tokens.now a.text.now (lent a.numbers.now a.marks.now)) R.result _ _ R.ensures c.in-Written.is
+    let w = written_crossed (split_call a.lines.now a.tokens.now a.text.now (lent a.numbers.now a.marks.now)) R.result _ _ R.ensures c.in-Written.is in
+    record { value = w.0; marks_after = w.1 }
 
 pub returns-in-Refused : goal.returns-in-Refused
 returns-in-Refused c = let a = c.args in
     let R = c.split_call in
-    unwritten_crossed (split_call a.lines.now a.tokens.now a.text.now (lent a.numbers.now a.marks.now)) R.result _ _ R.ensures _ (search rules)
+    let w = unwritten_crossed (split_call a.lines.now a.tokens.now a.text.now (lent a.numbers.now a.marks.now)) R.result _ _ R.ensures _ (search rules) in
+    record { value = w.0; marks_after = w.1 }

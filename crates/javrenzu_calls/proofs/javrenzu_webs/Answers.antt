@@ -8,9 +8,11 @@ use Rattle.javrenzu_calls.proofs.javrenzu_webs.Goals as goal
 pub returns-in-Accepted : goal.returns-in-Accepted
 returns-in-Accepted c = let a = c.args in
     let R = c.recover in
-    accepted_crossed (web_call a.lines.now a.tokens.now a.text.now (lent a.numbers.now a.marks.now a.space.now)) R.result _ _ _ R.ensures.0 _ (search rules)
+    let w = accepted_crossed (web_call a.lines.now a.tokens.now a.text.now (lent a.numbers.now a.marks.now a.space.now)) R.result _ _ _ R.ensures.space_after _ (search rules) in
+    record { value = w.0; sweeps_after = w.1.0; space_after = w.1.1 }
 
 pub returns-in-Refused : goal.returns-in-Refused
 returns-in-Refused c = let a = c.args in
     let R = c.recover in
-    refused_crossed (web_call a.lines.now a.tokens.now a.text.now (lent a.numbers.now a.marks.now a.space.now)) R.result _ _ _ R.ensures.0 _ (search rules)
+    let w = refused_crossed (web_call a.lines.now a.tokens.now a.text.now (lent a.numbers.now a.marks.now a.space.now)) R.result _ _ _ R.ensures.space_after _ (search rules) in
+    record { value = w.0; sweeps_after = w.1.0; space_after = w.1.1 }

@@ -11,10 +11,12 @@ pub returns-in-Accepted : goal.returns-in-Accepted
 unfolding refusal_number number_of
 returns-in-Accepted c = let a = c.args in
     let R = c.write_json in
-    write_crossed (write_call (columns a.lines.now a.addresses.now a.tokens.now a.text.now) a.json.now) R.result (Accepted _) _ R.ensures (search rules)
+    let w = write_crossed (write_call (columns a.lines.now a.addresses.now a.tokens.now a.text.now) a.json.now) R.result (Accepted _) _ R.ensures (search rules) in
+    record { value = w.0; nbytes_after = w.1.0; json_after = w.1.1 }
 
 pub returns-in-Refused : goal.returns-in-Refused
 unfolding refusal_number number_of
 returns-in-Refused c = let a = c.args in
     let R = c.write_json in
-    write_crossed (write_call (columns a.lines.now a.addresses.now a.tokens.now a.text.now) a.json.now) R.result (Refused _) _ R.ensures (search rules)
+    let w = write_crossed (write_call (columns a.lines.now a.addresses.now a.tokens.now a.text.now) a.json.now) R.result (Refused _) _ R.ensures (search rules) in
+    record { value = w.0; nbytes_after = w.1.0; json_after = w.1.1 }

@@ -9,16 +9,21 @@ pub returns-in-Accepted : goal.returns-in-Accepted
 returns-in-Accepted c = search (pass_accepted, rules)
 
 pub returns-in-TooLarge : goal.returns-in-TooLarge
-returns-in-TooLarge c = pass_refused _ TooLarge 1 c.in-TooLarge.is refl
+returns-in-TooLarge c = let w = pass_refused _ TooLarge 1 c.in-TooLarge.is refl in
+    record { value = w.0; nbytes_after = w.1 }
 
 pub returns-in-Malformed : goal.returns-in-Malformed
-returns-in-Malformed c = pass_refused _ Malformed 2 c.in-Malformed.is refl
+returns-in-Malformed c = let w = pass_refused _ Malformed 2 c.in-Malformed.is refl in
+    record { value = w.0; nbytes_after = w.1 }
 
 pub returns-in-NotUtf8 : goal.returns-in-NotUtf8
-returns-in-NotUtf8 c = pass_refused _ NotUtf8 3 c.in-NotUtf8.is refl
+returns-in-NotUtf8 c = let w = pass_refused _ NotUtf8 3 c.in-NotUtf8.is refl in
+    record { value = w.0; nbytes_after = w.1 }
 
 pub returns-in-NoRoom : goal.returns-in-NoRoom
-returns-in-NoRoom c = pass_refused _ NoRoom 4 c.in-NoRoom.is refl
+returns-in-NoRoom c = let w = pass_refused _ NoRoom 4 c.in-NoRoom.is refl in
+    record { value = w.0; nbytes_after = w.1 }
 
 pub returns-in-Overflow : goal.returns-in-Overflow
-returns-in-Overflow c = pass_refused _ Overflow 6 c.in-Overflow.is refl
+returns-in-Overflow c = let w = pass_refused _ Overflow 6 c.in-Overflow.is refl in
+    record { value = w.0; nbytes_after = w.1 }

@@ -10,7 +10,7 @@ use Rattle.pseudo_ssa.proofs.answered.Goals as goal
 pub returns-then-n-lt2 : goal.returns-then-n-lt2
 returns-then-n-lt2 c = let a = c.args in
     let Z = c.zero in
-    answered_7 a.lines.now a.tokens.now a.text.now a.numbers.now a.marks.now a.space.now a.space.now _ _ _ a.budget refl Z.ensures.0 Z.ensures.1.0 Z.ensures.1.1 (search rules)
+    answered_7 a.lines.now a.tokens.now a.text.now a.numbers.now a.marks.now a.space.now a.space.now _ _ _ a.budget refl Z.ensures.numbers_after Z.ensures.marks_after Z.ensures.space_after (search rules)
 
 pub flow_graph-requires : goal.flow_graph-requires
 flow_graph-requires c = let a = c.args in
@@ -21,7 +21,7 @@ pub numbered-requires : goal.numbered-requires
 numbered-requires c = let a = c.args in
     let F = c.flow_graph in
     let yes = ap flow-refused c.in-Drawn.is in
-    ready a.lines.now a.tokens.now a.text.now a.numbers.now a.marks.now a.space.now F.new.1.1.1.0 _ F.result c.requires F.auto.space (search rules) refl F.ensures.0 yes (F.ensures.1 yes)
+    ready a.lines.now a.tokens.now a.text.now a.numbers.now a.marks.now a.space.now F.new.1.1.1.0 _ F.result c.requires F.auto.space (search rules) refl F.ensures.result_value yes (F.ensures.fact yes)
 
 pub returns-in-Drawn : goal.returns-in-Drawn
 returns-in-Drawn c = let a = c.args in
@@ -32,10 +32,10 @@ pub returns-in-UnmatchedBrace : goal.returns-in-UnmatchedBrace
 returns-in-UnmatchedBrace c = let a = c.args in
     let Z = c.zero-in-UnmatchedBrace in
     let F = c.flow_graph in
-    answered_flow a.lines.now a.tokens.now a.text.now a.numbers.now a.marks.now a.space.now F.new.1.1.1.0 _ _ _ a.budget F.auto.space Z.ensures.0 Z.ensures.1.0 Z.ensures.1.1 F.result 8 (search rules) F.ensures.0 (ap flow-refused c.in-UnmatchedBrace.is)
+    answered_flow a.lines.now a.tokens.now a.text.now a.numbers.now a.marks.now a.space.now F.new.1.1.1.0 _ _ _ a.budget F.auto.space Z.ensures.numbers_after Z.ensures.marks_after Z.ensures.space_after F.result 8 (search rules) F.ensures.result_value (ap flow-refused c.in-UnmatchedBrace.is)
 
 pub returns-in-UnknownLabel : goal.returns-in-UnknownLabel
 returns-in-UnknownLabel c = let a = c.args in
     let Z = c.zero-in-UnknownLabel in
     let F = c.flow_graph in
-    answered_flow a.lines.now a.tokens.now a.text.now a.numbers.now a.marks.now a.space.now F.new.1.1.1.0 _ _ _ a.budget F.auto.space Z.ensures.0 Z.ensures.1.0 Z.ensures.1.1 F.result 9 (search rules) F.ensures.0 (ap flow-refused c.in-UnknownLabel.is)
+    answered_flow a.lines.now a.tokens.now a.text.now a.numbers.now a.marks.now a.space.now F.new.1.1.1.0 _ _ _ a.budget F.auto.space Z.ensures.numbers_after Z.ensures.marks_after Z.ensures.space_after F.result 9 (search rules) F.ensures.result_value (ap flow-refused c.in-UnknownLabel.is)

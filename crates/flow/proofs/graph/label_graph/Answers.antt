@@ -29,9 +29,9 @@ returns-then-draw c = let a = c.args in
     let L = listing a.lines.now a.tokens.now a.text.now in
     let M = c.requires.fact_2.1 in
     let d = c.draw in
-    let y = c.if-draw.true in record { result_value = not_refused L true M.answer refl d.result d.ensures.0 y; fact_3 = λ z. graph_drawn L (length a.lines.now) a.r _ _ _ (length_listing a.lines.now a.tokens.now a.text.now) true M.answer refl d.result d.ensures.0 y c.no_edges.ensures (d.ensures.1 y) }
+    let y = c.if-draw.true in record { result_value = not_refused L true M.answer refl d.result d.ensures.value y; fact_3 = λ z. graph_drawn L (length a.lines.now) a.r _ _ _ (length_listing a.lines.now a.tokens.now a.text.now) true M.answer refl d.result d.ensures.value y c.no_edges.ensures (d.ensures.fact y) }
 
 pub returns-else-draw : goal.returns-else-draw
 returns-else-draw c = let a = c.args in
     let M = c.requires.fact_2.1 in
-    let d = c.draw in record { result_value = refused_label (listing a.lines.now a.tokens.now a.text.now) true M.answer refl d.result d.ensures.0 c.if-draw.false; fact_3 = some_none 9 }
+    let d = c.draw in record { result_value = refused_label (listing a.lines.now a.tokens.now a.text.now) true M.answer refl d.result d.ensures.value c.if-draw.false; fact_3 = some_none 9 }

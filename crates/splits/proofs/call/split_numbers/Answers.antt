@@ -19,4 +19,4 @@ write_all-requires c = let a = c.args in
 pub returns : goal.returns
 returns c = let a = c.args in
     let p = c.requires in
-    let w = c.write_all in record { numbers_after = filled_by _ _ a.numbers.now _ (length a.tokens.now) w.ensures.0 (omega (arith, w.auto.numbers, length-take (length a.tokens.now) a.numbers.now, p.2)) c.zero_words32.ensures; marks_after = filled_by _ _ a.marks.now _ (length a.tokens.now) w.ensures.1 (omega (arith, w.auto.marks, length-take (length a.tokens.now) a.marks.now, p.3)) c.zero_bytes.ensures }
+    let w = c.write_all in record { numbers_after = filled_by _ _ a.numbers.now _ (length a.tokens.now) w.ensures.numbers_after (omega (arith, w.auto.numbers, length-take (length a.tokens.now) a.numbers.now, p.2)) c.zero_words32.ensures; marks_after = filled_by _ _ a.marks.now _ (length a.tokens.now) w.ensures.marks_after (omega (arith, w.auto.marks, length-take (length a.tokens.now) a.marks.now, p.3)) c.zero_bytes.ensures }

@@ -45,15 +45,15 @@ loop-k-preserved c = let a = c.args in
     let w = c.write_some-k in
     let fs = defined_families (listing a.lines.now a.tokens.now a.text.now) in
     let us = token_list a.tokens.now a.text.now in
-    let n : w.result ≤ length us = omega (arith, length_tokens a.tokens.now a.text.now, e.ensures, w.ensures.0.1) in (
-      omega (arith, l.invariant.0, w.ensures.0.0),
-      w.ensures.0.1,
+    let n : w.result ≤ length us = omega (arith, length_tokens a.tokens.now a.text.now, e.ensures, w.ensures.lower_bound.1) in (
+      omega (arith, l.invariant.0, w.ensures.lower_bound.0),
+      w.ensures.lower_bound.1,
       w.auto.memo ∙ l.invariant.2,
       w.auto.numbers ∙ l.invariant.3,
       w.auto.marks ∙ l.invariant.4,
-      w.ensures.1.1.1,
-      over_join no_token (token_number fs (λ p. get_or a.counts.now p 0)) s.result us a.numbers.now l.k l.numbers l.invariant.6 l.invariant.0 w.result _ (omega (arith, w.ensures.0.0)) n (omega (arith, n, length_tokens a.tokens.now a.text.now, p.tokens_value.2, p.tokens_value.3)) w.ensures.1.0,
-      over_join no_token (token_mark fs a.d) s.result us a.marks.now l.k l.marks l.invariant.7 l.invariant.0 w.result _ (omega (arith, w.ensures.0.0)) n (omega (arith, n, length_tokens a.tokens.now a.text.now, p.tokens_value.2, p.tokens_value.3)) w.ensures.1.1.0,
+      w.ensures.memo,
+      over_join no_token (token_number fs (λ p. get_or a.counts.now p 0)) s.result us a.numbers.now l.k l.numbers l.invariant.6 l.invariant.0 w.result _ (omega (arith, w.ensures.lower_bound.0)) n (omega (arith, n, length_tokens a.tokens.now a.text.now, p.tokens_value.2, p.tokens_value.3)) w.ensures.numbers_after,
+      over_join no_token (token_mark fs a.d) s.result us a.marks.now l.k l.marks l.invariant.7 l.invariant.0 w.result _ (omega (arith, w.ensures.lower_bound.0)) n (omega (arith, n, length_tokens a.tokens.now a.text.now, p.tokens_value.2, p.tokens_value.3)) w.ensures.marks_after,
     )
 
 pub returns : goal.returns
