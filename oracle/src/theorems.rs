@@ -11,48 +11,46 @@ use crate::pseudo::PseudoLine;
 
 /// What a file of theorems starts with.
 pub const HEAD: &str = "\
-use mathlib.Core.Path.{_≡_, refl}
-use mathlib.Core.List.{List, [], _∷_}
-use mathlib.Core.Option.{none, some}
-use Rattle·definitions.specs.Lists.{ascii}
-use Rattle·definitions.specs.Model.{Line, tok, pseudo-line}
-use Rattle·definitions.specs.Computed.{answer, loops-call, goto-loops-call, webs-call, splits-call, choose-call, refused, rewritten, by-webs, by-splits}
+use Rattle.std.specs.Prelude.{◌≡◌, refl, List, [], ◌∷◌}
+use Rattle.std.proofs.Math.Option.{none, some}
+use Rattle.definitions.specs.Lists.{ascii}
+use Rattle.definitions.specs.Model.{Line, tok, pseudo_line}
+use Rattle.definitions.specs.Computed.{answer, loops_call, goto_loops_call, webs_call, splits_call, choose_call, refused, rewritten, by_webs, by_splits}
 ";
 
 /// What a file of theorems about JSON starts with.
 pub const JSON_HEAD: &str = "\
-use mathlib.Core.Path.{_≡_, refl}
-use mathlib.Core.List.{List, [], _∷_}
-use mathlib.Core.Option.{none, some}
-use Rattle·definitions.specs.Lists.{ascii}
-use Rattle·definitions.specs.Model.{tok, pseudo-line}
-use Rattle·json_definitions.specs.Rows.{read-computed, write-computed}
+use Rattle.std.specs.Prelude.{◌≡◌, refl, List, [], ◌∷◌}
+use Rattle.std.proofs.Math.Option.{none, some}
+use Rattle.definitions.specs.Lists.{ascii}
+use Rattle.definitions.specs.Model.{tok, pseudo_line}
+use Rattle.json_definitions.specs.Rows.{read_computed, write_computed}
 ";
 
 /// So many damaged copies of each text are read.
 const COPIES: usize = 5;
 
-/// For a text and damaged copies of it the theorems `read-NUMBER-COPY`, what the definition reads of each, and where the text is a listing `write-NUMBER`,
+/// For a text and damaged copies of it the theorems `read_NUMBER_COPY`, what the definition reads of each, and where the text is a listing `write_NUMBER`,
 /// what it writes of it.
 pub fn of_text(number: usize, text: &[u8]) -> String {
     let mut out = String::new();
     for (k, copy) in json::copies(text, COPIES).enumerate() {
         let result = json::read(&copy).map_or("none".to_string(), |lines| format!("some ({})", lines_term(&lines)));
-        let _ = write!(out, "\nread-{number}-{k} : read-computed {} ≡ {result}\nunfolding read-computed\nread-{number}-{k} = refl\n", bytes_term(&copy));
+        let _ = write!(out, "\nread_{number}_{k} : read_computed {} ≡ {result}\nunfolding read_computed\nread_{number}_{k} = refl\n", bytes_term(&copy));
     }
     if let Ok(lines) = json::read(text) {
         let written = bytes_term(&json::write(&lines));
-        let _ = write!(out, "\nwrite-{number} : write-computed ({}) ≡ {written}\nunfolding write-computed\nwrite-{number} = refl\n", lines_term(&lines));
+        let _ = write!(out, "\nwrite_{number} : write_computed ({}) ≡ {written}\nunfolding write_computed\nwrite_{number} = refl\n", lines_term(&lines));
     }
     out
 }
 
-/// The listing under the name `listing-NUMBER`, and for each call the theorem `CALL-NUMBER` that the definitions answer as the original does.
+/// The listing under the name `listing_NUMBER`, and for each call the theorem `CALL_NUMBER` that the definitions answer as the original does.
 pub fn of_listing(number: usize, lines: &[PseudoLine]) -> String {
-    let listing = format!("listing-{number}");
+    let listing = format!("listing_{number}");
     let mut out = format!("\nabbrev {listing} : List Line\n{listing} =\n    {}\n", lines_term(lines));
     for (call, result) in results(&listing, lines) {
-        let _ = write!(out, "\n{call}-{number} : answer {call}-call {listing} ≡ {result}\nunfolding answer\n{call}-{number} = refl\n");
+        let _ = write!(out, "\n{call}_{number} : answer {call}_call {listing} ≡ {result}\nunfolding answer\n{call}_{number} = refl\n");
     }
     out
 }
@@ -63,11 +61,11 @@ fn results(listing: &str, lines: &[PseudoLine]) -> [(&'static str, String); 5] {
         Ok(after) => format!("rewritten ({})", lines_term(&after)),
         Err(number) => format!("refused {number}"),
     };
-    let by_splits = |w: &Webs| format!("by-splits ({})", numbered_term(w));
-    let by_webs = |w: &Webs| format!("by-webs ({})", numbered_term(w));
+    let by_splits = |w: &Webs| format!("by_splits ({})", numbered_term(w));
+    let by_webs = |w: &Webs| format!("by_webs ({})", numbered_term(w));
     [
         ("loops", pass(answers::recover_loops(lines))),
-        ("goto-loops", pass(answers::recover_goto_loops(lines))),
+        ("goto_loops", pass(answers::recover_goto_loops(lines))),
         ("webs", answers::webs(lines).map_or_else(|number| format!("refused {number}"), |w| by_webs(&w))),
         ("splits", by_splits(&answers::splits(lines))),
         ("choose", match answers::choose(lines) {
@@ -88,7 +86,7 @@ fn lines_term(lines: &[PseudoLine]) -> String {
 
 fn line_term(l: &PseudoLine) -> String {
     let address = l.address.map_or("none".to_string(), |a| format!("(some {a})"));
-    format!("pseudo-line {address} {} {}", l.indent, list(&l.tokens, token_term))
+    format!("pseudo_line {address} {} {}", l.indent, list(&l.tokens, token_term))
 }
 
 fn token_term(t: &Token) -> String {

@@ -1,7 +1,7 @@
 //! `theorems DIR OUT`: for every `*.json` in DIR the reference answers as theorems, in files OUT/0.antt, OUT/1.antt, .. `theorems json DIR OUT`: what
 //! the strict reader and the writer of JSON make of each text and of damaged copies.
 //!
-//! OUT/names has the listings' file names, line by line: the theorems of the listing on line N, counted from 0, end in `-N`.
+//! OUT/names has the listings' file names, line by line: the theorems of the listing on line N, counted from 0, end in `_N`.
 //! OUT/large has the file names of listings with more lines than the checker computes all answers of; they have no theorem.
 //! A file that is no listing is named on standard output with what is wrong, and has no theorem.
 
