@@ -19,4 +19,4 @@ pub returns-in-2 : goal.returns-in-2
 returns-in-2 c = let g = c.args in let C = listing g.lines.now g.tokens.now g.text.now in λ l a. adds_as (broken_dressed g.popped C g.p c.in-2.is) (c.add_jumped-in-2.ensures l a)
 
 pub returns-in_default : goal.returns-in_default
-returns-in_default c = let g = c.args in let C = listing g.lines.now g.tokens.now g.text.now in let r = c.in_default.rest in λ l a. adds_as (closed_dressed g.popped C g.p r.0.0.1 r.0.1 r.1) (c.add_last.ensures l a)
+returns-in_default c = let g = c.args in let C = listing g.lines.now g.tokens.now g.text.now in let r = c.in_default.in_default-own.rest in λ l a. adds_as (closed_dressed g.popped C g.p r.0.0.1 r.0.1 r.1) (c.add_last.ensures l a)

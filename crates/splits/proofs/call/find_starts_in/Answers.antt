@@ -10,7 +10,4 @@ starts-requires c = (
 )
 
 pub returns : goal.returns
-returns c = (
-  finds_by _ _ _ _ _ _ c.families-count.ensures,
-  c.starts.ensures,
-)
+returns c = record { finds = finds_by _ _ _ _ _ _ c.families-count.ensures; starts = c.starts.ensures }
