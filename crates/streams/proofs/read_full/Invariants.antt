@@ -1,0 +1,14 @@
+-- `streams::read_full` meets its contract. What was read so far stands at the start of the slice.
+-- Assumes nothing.
+use Rattle.std.proofs.Common.{length, ◌-◌, ◌≡◌, take, ◌≤◌}
+use Rattle.std.specs.Io.KnownBytes.{Consumes}
+use Rattle.streams.proofs.read_full.Given as goal
+
+abbrev pub invariant-loop-done : goal.invariant-loop-done
+invariant-loop-done g l =
+    (l.done ≤ length l.buffer)
+    × (length l.buffer ≡ length l.initial.buffer)
+    × Consumes (g.R.Read.remaining l.fn.reader) (g.R.Read.remaining l.reader) (take l.done l.buffer)
+
+abbrev pub decreases-loop-done : goal.decreases-loop-done
+decreases-loop-done g l = length l.initial.buffer - l.done
