@@ -7,11 +7,13 @@
 
 mod answer;
 
-fn main() {
+use std::io;
+
+fn main(rt: HostRuntime) -> io::Result<()> {
     // One byte more than the program takes, so that a longer input shows.
     let mut input = [0u8; 32769];
     let mut output = [0u8; 36864];
-    let n = io::read_full(0, &mut input);
+    let n = streams::read_full(&mut rt.reader(), &mut input)?;
     let e = answer::put_answer(&mut output, text::part(&input, 0, n));
-    io::write_all(1, text::part(&output, 0, e));
+    rt.write_all(text::part(&output, 0, e))
 }
