@@ -13,13 +13,27 @@ mod rows;
 mod split_call;
 mod web_call;
 
-fn main() {
-    let mut input = [0u8; 524288];
-    let n = io::read_full(0, &mut input);
+ghost use Rattle.std.specs.Prelude.{◌≡◌, length};
+
+use std::io;
+use streams::Output;
+
+// Room for the input, each byte zero. A caller knows its length, and not its bytes one by one.
+fn room() -> [u8; 524288]
+    ensures { 524288 ≡ length result }
+{
+    [0; 524288]
+}
+
+fn main(rt: HostRuntime) -> io::Result<()> {
+    let mut input = room();
+    let n = streams::read_full(&mut rt.reader(), &mut input)?;
+    let mut out = Output::new(rt.stdout());
     // What fills the buffer may be cut.
     if n == 524288 {
-        print::text(b"too large\n");
-        return;
+        out.text(b"too large\n");
+    } else {
+        rows::replay(&mut out, &input[..n]);
     }
-    rows::replay(&input[..n]);
+    out.outcome
 }

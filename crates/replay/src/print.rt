@@ -1,6 +1,6 @@
 // Answers, each one line on standard output.
-
-const OUTPUT: i32 = 1;
+use std::rt::Stdout;
+use streams::Output;
 
 fn wide32(x: u32) -> u64 {
     x as u64
@@ -10,65 +10,67 @@ fn wide8(x: u8) -> u64 {
     x as u64
 }
 
-pub fn text(s: &[u8]) {
-    io::write_all(OUTPUT, s);
+fn spaced(out: &mut Output<Stdout>, x: u64) {
+    out.text(b" ");
+    out.number(x);
 }
 
-fn spaced(x: u64) {
-    text(b" ");
-    io::print_decimal(OUTPUT, x);
-}
-
-fn words(xs: &[u32]) {
+fn words(out: &mut Output<Stdout>, xs: &[u32]) {
     let mut i = 0;
     while i < xs.len() {
-        spaced(wide32(xs[i]));
+        spaced(out, wide32(xs[i]));
         i += 1;
     }
 }
 
-fn words64(xs: &[u64]) {
+fn words64(out: &mut Output<Stdout>, xs: &[u64]) {
     let mut i = 0;
     while i < xs.len() {
-        spaced(xs[i]);
+        spaced(out, xs[i]);
         i += 1;
     }
 }
 
-fn bytes(xs: &[u8]) {
+fn bytes(out: &mut Output<Stdout>, xs: &[u8]) {
     let mut i = 0;
     while i < xs.len() {
-        spaced(wide8(xs[i]));
+        spaced(out, wide8(xs[i]));
         i += 1;
     }
 }
 
 // `refused Q`: question Q is answered no.
-pub fn refused(q: usize) {
-    text(b"refused");
-    spaced(q as u64);
-    text(b"\n");
+pub fn refused(out: &mut Output<Stdout>, q: usize) {
+    out.text(b"refused");
+    spaced(out, q as u64);
+    out.text(b"\n");
 }
 
 // `SWEEPS: NUMBERS; MARKS`.
-pub fn entries(sweeps: usize, numbers: &[u32], marks: &[u8]) {
-    io::print_decimal(OUTPUT, sweeps as u64);
-    text(b":");
-    words(numbers);
-    text(b";");
-    bytes(marks);
-    text(b"\n");
+pub fn entries(out: &mut Output<Stdout>, sweeps: usize, numbers: &[u32], marks: &[u8]) {
+    out.number(sweeps as u64);
+    out.text(b":");
+    words(out, numbers);
+    out.text(b";");
+    bytes(out, marks);
+    out.text(b"\n");
 }
 
 // `LINES; ADDRESSES; TOKENS; TEXT`.
-pub fn listing(lines: &[u32], addresses: &[u64], tokens: &[u32], bytes_of: &[u8]) {
-    text(b"lines");
-    words(lines);
-    text(b";");
-    words64(addresses);
-    text(b";");
-    words(tokens);
-    text(b";");
-    bytes(bytes_of);
-    text(b"\n");
+pub fn listing(
+    out: &mut Output<Stdout>,
+    lines: &[u32],
+    addresses: &[u64],
+    tokens: &[u32],
+    bytes_of: &[u8],
+) {
+    out.text(b"lines");
+    words(out, lines);
+    out.text(b";");
+    words64(out, addresses);
+    out.text(b";");
+    words(out, tokens);
+    out.text(b";");
+    bytes(out, bytes_of);
+    out.text(b"\n");
 }

@@ -4,7 +4,9 @@ ghost use Rattle.replay.specs.Places.{row_end};
 
 use crate::columns::{Listing, Sizes};
 use crate::decimal::Found;
-use crate::{columns, decimal, print};
+use crate::{columns, decimal};
+use std::rt::Stdout;
+use streams::Output;
 
 #[derive(Drop)]
 pub enum Row {
@@ -14,13 +16,20 @@ pub enum Row {
 }
 
 // Makes the call and prints its answer. Whether there is such a call.
-fn call(which: u64, lines: &[u32], addresses: &[u64], tokens: &[u32], text: &[u8]) -> bool {
+fn call(
+    out: &mut Output<Stdout>,
+    which: u64,
+    lines: &[u32],
+    addresses: &[u64],
+    tokens: &[u32],
+    text: &[u8],
+) -> bool {
     match which {
-        1 => crate::web_call::answer(lines, tokens, text),
-        2 => crate::split_call::answer(lines, tokens, text),
-        3 => crate::choose_call::answer(lines, tokens, text),
-        4 => crate::pass_calls::loops(lines, addresses, tokens, text),
-        5 => crate::pass_calls::goto_loops(lines, addresses, tokens, text),
+        1 => crate::web_call::answer(out, lines, tokens, text),
+        2 => crate::split_call::answer(out, lines, tokens, text),
+        3 => crate::choose_call::answer(out, lines, tokens, text),
+        4 => crate::pass_calls::loops(out, lines, addresses, tokens, text),
+        5 => crate::pass_calls::goto_loops(out, lines, addresses, tokens, text),
         _ => return false,
     }
     true
@@ -28,6 +37,7 @@ fn call(which: u64, lines: &[u32], addresses: &[u64], tokens: &[u32], text: &[u8
 
 // The same, or prints that there is no room for its listing.
 fn answer(
+    out: &mut Output<Stdout>,
     which: u64,
     n: Sizes,
     lines: &[u32],
@@ -40,10 +50,11 @@ fn answer(
         || n.tokens > tokens.len()
         || n.text > text.len()
     {
-        print::text(b"too large\n");
+        out.text(b"too large\n");
         return true;
     }
     call(
+        out,
         which,
         columns::first(lines, n.lines),
         columns::first64(addresses, n.addresses),
@@ -53,7 +64,7 @@ fn answer(
 }
 
 // Reads a row and answers it.
-fn replay_row(s: &[u8], at: usize) -> Row
+fn replay_row(out: &mut Output<Stdout>, s: &[u8], at: usize) -> Row
     ensures { at < row_end (at + 1) result }
 {
     let mut lines = [0u32; 1025];
@@ -73,7 +84,7 @@ fn replay_row(s: &[u8], at: usize) -> Row
     ) else {
         return Row::Bad;
     };
-    if answer(call, sizes, &lines, &addresses, &tokens, &text) {
+    if answer(out, call, sizes, &lines, &addresses, &tokens, &text) {
         Row::Next(decimal::skip(s, next))
     } else {
         Row::Bad
@@ -81,15 +92,15 @@ fn replay_row(s: &[u8], at: usize) -> Row
 }
 
 // Every row of s. One that is no row is the last.
-pub fn replay(s: &[u8]) {
+pub fn replay(out: &mut Output<Stdout>, s: &[u8]) {
     let mut at = decimal::skip(s, 0);
     while at < s.len() {
-        match replay_row(s, at) {
+        match replay_row(out, s, at) {
             Row::Next(next) => {
                 at = next;
             }
             Row::Bad => {
-                print::text(b"bad row\n");
+                out.text(b"bad row\n");
                 return;
             }
         }
