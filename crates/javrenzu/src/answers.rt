@@ -10,9 +10,12 @@ use crate::words::Word;
 use crate::{calls, check, room};
 use json_read::{Answer, read_json};
 use rows::columns::{first, first_addresses, first_bytes};
+use std::rt::Stdout;
+use streams::Output;
 
 // The answer for the listing in these columns.
 fn of_columns(
+    to: &mut Output<Stdout>,
     out: &mut [u8],
     lines: &[u32],
     addresses: &[u64],
@@ -33,9 +36,9 @@ fn of_columns(
         Word::Passes => calls::passes_json(out, lines, addresses, tokens, text),
         Word::Dot => calls::dot(out, lines, tokens, text),
         Word::Check => {
-            check::sizes(lines.len(), tokens.len(), text.len());
-            check::rows(out, lines, tokens, text);
-            check::passes(out, lines, addresses, tokens, text);
+            check::sizes(to, lines.len(), tokens.len(), text.len());
+            check::rows(to, out, lines, tokens, text);
+            check::passes(to, out, lines, addresses, tokens, text);
             Said::Text(0)
         }
         Word::Help => Said::Text(0),
@@ -45,6 +48,7 @@ fn of_columns(
 
 // The same, of the first k lines, m tokens and x bytes.
 fn of_cut(
+    to: &mut Output<Stdout>,
     out: &mut [u8],
     lines: &[u32],
     addresses: &[u64],
@@ -60,6 +64,7 @@ fn of_cut(
         ≡ word_answer word out.old (columns (take k lines.now) (take k addresses.now) (take m tokens.now) (take x text.now)) }
 {
     of_columns(
+        to,
         out,
         first(lines, k),
         first_addresses(addresses, k),
@@ -71,6 +76,7 @@ fn of_cut(
 
 // The answer for the listing whose text is the first n bytes of the slice; it is made in the same bytes.
 fn answer_in(
+    to: &mut Output<Stdout>,
     buffer: &mut [u8],
     n: usize,
     word: Word,
@@ -84,12 +90,14 @@ fn answer_in(
         ≡ answer_in (columns lines.old addresses.old tokens.old text.old) word buffer.old n }
 {
     match read_json(first_bytes(buffer, n), lines, addresses, tokens, text) {
-        Answer::Accepted(k, m, x) => of_cut(buffer, lines, addresses, tokens, text, k, m, x, word),
+        Answer::Accepted(k, m, x) => of_cut(
+            to, buffer, lines, addresses, tokens, text, k, m, x, word,
+        ),
         Answer::Refused => Said::Refused(10),
     }
 }
 
-pub fn answer(buffer: &mut [u8], n: usize, word: Word) -> Said
+pub fn answer(to: &mut Output<Stdout>, buffer: &mut [u8], n: usize, word: Word) -> Said
     requires { 4194304 ≤ length buffer.old }
     ensures { told result buffer.new ≡ answer word buffer.old n }
 {
@@ -98,6 +106,7 @@ pub fn answer(buffer: &mut [u8], n: usize, word: Word) -> Said
     let mut tokens = room::tokens();
     let mut text = room::text();
     answer_in(
+        to,
         buffer,
         n,
         word,

@@ -3,49 +3,64 @@ ghost use Rattle.std.specs.Prelude.{◌≤◌, length};
 
 use crate::calls;
 use crate::calls::Said;
-use crate::print::{refused, text};
-use libc::STDOUT_FILENO;
+use crate::print::refused;
+use std::rt::Stdout;
+use streams::Output;
 
 // `NAME: accepted`, or `NAME: refused N: why`.
-fn outcome(name: &[u8], r: Said) {
-    text(STDOUT_FILENO, name);
+fn outcome(to: &mut Output<Stdout>, name: &[u8], r: Said) {
+    to.text(name);
     match r {
-        Said::Refused(n) => refused(STDOUT_FILENO, n),
-        _ => text(STDOUT_FILENO, b"accepted\n"),
+        Said::Refused(n) => refused(to, n),
+        _ => to.text(b"accepted\n"),
     }
 }
 
-fn size(n: usize, what: &[u8]) {
-    io::print_decimal(STDOUT_FILENO, n as u64);
-    text(STDOUT_FILENO, what);
+fn size(to: &mut Output<Stdout>, n: usize, what: &[u8]) {
+    to.number(n as u64);
+    to.text(what);
 }
 
-pub fn sizes(lines: usize, tokens: usize, bytes: usize) {
-    size(lines, b" lines, ");
-    size(tokens, b" tokens, ");
-    size(bytes, b" bytes of text\n");
+pub fn sizes(to: &mut Output<Stdout>, lines: usize, tokens: usize, bytes: usize) {
+    size(to, lines, b" lines, ");
+    size(to, tokens, b" tokens, ");
+    size(to, bytes, b" bytes of text\n");
 }
 
 // The calls that number tokens. They make their answers in `out`.
-pub fn rows(out: &mut [u8], lines: &[u32], tokens: &[u32], text: &[u8])
+pub fn rows(to: &mut Output<Stdout>, out: &mut [u8], lines: &[u32], tokens: &[u32], text: &[u8])
     requires { 720896 ≤ length out.old }
 {
-    outcome(b"webs: ", calls::web_rows(out, lines, tokens, text));
-    outcome(b"splits: ", calls::split_rows(out, lines, tokens, text));
-    outcome(b"choose: ", calls::chosen_rows(out, lines, tokens, text));
+    outcome(to, b"webs: ", calls::web_rows(out, lines, tokens, text));
+    outcome(to, b"splits: ", calls::split_rows(out, lines, tokens, text));
+    outcome(
+        to,
+        b"choose: ",
+        calls::chosen_rows(out, lines, tokens, text),
+    );
 }
 
 // The passes.
-pub fn passes(out: &mut [u8], lines: &[u32], addresses: &[u64], tokens: &[u32], text: &[u8]) {
+pub fn passes(
+    to: &mut Output<Stdout>,
+    out: &mut [u8],
+    lines: &[u32],
+    addresses: &[u64],
+    tokens: &[u32],
+    text: &[u8],
+) {
     outcome(
+        to,
         b"recover_loops: ",
         calls::loops_json(out, lines, addresses, tokens, text),
     );
     outcome(
+        to,
         b"recover_goto_loops: ",
         calls::goto_loops_json(out, lines, addresses, tokens, text),
     );
     outcome(
+        to,
         b"passes: ",
         calls::passes_json(out, lines, addresses, tokens, text),
     );

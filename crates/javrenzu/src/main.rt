@@ -14,27 +14,40 @@ mod room;
 mod words;
 
 use input::Input;
+use std::io;
+use std::rt::{Env, Files, Stderr, Stdout};
+use streams::Output;
 use words::Word;
 
 // The answer to a word that asks for one.
-fn run(word: Word) {
+fn run(
+    rt: &(impl Env + Files + io::Input),
+    out: &mut Output<Stdout>,
+    errors: &mut Output<Stderr>,
+    word: Word,
+) -> io::Result<()> {
     let mut buffer = room::buffer();
-    let Input::Bytes(n) = input::read(&mut buffer) else {
-        return;
+    let Input::Bytes(n) = input::read(rt, errors, &mut buffer)? else {
+        return Ok(());
     };
     if n == 4194305 {
-        print::refused(libc::STDERR_FILENO, 10);
-        return;
+        print::refused(errors, 10);
+        return Ok(());
     }
-    let r = answers::answer(&mut buffer, n, word);
-    print::said(&buffer, r);
+    let r = answers::answer(out, &mut buffer, n, word);
+    print::said(out, errors, &buffer, r);
+    Ok(())
 }
 
-fn main() {
-    let word = words::asked();
+fn main(rt: HostRuntime) -> io::Result<()> {
+    let mut out = Output::new(rt.stdout());
+    let mut errors = Output::new(rt.stderr());
+    let word = words::asked(&rt);
     match word {
-        Word::Help => print::help(),
-        Word::Unknown => print::unknown(),
-        _ => run(word),
+        Word::Help => print::help(&mut out),
+        Word::Unknown => print::unknown(&mut errors),
+        _ => run(&rt, &mut out, &mut errors, word)?,
     }
+    out.outcome?;
+    errors.outcome
 }

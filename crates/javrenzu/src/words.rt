@@ -1,4 +1,5 @@
 // The words of the command.
+use std::rt::Env;
 
 #[derive(Drop)]
 pub enum Word {
@@ -47,8 +48,11 @@ fn named(s: &[u8]) -> Word {
 }
 
 // The word that the program was started with.
-pub fn asked() -> Word {
+pub fn asked(rt: &impl Env) -> Word {
     let mut name = [0u8; 32];
-    let n = os::arg(1, &mut name);
-    named(&name[..n])
+    match rt.arg(1, &mut name) {
+        Ok(n) => named(&name[..n]),
+        // No word, or one that is longer than any of these.
+        Err(_) => Word::Unknown,
+    }
 }
