@@ -1,5 +1,4 @@
 -- Lists, options and byte texts: the few general words that the definitions are written in.
---   if b then x else y              x where b is true, y where it is false
 --   do x ← o; ..                    goes on with what o holds, and is none where o is none: Rust's `?`
 --   require b                       none where b is false
 --   any p xs, all p xs              p holds of some element, of every element
@@ -18,7 +17,7 @@
 --   fold f b xs                     f of b and the first element, then of that and the second, and so on
 --   range a n, up_to n              a, a + 1, .., n of them; 0, 1, .., n - 1
 --   member x xs                     the number x is in the list
---   s == t                          the same bytes
+--   s ≟ t                           the same bytes
 --   starts_with p s, ends_with p s  the text s starts, ends with p
 --   contains b s                    the byte b stands in s
 --   ascii "goto"                    the bytes of an ASCII text

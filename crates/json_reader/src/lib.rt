@@ -1,7 +1,7 @@
 // A reader over the JSON bytes that remembers how far it has read, and above it `listing`, with plain parameters, which every caller uses.
 //
 // Each step takes the reader apart and calls a function of json_listing on the slice and the position; what it costs is what that costs. The contracts cite
-// Rattle.json_listing.specs.InColumns. All functions over the reader are proved by a walk by hand.
+// Rattle.json_listing.specs.InColumns.
 
 #![tactic(auto)]
 
