@@ -9,35 +9,35 @@ pub returns-then-number-lt7 : goal.returns-then-number-lt7
 returns-then-number-lt7 c = let a = c.args in
     let few = c.requires in
     let R = c.recover_within in
-    let ns = R.new.1.1.1.0 in
-    let ms = R.new.1.1.1.1.0 in
-    let ws = R.new.1.1.1.1.1.0 in
+    let ns = R.new.numbers in
+    let ms = R.new.marks in
+    let ws = R.new.space in
     chosen_early (at_most a.most) a.lines.now a.tokens.now a.text.now a.numbers.now a.marks.now a.space.now _ ns ms ws (early (at_most a.most) a.lines.now a.tokens.now a.text.now a.numbers.now a.marks.now a.space.now _ ns ms ws (equation_of (at_most a.most) few.0 a.lines.now a.tokens.now a.text.now a.numbers.now a.marks.now a.space.now ns ms ws R.result (Refused c.in-Refused.number) (search rules) R.ensures) c.if-number-lt7.true)
 
 pub split_numbers-requires : goal.split_numbers-requires
 split_numbers-requires c = let a = c.args in
     let few = c.requires in
     let R = c.recover_within in
-    let ns = R.new.1.1.1.0 in
-    let ms = R.new.1.1.1.1.0 in
-    let ws = R.new.1.1.1.1.1.0 in
+    let ns = R.new.numbers in
+    let ms = R.new.marks in
+    let ws = R.new.space in
     passed (at_most a.most) a.lines.now a.tokens.now a.text.now a.numbers.now a.marks.now a.space.now _ ns ms ws (late (at_most a.most) a.lines.now a.tokens.now a.text.now a.numbers.now a.marks.now a.space.now _ ns ms ws (equation_of (at_most a.most) few.0 a.lines.now a.tokens.now a.text.now a.numbers.now a.marks.now a.space.now ns ms ws R.result (Refused c.in-Refused.number) (search rules) R.ensures) (search rules)) few.0 few.1
 
 pub returns-in-Accepted : goal.returns-in-Accepted
 returns-in-Accepted c = let a = c.args in
     let few = c.requires in
     let R = c.recover_within in
-    let ns = R.new.1.1.1.0 in
-    let ms = R.new.1.1.1.1.0 in
-    let ws = R.new.1.1.1.1.1.0 in
+    let ns = R.new.numbers in
+    let ms = R.new.marks in
+    let ws = R.new.space in
     chosen_webs (at_most a.most) a.lines.now a.tokens.now a.text.now a.numbers.now a.marks.now a.space.now _ ns ms ws (equation_of (at_most a.most) few.0 a.lines.now a.tokens.now a.text.now a.numbers.now a.marks.now a.space.now ns ms ws R.result (Accepted c.in-Accepted.sweeps) (search rules) R.ensures)
 
 pub returns-else-number-lt7 : goal.returns-else-number-lt7
 returns-else-number-lt7 c = let a = c.args in
     let few = c.requires in
     let R = c.recover_within in
-    let ns = R.new.1.1.1.0 in
-    let ms = R.new.1.1.1.1.0 in
-    let ws = R.new.1.1.1.1.1.0 in
+    let ns = R.new.numbers in
+    let ms = R.new.marks in
+    let ws = R.new.space in
     let S = c.split_numbers in
     chosen_splits (at_most a.most) a.lines.now a.tokens.now a.text.now a.numbers.now a.marks.now a.space.now _ ns ms ws _ _ (late (at_most a.most) a.lines.now a.tokens.now a.text.now a.numbers.now a.marks.now a.space.now _ ns ms ws (equation_of (at_most a.most) few.0 a.lines.now a.tokens.now a.text.now a.numbers.now a.marks.now a.space.now ns ms ws R.result (Refused c.in-Refused.number) (search rules) R.ensures) (search rules)) S.ensures.numbers_after S.ensures.marks_after

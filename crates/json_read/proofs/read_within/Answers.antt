@@ -27,5 +27,5 @@ returns c = let a = c.args in
     let r = c.listing in
     cut_read (closed (array line a.s.now)) a.s.now a.lines.now a.addresses.now a.tokens.now a.text.now _ _ _ _ 1024 1024 16384 262144
     c.lesser-a.ensures c.lesser-b.ensures c.lesser-c.ensures c.lesser-d.ensures
-    r.new.1.0 r.new.1.1.0 r.new.1.1.1.0 r.new.1.1.1.1.0
+    r.new.lines r.new.addresses r.new.tokens r.new.text
     r.auto.lines r.auto.addresses r.auto.tokens r.auto.text r.result r.ensures

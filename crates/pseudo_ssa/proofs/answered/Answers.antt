@@ -21,21 +21,21 @@ pub numbered-requires : goal.numbered-requires
 numbered-requires c = let a = c.args in
     let F = c.flow_graph in
     let yes = ap flow-refused c.in-Drawn.is in
-    ready a.lines.now a.tokens.now a.text.now a.numbers.now a.marks.now a.space.now F.new.1.1.1.0 _ F.result c.requires F.auto.space (search rules) refl F.ensures.result_value yes (F.ensures.fact yes)
+    ready a.lines.now a.tokens.now a.text.now a.numbers.now a.marks.now a.space.now F.new.space _ F.result c.requires F.auto.space (search rules) refl F.ensures.result_value yes (F.ensures.fact yes)
 
 pub returns-in-Drawn : goal.returns-in-Drawn
 returns-in-Drawn c = let a = c.args in
     let F = c.flow_graph in
-    c.numbered.ensures ∙ space_swapped _ a.numbers.now a.marks.now a.space.now F.new.1.1.1.0 F.auto.space
+    c.numbered.ensures ∙ space_swapped _ a.numbers.now a.marks.now a.space.now F.new.space F.auto.space
 
 pub returns-in-UnmatchedBrace : goal.returns-in-UnmatchedBrace
 returns-in-UnmatchedBrace c = let a = c.args in
     let Z = c.zero-in-UnmatchedBrace in
     let F = c.flow_graph in
-    answered_flow a.lines.now a.tokens.now a.text.now a.numbers.now a.marks.now a.space.now F.new.1.1.1.0 _ _ _ a.budget F.auto.space Z.ensures.numbers_after Z.ensures.marks_after Z.ensures.space_after F.result 8 (search rules) F.ensures.result_value (ap flow-refused c.in-UnmatchedBrace.is)
+    answered_flow a.lines.now a.tokens.now a.text.now a.numbers.now a.marks.now a.space.now F.new.space _ _ _ a.budget F.auto.space Z.ensures.numbers_after Z.ensures.marks_after Z.ensures.space_after F.result 8 (search rules) F.ensures.result_value (ap flow-refused c.in-UnmatchedBrace.is)
 
 pub returns-in-UnknownLabel : goal.returns-in-UnknownLabel
 returns-in-UnknownLabel c = let a = c.args in
     let Z = c.zero-in-UnknownLabel in
     let F = c.flow_graph in
-    answered_flow a.lines.now a.tokens.now a.text.now a.numbers.now a.marks.now a.space.now F.new.1.1.1.0 _ _ _ a.budget F.auto.space Z.ensures.numbers_after Z.ensures.marks_after Z.ensures.space_after F.result 9 (search rules) F.ensures.result_value (ap flow-refused c.in-UnknownLabel.is)
+    answered_flow a.lines.now a.tokens.now a.text.now a.numbers.now a.marks.now a.space.now F.new.space _ _ _ a.budget F.auto.space Z.ensures.numbers_after Z.ensures.marks_after Z.ensures.space_after F.result 9 (search rules) F.ensures.result_value (ap flow-refused c.in-UnknownLabel.is)

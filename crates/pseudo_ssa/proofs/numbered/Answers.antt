@@ -23,11 +23,11 @@ returns-in-Done c = let a = c.args in
     let R = c.recover in
     let Z = c.zero in
     numbered_done a.lines.now a.tokens.now a.text.now a.numbers.now a.marks.now a.space.now a.r a.budget c.requires
-    R.new.1.1.1.1.1.1.0 R.new.1.1.1.1.1.1.1.0 R.new.1.1.1.0 _ _ _ R.auto.numbers R.auto.marks R.auto.space Z.ensures.space_after R.result _ R.ensures (search rules) Z.ensures.numbers_after Z.ensures.marks_after
+    R.new.numbers R.new.marks R.new.space _ _ _ R.auto.numbers R.auto.marks R.auto.space Z.ensures.space_after R.result _ R.ensures (search rules) Z.ensures.numbers_after Z.ensures.marks_after
 
 pub returns-in-OverBudget : goal.returns-in-OverBudget
 returns-in-OverBudget c = let a = c.args in
     let R = c.recover in
     let Z = c.zero-in-OverBudget in
     numbered_over a.lines.now a.tokens.now a.text.now a.numbers.now a.marks.now a.space.now a.r a.budget c.requires
-    R.new.1.1.1.1.1.1.0 R.new.1.1.1.1.1.1.1.0 R.new.1.1.1.0 _ _ _ R.auto.numbers R.auto.marks R.auto.space Z.ensures.space_after R.result R.ensures c.in-OverBudget.is Z.ensures.numbers_after Z.ensures.marks_after
+    R.new.numbers R.new.marks R.new.space _ _ _ R.auto.numbers R.auto.marks R.auto.space Z.ensures.space_after R.result R.ensures c.in-OverBudget.is Z.ensures.numbers_after Z.ensures.marks_after
