@@ -16,10 +16,10 @@ moved-requires c = let h = c.requires.by_index c.loop-j.j (search rules) in
 
 pub loop-j-preserved : goal.loop-j-preserved
 loop-j-preserved c = let a = c.args in (
-      search rules,
-      simp length-set (omega arith),
-      moved_next (take a.k a.words.now) a.run.now a.a a.b _ _ _ c.loop-j.invariant.2 _ c.moved.ensures (search rules) (search rules),
-    )
+  search rules,
+  simp length-set (omega arith),
+  moved_next (take a.k a.words.now) a.run.now a.a a.b _ _ _ c.loop-j.invariant.2 _ c.moved.ensures (search rules) (search rules),
+)
 
 pub returns : goal.returns
 returns c = let a = c.args in

@@ -41,6 +41,9 @@ pub returns : goal.returns
 returns c = let a = c.args in
     let l = c.loop-i in
     let L = listing a.lines.now a.tokens.now a.text.now in
-    let n = length_listing a.lines.now a.tokens.now a.text.now in record { value = search (lines_leading, rules); fact = λ z. drawn_as (length a.lines.now) a.r a.space.now l.space (rest L (blocks_of L) 0) (λ i j. member j (successors L (blocks_of L) i))
+    let n = length_listing a.lines.now a.tokens.now a.text.now in record {
+      value = search (lines_leading, rules);
+      fact = λ z. drawn_as (length a.lines.now) a.r a.space.now l.space (rest L (blocks_of L) 0) (λ i j. member j (successors L (blocks_of L) i))
           (drawing_end (length a.lines.now) a.r a.space.now (rest L (blocks_of L) 0) l.space (rest L (blocks_of L) l.i) l.invariant.3 (λ p q hp hq. rest_end L (blocks_of L) (length a.lines.now) l.i p q (omega (arith, c.loop-i-test.false)) hp hq))
-          (λ p q hp hq. rest_all L (blocks_of L) p q (omega arith)) }
+          (λ p q hp hq. rest_all L (blocks_of L) p q (omega arith));
+    }

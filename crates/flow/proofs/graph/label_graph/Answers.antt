@@ -13,7 +13,9 @@ use Rattle.flow.proofs.graph.label_graph.Goals as goal
 pub draw-requires : goal.draw-requires
 draw-requires c = let a = c.args in
     let p = c.requires in
-    let I = c.index in record { matrices = matrices_kept (length a.lines.now) a.r a.space.now _ p.matrices c.no_edges.auto.space; read = record {
+    let I = c.index in record {
+      matrices = matrices_kept (length a.lines.now) a.r a.space.now _ p.matrices c.no_edges.auto.space;
+      read = record {
         masks = p.fact_2.0;
         ends_room = p.fact.0;
         parents_room = p.fact.1;
@@ -22,7 +24,8 @@ draw-requires c = let a = c.args in
         ends = p.fact_2.1.ends refl;
         parents = p.fact_2.1.parents refl;
         labels = I.ensures;
-      } }
+      };
+    }
 
 pub returns-then-draw : goal.returns-then-draw
 returns-then-draw c = let a = c.args in
