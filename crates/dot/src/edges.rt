@@ -7,7 +7,7 @@ ghost use Rattle.json_append.specs.Appended.{Appended};
 ghost use Rattle.rows.specs.Rows.{rows};
 ghost use Rattle.dot.specs.Dot.{arrow, down, aside, edge, edges};
 
-use crate::labels::wide;
+use crate::node_labels::wide;
 use json_append::bytes::put;
 use json_append::values::put_decimal;
 

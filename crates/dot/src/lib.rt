@@ -1,6 +1,6 @@
 // The picture of a listing: its flow graph in the DOT language, each register token that has a web in the colour of its web.
 //
-//   labels   texts as a label has them, colours
+//   node_labels   texts as a label has them, colours
 //   webs     which tokens are of one web, and in which order webs appear
 //   widths   how wide the labels are
 //   nodes    the lines
@@ -12,7 +12,7 @@
 #![tactic(auto)]
 
 mod edges;
-mod labels;
+mod node_labels;
 mod nodes;
 mod webs;
 mod widths;

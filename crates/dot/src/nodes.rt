@@ -9,7 +9,7 @@ ghost use Rattle.rows.specs.Rows.{rows};
 ghost use Rattle.dot.specs.Dot.{token_text, node_head, number_cell, text_cell, node_start};
 ghost use Rattle.dot.specs.Held.{Ranked, line_at, node_at};
 
-use crate::labels::{put_blanks, put_characters, put_web, wide};
+use crate::node_labels::{put_blanks, put_characters, put_web, wide};
 use crate::webs::has_web;
 use json_append::bytes::put;
 use json_append::values::put_decimal;

@@ -50,8 +50,8 @@ use Rattle.dot.specs.Dot.{dot_text}
 use Rattle.dot.specs.Held.{Ready}
 use Rattle.javrenzu.specs.Room.{token_zeros, text_zeros, mark_zeros, space_zeros, word_zeros, byte_zeros, lent_room, split_room, pass_room}
 use Rattle.javrenzu.specs.declared.calls.Said.TheVariants.{Text, ByWebs, BySplits, Refused}
-use Rattle.javrenzu.specs.declared.words.Word.{Word}
-use Rattle.javrenzu.specs.declared.words.Word.TheVariants as word
+use Rattle.javrenzu.specs.declared.command_words.Word.{Word}
+use Rattle.javrenzu.specs.declared.command_words.Word.TheVariants as word
 use Rattle.javrenzu.specs.Command.{told, rows_of, webs_answer, splits_answer, choose_answer, Passing, within, picture_of, dot_answer, written_text, json_answer, after, pass_answer, passes_answer, word_answer, read_answer, answer_in, answer}
 
 -- Rows

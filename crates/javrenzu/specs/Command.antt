@@ -28,8 +28,8 @@ use Rattle.dot.specs.Dot.{dot_text}
 use Rattle.javrenzu.specs.Room.{room, lent_room, split_room, pass_room}
 use Rattle.javrenzu.specs.declared.calls.Said.{Said}
 use Rattle.javrenzu.specs.declared.calls.Said.TheVariants.{Text, ByWebs, BySplits, Refused}
-use Rattle.javrenzu.specs.declared.words.Word.{Word}
-use Rattle.javrenzu.specs.declared.words.Word.TheVariants.{Webs, Splits, Choose, RecoverLoops, RecoverGotoLoops, Passes, Dot, Check, Help, Unknown}
+use Rattle.javrenzu.specs.declared.command_words.Word.{Word}
+use Rattle.javrenzu.specs.declared.command_words.Word.TheVariants.{Webs, Splits, Choose, RecoverLoops, RecoverGotoLoops, Passes, Dot, Check, Help, Unknown}
 
 abbrev pub told : Said → List ℕ → Answer (List ℕ)
 told (Text e) out = accepted (take e out)

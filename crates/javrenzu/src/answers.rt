@@ -6,7 +6,7 @@ ghost use Rattle.write.specs.Holds.{columns};
 ghost use Rattle.javrenzu.specs.Command.{told, word_answer, answer_in, answer};
 
 use crate::calls::Said;
-use crate::words::Word;
+use crate::command_words::Word;
 use crate::{calls, check, room};
 use json_read::{Answer, read_json};
 use rows::columns::{first, first_addresses, first_bytes};

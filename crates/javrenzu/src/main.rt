@@ -8,16 +8,16 @@
 mod answers;
 mod calls;
 mod check;
+mod command_words;
 mod input;
 mod print;
 mod room;
-mod words;
 
+use command_words::Word;
 use input::Input;
 use std::io;
 use std::rt::{Env, Files, Stderr, Stdout};
 use streams::Output;
-use words::Word;
 
 // The answer to a word that asks for one.
 fn run(
@@ -42,7 +42,7 @@ fn run(
 fn main(rt: HostRuntime) -> io::Result<()> {
     let mut out = Output::new(rt.stdout());
     let mut errors = Output::new(rt.stderr());
-    let word = words::asked(&rt);
+    let word = command_words::asked(&rt);
     match word {
         Word::Help => print::help(&mut out),
         Word::Unknown => print::unknown(&mut errors),

@@ -4,7 +4,7 @@ use Rattle.rows.proofs.RowRules.{going_start, going_next}
 use native.Mathlib.Omega.{arith}
 use Prim.Native.Nat.{◌-◌}
 use borrow.Author.Rules.{rules}
-use Rattle.dot.proofs.labels.put_blanks.Goals as goal
+use Rattle.dot.proofs.node_labels.put_blanks.Goals as goal
 
 pub loop-i-init : goal.loop-i-init
 loop-i-init c = going_start _ _ _ _ _ _ (search rules) (omega arith)

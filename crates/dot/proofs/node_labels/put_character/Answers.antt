@@ -1,8 +1,8 @@
--- `dot::labels::put_character` meets its contract.
+-- `dot::node_labels::put_character` meets its contract.
 -- Assumes nothing.
 use Rattle.dot.proofs.LabelRules.{character_blank, character_quote, character_and, character_less, character_more, character_other}
 use borrow.Author.Rules.{rules}
-use Rattle.dot.proofs.labels.put_character.Goals as goal
+use Rattle.dot.proofs.node_labels.put_character.Goals as goal
 
 pub returns-then-c-le32 : goal.returns-then-c-le32
 returns-then-c-le32 c = search (character_blank, rules)
