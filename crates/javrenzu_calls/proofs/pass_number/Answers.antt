@@ -1,12 +1,11 @@
 -- `javrenzu_calls::pass_number` meets its contract. Assumes nothing.
 use mathlib.Core.Path.{refl}
-use borrow.Author.Rules.{rules}
 use Rattle.pass_call.specs.declared.Answer.TheVariants.{TooLarge, Malformed, NotUtf8, NoRoom, Overflow}
 use Rattle.javrenzu_calls.proofs.Crossed.{pass_accepted, pass_refused}
 use Rattle.javrenzu_calls.proofs.pass_number.Goals as goal
 
 pub returns-in-Accepted : goal.returns-in-Accepted
-returns-in-Accepted c = search (pass_accepted, rules)
+returns-in-Accepted c = let w = pass_accepted _ _ _ _ c.in-Accepted.is in record { value = w.0; nbytes_after = w.1 }
 
 pub returns-in-TooLarge : goal.returns-in-TooLarge
 returns-in-TooLarge c = let w = pass_refused _ TooLarge 1 c.in-TooLarge.is refl in
