@@ -11,4 +11,4 @@ pub returns-then-e-le4194304 : goal.returns-then-e-le4194304
 returns-then-e-le4194304 c = search (picture_said, rules)
 
 pub returns-else-e-le4194304 : goal.returns-else-e-le4194304
-returns-else-e-le4194304 c = search (picture_long, rules)
+returns-else-e-le4194304 c = picture_long _ _ _ _ _ _ _ c.requires.in_bounds c.put_dot-e.ensures c.if-e-le4194304.false
