@@ -17,7 +17,7 @@ use native.Mathlib.Omega.{arith}
 use borrow.Author.Tests.{eqb-true}
 use lib.Dec.{eqb}
 use lib.ListN.{length, get_or, take, drop}
-use Rattle.definitions.specs.Lists.{◌>>=◌, position, find, on_first, on_last, starts_with, count, ◌≟◌, ascii}
+use Rattle.definitions.specs.Lists.{◌>>=◌, position, find, on_first, on_last, starts_with, ◌≟◌, ascii}
 use Rattle.definitions.specs.Model.{Token, Line, tok, no_token, Text, Keyword, Symbol, Punct}
 use Rattle.definitions.specs.Statements.{is_kw, joins, glue, merge, first_symbol, goto_target}
 use Rattle.definitions.specs.Condition.{Comparison, Found, Seen, nothing_seen, at_depth_0, add_found, see_logical, comparison_at, see_bracket, scan_text, scan_token, scan, flip, only_comparison, negate_cond}

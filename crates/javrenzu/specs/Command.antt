@@ -21,7 +21,7 @@ use Rattle.definitions.specs.Columns.{listing}
 use Rattle.definitions.specs.Questions.{Limits, limits, question_1, question_2}
 use Rattle.definitions.specs.Model.{Line}
 use Rattle.definitions.specs.Answers.{Answer, refused, accepted, loops, goto_loops}
-use Rattle.definitions.specs.Calls.{Columns, Passed, Lent, Called, Chosen, by_webs, by_splits, pass_call, web_call, split_call, choose_call}
+use Rattle.definitions.specs.Calls.{Columns, Passed, Called, Chosen, by_webs, by_splits, pass_call, web_call, split_call, choose_call}
 use Rattle.json_definitions.specs.JsonCalls.{Written, read_call, write_call}
 use Rattle.rows.specs.Rows.{all_rows}
 use Rattle.dot.specs.Dot.{dot_text}

@@ -1,7 +1,7 @@
 -- Rules for the needs of the steps over JSON text: each premise is a field of what a need is handed.
 --   or_is_yes, or_is_go                          x || y where the code compares the contract's own number
---   skip-white-space-*, literal-*, lexeme_go     the loops over white space and over a fixed word
---   digits-*, whole-number-*, number_go          the loop over digits, and what stands before it
+--   skip_white_space_*, literal_*, lexeme_go     the loops over white space and over a fixed word
+--   digits_*, whole_number_*, number_go          the loop over digits, and what stands before it
 --   number_then, number_none, next_then, next_none, got_is    what follows an answer of the code, for parsers made of several
 -- Assumes nothing.
 use mathlib.Core.Path.{◌≡◌, refl, sym, ◌∙◌}

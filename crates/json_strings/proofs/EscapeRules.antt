@@ -1,7 +1,7 @@
 -- Rules for the needs of the escapes: each premise is a field of what a need is handed.
 --   within_low, within_57, within_37      what a test of a range says
---   hex-digit-*, hex_4_small              hexadecimal digits, and what four of them are below
---   low-surrogate-*, code-unit-*, escape-*
+--   hex_digit_*, hex_4_small              hexadecimal digits, and what four of them are below
+--   low_surrogate_*, code_unit_*, escape_*
 -- Assumes nothing.
 use mathlib.Core.Path.{◌≡◌, sym, ◌∙◌}
 use mathlib.Core.Bool.{Bool, true, and-false}

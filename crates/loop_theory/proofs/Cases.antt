@@ -4,7 +4,7 @@
 --   do_has, required, map_has    so it does if it does at the end of a `do` block, where all that was required is true; and of what is mapped
 --   and_split, or_split          both parts of an `&&` that is true, of an `||` that is false
 --   ≟_true, some_same           texts that compare equal are equal, and so are what equal options hold
---   true-false, none-some        cannot be
+--   true_false, none_some        cannot be
 --   true_unless, false_unless    a test is decided by what would follow otherwise
 -- Assumes nothing.
 use Prim.Native.Nat.{ℕ}

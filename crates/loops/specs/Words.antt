@@ -15,7 +15,7 @@
 --   do_word C d                the line of d has the keyword do
 --   opens_words C g d          the line of g is a guard, and the line of d one indent deeper
 -- Assumes nothing.
-use Rattle.std.specs.Prelude.{if◌then◌else◌, ℕ, zero, suc, ◌+◌, ◌-◌, ◌/◌, ◌≡◌, Bool, true, false, cond, ◌&&◌, not, List, [], eqb, leb, ltb, length, get_or, drop}
+use Rattle.std.specs.Prelude.{if◌then◌else◌, ℕ, zero, suc, ◌+◌, ◌-◌, ◌/◌, ◌≡◌, Bool, true, false, ◌&&◌, not, List, [], eqb, leb, ltb, length, get_or, drop}
 use Rattle.std.proofs.Math.Option.{Option, none, some}
 use Rattle.definitions.specs.Lists.{or_else, any, all, part, ascii}
 use Rattle.definitions.specs.Model.{Token, Line, token, line}

@@ -20,10 +20,9 @@ use lib.ListN.{length}
 use Rattle.definitions.specs.Lists.{concat, part}
 use Rattle.definitions.specs.Model.{Line, text}
 use Rattle.definitions.specs.Columns.{listing, with_addresses, token_list, all_tokens}
-use Rattle.definitions.specs.Passes.{lines}
 use Rattle.definitions.specs.Questions.{Limits, limits, question_1, question_2, refusal}
 use Rattle.definitions.specs.Answers.{Answer, refused, accepted}
-use Rattle.definitions.specs.Calls.{Columns, Passed, has_room, pass_refusal, zero_columns, packed, counts, passed, pass_call}
+use Rattle.definitions.specs.Calls.{Columns, Passed, has_room, pass_refusal, zero_columns, packed, passed, pass_call}
 use Rattle.loop_theory.proofs.Cases.{and_split, none_some}
 use Rattle.loop_theory.proofs.Room.{Fits}
 use Rattle.text.proofs.Parts.{part_tail, length_part}

@@ -1,5 +1,5 @@
 -- Demand 3 of the output slice, by the web call's own equation.
---   every-type     for every type of values
+--   every_type     for every type of values
 --   of_numbers     for values in ℕ, as the call's contract has it
 -- Assumes nothing.
 use Prim.Native.Nat.{ℕ}

@@ -1,8 +1,8 @@
 -- Demand 3 of the words that the calls leave: the lent numbers at exit of a web call that accepts, or of a chooser that chose webs.
 --   Demand3Of L numbers    both halves of demand 3, of these numbers
---   filled-demand            zeros behind the answered numbers change nothing
---   web-call-demand          the web call
---   choose-call-demand       the chooser
+--   filled_demand            zeros behind the answered numbers change nothing
+--   web_call_demand          the web call
+--   choose_call_demand       the chooser
 -- Assumes nothing.
 use Prim.Native.Nat.{ℕ, zero, suc, ◌-◌}
 use mathlib.Core.Path.{◌≡◌, refl, ◌∙◌}

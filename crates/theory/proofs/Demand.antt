@@ -1,8 +1,8 @@
 -- Demand 3, of every listing that the web call accepts.
 --   accepted_fits     the answered numbers fit: each definition's number stands at its token and at every read that it reaches
 --   accepted_chains   two definitions of a family whose address is not taken have one number exactly if a chain links them
---   accepted-runs     both runs read the same values
---   demand-3          the last two together: the whole of demand 3
+--   accepted_runs     both runs read the same values
+--   demand_3          the last two together: the whole of demand 3
 -- Assumes nothing.
 use Prim.Native.Nat.{ℕ, zero, suc}
 use mathlib.Core.Path.{◌≡◌, sym, ap, ◌∙◌}

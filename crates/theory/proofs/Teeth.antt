@@ -1,11 +1,11 @@
 -- What demand 3 rules out, on small listings, and one listing to which all of it applies.
 --   one_web               one web for everything, where two definitions are unlinked: the chain half rules it out
---   one-web-runs          the runs alone do not
+--   one_web_runs          the runs alone do not
 --   own_webs              a web for every definition, whatever number the read that both reach has
 --   first_definition      so too where the read has the number of the first definition that reaches it
 --   first_two             only the first two of three definitions that reach a read linked
 --   round                 a value that comes round through line 0: round_edges has the way, round_stops that it is none
---   sample-demand         demand 3 of a listing with a loop, a branch, a family whose address is taken, and a register that is used
+--   sample_demand         demand 3 of a listing with a loop, a branch, a family whose address is taken, and a register that is used
 --                         again; sample_accepted, sample_graph and sample_numbers have what is answered of it
 -- Assumes nothing.
 use Prim.Native.Nat.{ℕ, ◌+◌}

@@ -1,4 +1,3 @@
-use Prim.Native.Nat.{◌-◌}
 use borrow.Author.Rules.{rules}
 use Rattle.crossings.proofs.Joins.{joins}
 use Rattle.crossings.proofs.mark_line.Goals as goal

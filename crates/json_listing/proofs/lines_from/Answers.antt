@@ -1,7 +1,6 @@
 use Rattle.json_listing.proofs.LoopRules.{listings}
 use borrow.Author.Rules.{rules}
 use Rattle.json_listing.specs.InColumns.{listing_read}
-use Prim.Native.Nat.{◌-◌}
 use Rattle.json_listing.proofs.lines_from.Goals as goal
 
 pub loop-k-init : goal.loop-k-init

@@ -1,5 +1,5 @@
 -- `labels::label_line` meets its contract. The answer is what is left to find from the entry p on, which only falls. Assumes nothing.
-use Prim.Native.Nat.{◌≤◌, ◌-◌}
+use Prim.Native.Nat.{◌≤◌}
 use mathlib.Core.Path.{◌≡◌}
 use lib.ListN.{length}
 use Rattle.definitions.specs.FlowGraph.{label_line}

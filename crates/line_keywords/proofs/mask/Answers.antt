@@ -1,4 +1,3 @@
-use Prim.Native.Nat.{◌-◌}
 use Rattle.line_keywords.proofs.Filling.{masking}
 use borrow.Author.Rules.{rules}
 use Rattle.line_keywords.proofs.mask.Goals as goal

@@ -1,4 +1,3 @@
-use Prim.Native.Nat.{◌-◌}
 use Rattle.line_keywords.proofs.Filling.{filling}
 use borrow.Author.Rules.{rules}
 use Rattle.line_keywords.proofs.masks.Goals as goal

@@ -1,4 +1,3 @@
-use Prim.Native.Nat.{◌-◌}
 use Rattle.numbering.proofs.LineRules.{line_rules}
 use borrow.Author.Rules.{rules}
 use Rattle.numbering.proofs.number_defs.Goals as goal

@@ -1,5 +1,4 @@
 use borrow.Author.Rules.{rules}
-use Prim.Native.Nat.{◌-◌}
 use Rattle.questions.proofs.Asked.{asked}
 use Rattle.questions.proofs.are_kinds.Goals as goal
 

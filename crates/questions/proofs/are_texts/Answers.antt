@@ -1,4 +1,3 @@
-use Prim.Native.Nat.{◌-◌}
 use borrow.Author.Rules.{rules}
 use Rattle.text.proofs.Loops.{loops}
 use Rattle.questions.proofs.Asked.{asked}

@@ -1,4 +1,3 @@
-use Prim.Native.Nat.{◌-◌}
 use borrow.Author.Rules.{rules}
 use Rattle.questions.proofs.Ascii.{bounds}
 use Rattle.questions.proofs.bound.Goals as goal

@@ -1,5 +1,4 @@
 use borrow.Author.Rules.{rules}
-use Prim.Native.Nat.{◌-◌}
 use Rattle.questions.proofs.Asked.{asked, rising_next}
 use Rattle.questions.proofs.never_falls.Goals as goal
 

@@ -1,4 +1,3 @@
-use Prim.Native.Nat.{◌-◌}
 use mathlib.Core.Path.{◌∙◌, refl}
 use Rattle.append_pieces.proofs.Runs.{left_start, run_goes, run_ends}
 use Rattle.append_pieces.proofs.conditions.add_run.Goals as goal

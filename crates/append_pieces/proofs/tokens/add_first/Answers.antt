@@ -1,6 +1,5 @@
 use Rattle.definitions.specs.Model.{line}
 use Rattle.definitions.specs.Columns.{listing}
-use Prim.Native.Nat.{◌-◌}
 use mathlib.Core.Path.{◌∙◌, refl}
 use Rattle.append_pieces.proofs.Runs.{left_start}
 use Rattle.append_pieces.proofs.Lines.{line_goes, line_ends}

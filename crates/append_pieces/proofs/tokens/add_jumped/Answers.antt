@@ -1,6 +1,5 @@
 -- `append_pieces::tokens::add_jumped` meets its contract. Three pieces.
 -- Assumes nothing.
-use mathlib.Core.Path.{◌∙◌}
 use Rattle.definitions.specs.Columns.{listing}
 use Rattle.definitions.specs.Model.{line}
 use Rattle.append.proofs.Appends.{adds_as, adds_more}

@@ -2,7 +2,6 @@ use Rattle.dot.proofs.EdgeRules.{edges_are}
 use Rattle.dot.proofs.Runs.{going_end}
 use Rattle.rows.proofs.RowRules.{going_start, going_next}
 use native.Mathlib.Omega.{arith}
-use Prim.Native.Nat.{◌-◌}
 use borrow.Author.Rules.{rules}
 use Rattle.dot.proofs.edges.put_edges.Goals as goal
 

@@ -2,7 +2,6 @@ use Rattle.dot.proofs.LabelRules.{blanks_are}
 use Rattle.dot.proofs.Runs.{going_end}
 use Rattle.rows.proofs.RowRules.{going_start, going_next}
 use native.Mathlib.Omega.{arith}
-use Prim.Native.Nat.{◌-◌}
 use borrow.Author.Rules.{rules}
 use Rattle.dot.proofs.node_labels.put_blanks.Goals as goal
 

@@ -1,7 +1,6 @@
 use Rattle.dot.proofs.NodeRules.{tokens_end}
 use Rattle.rows.proofs.RowRules.{going_start, going_next}
 use native.Mathlib.Omega.{arith}
-use Prim.Native.Nat.{◌-◌}
 use borrow.Author.Rules.{rules}
 use Rattle.dot.proofs.nodes.put_tokens.Goals as goal
 

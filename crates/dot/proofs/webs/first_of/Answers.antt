@@ -1,5 +1,4 @@
 use Rattle.dot.proofs.WebRules.{family_is, finding_start, finding_found, finding_next, finding_end}
-use Prim.Native.Nat.{◌-◌}
 use borrow.Author.Rules.{rules}
 use Rattle.dot.proofs.webs.first_of.Goals as goal
 

@@ -1,6 +1,5 @@
 use Rattle.dot.proofs.WebRules.{ranking_start, ranking_next, ranking_end}
 use native.Mathlib.Omega.{arith}
-use Prim.Native.Nat.{◌-◌}
 use borrow.Author.Rules.{rules}
 use Rattle.dot.proofs.webs.rank.Goals as goal
 

@@ -1,6 +1,5 @@
 use Rattle.dot.proofs.WidthRules.{summing_start, summing_next, summing_end, summing_most}
 use Rattle.dot.proofs.WidthRules.{summing_start, summing_next, summing_end}
-use Prim.Native.Nat.{◌-◌}
 use borrow.Author.Rules.{rules}
 use Rattle.dot.proofs.widths.tokens_cells.Goals as goal
 

@@ -1,5 +1,4 @@
 use Rattle.dot.proofs.WidthRules.{measuring_start, measuring_next, measuring_end}
-use Prim.Native.Nat.{◌-◌}
 use borrow.Author.Rules.{rules}
 use Rattle.dot.proofs.widths.widest.Goals as goal
 

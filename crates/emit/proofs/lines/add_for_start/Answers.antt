@@ -2,7 +2,7 @@
 -- Assumes nothing.
 use Rattle.append.proofs.Appends.{adds_four}
 use Rattle.definitions.specs.Columns.{listing}
-use mathlib.Core.Path.{ap, ◌∙◌}
+use mathlib.Core.Path.{ap}
 use Rattle.append.proofs.Appends.{adds_as}
 use Rattle.pieces.specs.Pieces.{piece}
 use Rattle.append_pieces.specs.Dressed.{dressed}

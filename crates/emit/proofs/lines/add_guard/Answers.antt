@@ -1,7 +1,6 @@
 -- `emit::lines::add_guard` meets its contract. Four pieces.
 -- Assumes nothing.
 use Rattle.append.proofs.Appends.{adds_four}
-use mathlib.Core.Path.{◌∙◌}
 use Rattle.emit.proofs.lines.add_guard.Goals as goal
 
 pub returns : goal.returns

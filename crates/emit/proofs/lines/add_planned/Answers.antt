@@ -2,7 +2,6 @@
 -- Assumes nothing.
 use Rattle.definitions.specs.Columns.{listing}
 use Rattle.emit.proofs.Planned.{begins_piece, begins_guard, begins_while, begins_for}
-use mathlib.Core.Path.{◌∙◌}
 use Rattle.emit.proofs.lines.add_planned.Goals as goal
 
 pub returns-then-h-eq0 : goal.returns-then-h-eq0

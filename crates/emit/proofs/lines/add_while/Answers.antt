@@ -1,7 +1,6 @@
 -- `emit::lines::add_while` meets its contract. Four pieces.
 -- Assumes nothing.
 use Rattle.append.proofs.Appends.{adds_four}
-use mathlib.Core.Path.{◌∙◌}
 use Rattle.emit.proofs.lines.add_while.Goals as goal
 
 pub add_test-f-requires : goal.add_test-f-requires

@@ -1,5 +1,4 @@
 use mathlib.Core.Path.{◌∙◌, refl}
-use Prim.Native.Nat.{◌-◌}
 use native.Mathlib.Omega.{arith}
 use Rattle.emit.proofs.Planned.{word_sound, emitted_next, emitted_end}
 use Rattle.emit.proofs.lines.emit.Goals as goal

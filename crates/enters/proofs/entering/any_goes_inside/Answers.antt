@@ -1,4 +1,3 @@
-use Prim.Native.Nat.{◌-◌}
 use Rattle.enters.proofs.MarkRules.{loud}
 use Rattle.enters.proofs.EnterRules.{scans}
 use borrow.Author.Rules.{rules}

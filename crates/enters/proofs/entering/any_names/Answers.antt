@@ -1,5 +1,4 @@
 use Rattle.enters.proofs.EnterRules.{scans}
-use Prim.Native.Nat.{◌-◌}
 use borrow.Author.Rules.{rules}
 use Rattle.enters.proofs.entering.any_names.Goals as goal
 

@@ -1,5 +1,4 @@
 use Rattle.enters.proofs.EnterRules.{lists}
-use Prim.Native.Nat.{◌-◌}
 use borrow.Author.Rules.{rules}
 use Rattle.enters.proofs.labels.list_labels.Goals as goal
 

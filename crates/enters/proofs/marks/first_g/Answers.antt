@@ -1,4 +1,3 @@
-use Prim.Native.Nat.{◌-◌}
 use Rattle.pseudo_opt.proofs.Passes.{seeks}
 use borrow.Author.Rules.{rules}
 use Rattle.enters.proofs.marks.first_g.Goals as goal

@@ -1,4 +1,3 @@
-use Prim.Native.Nat.{◌-◌}
 use Rattle.enters.proofs.MarkRules.{markings}
 use borrow.Author.Rules.{rules}
 use Rattle.enters.proofs.marks.mark_lines.Goals as goal

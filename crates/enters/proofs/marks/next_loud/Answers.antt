@@ -1,4 +1,3 @@
-use Prim.Native.Nat.{◌-◌}
 use Rattle.enters.proofs.MarkRules.{passings}
 use borrow.Author.Rules.{rules}
 use Rattle.enters.proofs.marks.next_loud.Goals as goal

@@ -1,4 +1,3 @@
-use Prim.Native.Nat.{◌-◌}
 use borrow.Author.Rules.{rules}
 use Rattle.goto_for.proofs.WordRules.{test_names}
 use Rattle.goto_for.proofs.conditions.test_names.Goals as goal

@@ -1,4 +1,3 @@
-use Prim.Native.Nat.{◌-◌}
 use Rattle.goto_for.proofs.WordRules.{continue_words}
 use borrow.Author.Rules.{rules}
 use Rattle.goto_for.proofs.ends.continues.Goals as goal

@@ -1,4 +1,3 @@
-use Prim.Native.Nat.{◌-◌}
 use Rattle.goto_for.proofs.WordRules.{end_words}
 use borrow.Author.Rules.{rules}
 use Rattle.goto_for.proofs.ends.first_end.Goals as goal

@@ -1,5 +1,4 @@
 use Rattle.goto_targets.proofs.SeekRules.{tests}
-use Prim.Native.Nat.{◌-◌}
 use borrow.Author.Rules.{rules}
 use Rattle.goto_targets.proofs.seeking.seek_test.Goals as goal
 

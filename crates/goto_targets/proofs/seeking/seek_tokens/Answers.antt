@@ -1,5 +1,4 @@
 use Rattle.goto_targets.proofs.SeekRules.{runs}
-use Prim.Native.Nat.{◌-◌}
 use borrow.Author.Rules.{rules}
 use Rattle.goto_targets.proofs.seeking.seek_tokens.Goals as goal
 

@@ -1,7 +1,5 @@
 use Rattle.goto_turns.proofs.Passing.{running_start, running_goes, running_overflows, running_ends, emitted_ends}
 use native.Mathlib.Omega.{arith}
-use mathlib.Core.Path.{◌∙◌}
-use Prim.Native.Nat.{◌-◌}
 use Rattle.goto_turns.proofs.turns.run.Goals as goal
 
 pub start-requires : goal.start-requires

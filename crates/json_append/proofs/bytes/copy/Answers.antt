@@ -1,6 +1,5 @@
 use borrow.Author.Rules.{rules}
 use Rattle.write.proofs.Words.{copied_start, copied_next, copied_end}
-use Prim.Native.Nat.{◌-◌}
 use lib.ListN.{take, length-set}
 use native.Mathlib.Omega.{arith}
 use Rattle.json_append.proofs.bytes.copy.Goals as goal

@@ -1,6 +1,5 @@
 use Rattle.json_append.proofs.StringRules.{strings}
 use borrow.Author.Rules.{rules}
-use Prim.Native.Nat.{◌-◌}
 use Rattle.json_append.proofs.strings.plain_end.Goals as goal
 
 pub loop-j-init : goal.loop-j-init

@@ -1,6 +1,5 @@
 use Rattle.json_append.proofs.StringRules.{strings, going_start, going_next}
 use borrow.Author.Rules.{rules}
-use Prim.Native.Nat.{◌-◌}
 use native.Mathlib.Omega.{arith}
 use Rattle.json_append.proofs.strings.put_characters.Goals as goal
 

@@ -1,7 +1,6 @@
 use Rattle.json_lines.proofs.TokenRules.{tokens}
 use borrow.Author.Rules.{rules}
 use Rattle.json_lines.specs.InColumns.{tokens_read}
-use Prim.Native.Nat.{◌-◌}
 use Rattle.json_lines.proofs.tokens.tokens_from.Goals as goal
 
 pub loop-n-init : goal.loop-n-init

@@ -1,6 +1,6 @@
 -- `json_lines::tokens::tokens_from` meets its contract. The columns hold the tokens that are read so far, and what is left at i decides.
 -- Assumes nothing.
-use Rattle.json_lines.proofs.TokenRules.{tokens, Going}
+use Rattle.json_lines.proofs.TokenRules.{Going}
 use Prim.Native.Nat.{◌-◌}
 use lib.ListN.{length}
 use Rattle.json_lines.proofs.tokens.tokens_from.Given as goal

@@ -1,6 +1,5 @@
 use Rattle.json_strings.proofs.StringRules.{texts}
 use borrow.Author.Rules.{rules}
-use Prim.Native.Nat.{◌-◌}
 use Rattle.json_strings.proofs.strings.characters.Goals as goal
 
 pub loop-i-init : goal.loop-i-init

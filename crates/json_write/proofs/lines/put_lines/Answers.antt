@@ -2,7 +2,6 @@ use Rattle.json_write.proofs.ElementRules.{elements_start, elements_next, elemen
 use Rattle.json_write.proofs.LineRules.{length_lines, lines_part}
 use native.Mathlib.Omega.{arith}
 use Rattle.json_write.specs.Answers.{lines_of}
-use Prim.Native.Nat.{◌-◌}
 use Rattle.json_write.proofs.lines.put_lines.Goals as goal
 
 pub loop-i-init : goal.loop-i-init

@@ -3,7 +3,6 @@ use borrow.Author.Rules.{rules}
 use native.Mathlib.Omega.{arith}
 use Rattle.model.proofs.Decode.{length_tokens}
 use Rattle.definitions.specs.Columns.{token_list}
-use Prim.Native.Nat.{◌-◌}
 use Rattle.json_write.proofs.tokens.put_tokens.Goals as goal
 
 pub loop-k-init : goal.loop-k-init

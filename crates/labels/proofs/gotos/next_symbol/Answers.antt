@@ -1,4 +1,3 @@
-use Prim.Native.Nat.{◌-◌}
 use borrow.Author.Rules.{rules}
 use Rattle.labels.proofs.Leads.{seeking}
 use Rattle.labels.proofs.gotos.next_symbol.Goals as goal

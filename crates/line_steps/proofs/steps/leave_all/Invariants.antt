@@ -1,5 +1,5 @@
 -- `line_steps::steps::leave_all` meets its contract. The blocks from the entry p outwards are left to draw. Assumes nothing.
-use Prim.Native.Nat.{◌-◌, ◌≤◌}
+use Prim.Native.Nat.{◌≤◌}
 use mathlib.Core.Path.{◌≡◌}
 use lib.ListN.{length, get_or}
 use Rattle.definitions.specs.Columns.{listing}

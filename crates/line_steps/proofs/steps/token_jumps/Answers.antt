@@ -1,4 +1,3 @@
-use Prim.Native.Nat.{◌-◌}
 use mathlib.Core.Bool.{false≢true}
 use borrow.Author.Rules.{rules}
 use Rattle.line_steps.proofs.Edges.{jumping}

@@ -1,4 +1,3 @@
-use Prim.Native.Nat.{◌-◌}
 use Rattle.loops.proofs.WordRules.{continue_words}
 use borrow.Author.Rules.{rules}
 use Rattle.loops.proofs.for_loops.continues.Goals as goal

@@ -1,4 +1,3 @@
-use Prim.Native.Nat.{◌-◌}
 use Rattle.text.proofs.Loops.{loops}
 use borrow.Author.Rules.{rules}
 use Rattle.loops.proofs.for_loops.rest_names.Goals as goal

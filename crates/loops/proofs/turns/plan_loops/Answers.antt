@@ -1,7 +1,5 @@
 use Rattle.loops.proofs.Passing.{running_start, running_goes, running_stops, running_overflows, running_ends, emitted_stops, emitted_ends}
 use native.Mathlib.Omega.{arith}
-use mathlib.Core.Path.{◌∙◌}
-use Prim.Native.Nat.{◌-◌}
 use Rattle.loops.proofs.turns.plan_loops.Goals as goal
 
 pub start-requires : goal.start-requires

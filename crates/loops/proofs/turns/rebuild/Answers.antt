@@ -2,7 +2,6 @@
 -- Assumes nothing.
 use Rattle.loops.proofs.TurnRules.{ready_header, rebuild_calls, rebuilt_go, rebuilt_beyond}
 use native.Mathlib.Omega.{arith}
-use mathlib.Core.Path.{◌∙◌}
 use Rattle.loops.proofs.turns.rebuild.Goals as goal
 
 pub unwrap-requires : goal.unwrap-requires

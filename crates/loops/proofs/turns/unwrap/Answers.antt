@@ -3,7 +3,6 @@
 use Rattle.loops.proofs.Unwrapped.{words_tests, words_moved}
 use native.Mathlib.Omega.{arith}
 use lib.ListN.{length-set}
-use mathlib.Core.Path.{◌∙◌}
 use Rattle.loops.proofs.turns.unwrap.Goals as goal
 
 pub overflow_add-plan : goal.overflow_add-plan

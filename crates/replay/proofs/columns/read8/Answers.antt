@@ -1,4 +1,3 @@
-use Prim.Native.Nat.{◌-◌}
 use borrow.Author.Rules.{rules}
 use Rattle.replay.proofs.Ahead.{onward}
 use Rattle.replay.proofs.columns.read8.Goals as goal

@@ -1,4 +1,3 @@
-use Prim.Native.Nat.{◌-◌}
 use borrow.Author.Rules.{rules}
 use Rattle.replay.proofs.Digits.{number_rules}
 use Rattle.replay.proofs.decimal.skip.Goals as goal

@@ -1,4 +1,3 @@
-use Prim.Native.Nat.{◌-◌}
 use Rattle.walks.proofs.Taken.{taken_rules, untaken_found, untaken_end}
 use borrow.Author.Rules.{rules}
 use Rattle.walks.proofs.reads.lines_take.Goals as goal

@@ -1,5 +1,4 @@
 use mathlib.Core.Path.{◌∙◌}
-use Prim.Native.Nat.{◌-◌}
 use Rattle.walks.proofs.Seen.{seen_rules, seen_line, list_next}
 use native.Mathlib.Omega.{arith}
 use borrow.Author.Rules.{rules}

@@ -1,4 +1,3 @@
-use Prim.Native.Nat.{◌-◌}
 use Rattle.walks.proofs.WriteRules.{write_rules}
 use borrow.Author.Rules.{rules}
 use Rattle.walks.proofs.writing.write_tokens.Goals as goal

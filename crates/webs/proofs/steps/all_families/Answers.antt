@@ -1,5 +1,4 @@
 use mathlib.Core.Path.{refl, ◌∙◌}
-use Prim.Native.Nat.{◌-◌}
 use native.Mathlib.Omega.{arith}
 use Rattle.webs.proofs.StepRules.{scratch_still}
 use Rattle.webs.proofs.Totals.{going_start, going_next, going_over, going_end}
