@@ -1,6 +1,6 @@
 -- Rules for the needs of the strings.
 --   and_not_no, and_not_go                   the test of a byte
---   plain_start, plain_next, plain_stop      the loop over bytes that are written as they stand
+--   plain_start, plain_next                  the loop over bytes that are written as they stand
 --   Going                                    the loop over runs: `done` is written, and with what is left at i it is the whole
 --   going_start, going_run, going_next, going_end
 -- Assumes nothing.

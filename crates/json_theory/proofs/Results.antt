@@ -1,7 +1,7 @@
 -- What an answer of a parser came from.
 --   never, same_got            nothing is no answer; equal answers
 --   after_some, or_some        the answer of one parser after another, of one or the other
---   either, rest_cond          the answer of a choice
+--   either                     the answer of a choice
 --   rest_of                    the rest of a given answer
 -- Assumes nothing.
 use Prim.Native.Nat.{ℕ}

@@ -1,6 +1,5 @@
 -- Rules for the functions over a name's hash.
 --   square_small, square_fits, product_small    the products fit
---   factor_is, mix_is               `factor`, `mix`
 --   hash_next, hash_rest, hash_end  the loop of `hashed`
 --   hash_is                         `hash`
 --   hash_three                      the hash of three bytes

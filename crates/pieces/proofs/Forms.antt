@@ -1,5 +1,5 @@
 -- What a piece reads, by its form, as rules for `search`.
---   before_cut            what stands before the first goto
+--   place_before          what stands before the first goto
 --   kept_piece, continued_piece, broken_piece, closed_piece    the tokens of a piece
 --   label_kept, label_other           labels
 --   target_kept, target_other         goto targets

@@ -2,7 +2,7 @@
 --   refused_printed                a refusal has room
 --   webs_accepted, webs_refused    the web call's answers
 --   read_accepted, read_refused    the reader's
---   program_long, program_read     an input that is too long, and one that is read
+--   program_long                   an input that is too long
 -- Assumes nothing.
 use Prim.Native.Nat.{ℕ, ◌≤◌, ◌<◌}
 use mathlib.Core.Path.{◌≡◌}
