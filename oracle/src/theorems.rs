@@ -12,7 +12,7 @@ use crate::pseudo::PseudoLine;
 /// What a file of theorems starts with.
 pub const HEAD: &str = "\
 use Rattle.std.specs.Prelude.{◌≡◌, refl, List, [], ◌∷◌}
-use Rattle.std.proofs.Math.Option.{none, some}
+use Rattle.std.specs.Prelude.{None, Some}
 use Rattle.definitions.specs.Lists.{ascii}
 use Rattle.definitions.specs.Model.{Line, tok, pseudo_line}
 use Rattle.definitions.specs.Computed.{answer, loops_call, goto_loops_call, webs_call, splits_call, choose_call, refused, rewritten, by_webs, by_splits}
@@ -21,7 +21,7 @@ use Rattle.definitions.specs.Computed.{answer, loops_call, goto_loops_call, webs
 /// What a file of theorems about JSON starts with.
 pub const JSON_HEAD: &str = "\
 use Rattle.std.specs.Prelude.{◌≡◌, refl, List, [], ◌∷◌}
-use Rattle.std.proofs.Math.Option.{none, some}
+use Rattle.std.specs.Prelude.{None, Some}
 use Rattle.definitions.specs.Lists.{ascii}
 use Rattle.definitions.specs.Model.{tok, pseudo_line}
 use Rattle.json_definitions.specs.Rows.{read_computed, write_computed}
@@ -35,7 +35,7 @@ const COPIES: usize = 5;
 pub fn of_text(number: usize, text: &[u8]) -> String {
     let mut out = String::new();
     for (k, copy) in json::copies(text, COPIES).enumerate() {
-        let result = json::read(&copy).map_or("none".to_string(), |lines| format!("some ({})", lines_term(&lines)));
+        let result = json::read(&copy).map_or("None".to_string(), |lines| format!("Some ({})", lines_term(&lines)));
         let _ = write!(out, "\nread_{number}_{k} : read_computed {} ≡ {result}\nunfolding read_computed\nread_{number}_{k} = refl\n", bytes_term(&copy));
     }
     if let Ok(lines) = json::read(text) {
@@ -85,7 +85,7 @@ fn lines_term(lines: &[PseudoLine]) -> String {
 }
 
 fn line_term(l: &PseudoLine) -> String {
-    let address = l.address.map_or("none".to_string(), |a| format!("(some {a})"));
+    let address = l.address.map_or("None".to_string(), |a| format!("(Some {a})"));
     format!("pseudo_line {address} {} {}", l.indent, list(&l.tokens, token_term))
 }
 

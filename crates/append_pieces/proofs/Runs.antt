@@ -4,6 +4,7 @@
 --   condition_nothing, condition_run, condition_inside, cut_added    what they are
 --   run_goes, run_ends                       the loop over them
 -- Assumes nothing.
+use Rattle.std.specs.Prelude.{Option, Some, None}
 use mathlib.Core.Path.{◌≡◌, sym, ap, subst, ◌∙◌}
 use mathlib.Core.Bool.{Bool}
 use mathlib.Core.List.{List, [], ◌∷◌, ◌++◌}
@@ -15,8 +16,7 @@ use Rattle.definitions.specs.Model.{Token, Line, tok, token}
 use Rattle.definitions.specs.Condition.{condition}
 use Rattle.definitions.specs.Calls.{Columns}
 use Rattle.condition.specs.Conditions.{conditional}
-use Rattle.condition.specs.declared.Conditional.{Conditional}
-use Rattle.condition.specs.declared.Conditional.TheVariants.{Cut, Nothing}
+use Rattle.condition.specs.declared.Cut.{Cut}
 use Rattle.pseudo_types.specs.Cuts.{cut_token, cut_run, Bounds, Within}
 use Rattle.pseudo_types.proofs.CutRuns.{cut_is_run, run_first, run_end}
 use Rattle.write.specs.declared.Cursor.{Cursor}
@@ -48,18 +48,18 @@ module _ (l : Line) (k n j : ℕ) where
   run_none h = ap whole (run_end l k n j h)
 
 -- The condition of a line
-module _ (l : Line) (a : Conditional) (p : conditional l a ≡ condition l (ascii "if")) where
-  pub condition_nothing : a ≡ Nothing → or_else (condition l (ascii "if")) [] ≡ []
+module _ (l : Line) (a : Option Cut) (p : conditional l a ≡ condition l (ascii "if")) where
+  pub condition_nothing : a ≡ None → or_else (condition l (ascii "if")) [] ≡ []
   condition_nothing e = rw (← p, e)
 
-  module _ (k n : ℕ) (e : a ≡ Cut k n) (w : Within l a) where
-    bounds : Bounds l k n
+  module _ (u : Cut) (e : a ≡ Some u) (w : Within l a) where
+    bounds : Bounds l u.keyword u.end
     bounds = subst (Within l) e w
 
-    pub condition_run : whole (cut_run l k n (k + 1)) ≡ or_else (condition l (ascii "if")) []
-    condition_run = sym (cut_is_run l k n bounds.opened) ∙ rw (← p, e)
+    pub condition_run : whole (cut_run l u.keyword u.end (u.keyword + 1)) ≡ or_else (condition l (ascii "if")) []
+    condition_run = sym (cut_is_run l u.keyword u.end bounds.opened) ∙ rw (← p, e)
 
-    pub condition_inside : (m : ℕ) → m ≡ length l.tokens → m ≤ k → ⊥
+    pub condition_inside : (m : ℕ) → m ≡ length l.tokens → m ≤ u.keyword → ⊥
     condition_inside m c h = let b = bounds.opened in omega arith
 
 pub cut_added : (l : Line) (k n j z : ℕ) (s : List ℕ) → s ≡ (cut_token l k n j).text → z ≡ (token l j).kind → whole (tok s z ∷ []) ≡ whole (cut_token l k n j ∷ [])

@@ -7,11 +7,10 @@
 --   closed_of                                     does the last token end with `;`?
 --   assigned_none, assigned_open, assigned_empty, assigned_is      the assignment
 -- Assumes nothing.
-use Rattle.std.specs.Prelude.{if◌then◌else◌}
+use Rattle.std.specs.Prelude.{if◌then◌else◌, None, Some}
 use mathlib.Core.Path.{◌≡◌, sym, ◌∙◌}
 use mathlib.Core.Bool.{Bool, true, false}
 use mathlib.Core.List.{List, []}
-use mathlib.Core.Option.{none, some}
 use Prim.Native.Nat.{ℕ, ◌+◌, ◌-◌, ◌≤◌, ◌<◌}
 use native.Mathlib.Decide.{dec_lt}
 use native.Mathlib.Omega.{arith}
@@ -77,18 +76,18 @@ module _ (l : Line) (n : ℕ) (c : n ≡ length l.tokens) where
   two_yes h = rw (← c) (sym (le-leb 2 n h))
 
 module _ (l : Line) (b : Bool) (p : b ≡ assigns l) where
-  pub assigned_none : b ≡ false → none ≡ assignment l
+  pub assigned_none : b ≡ false → None ≡ assignment l
   assigned_none f = assignment_none l (sym p ∙ f)
 
   module _ (f : b ≡ true) (d : Bool) (q : d ≡ is_closed l) where
-    pub assigned_open : d ≡ false → none ≡ assignment l
+    pub assigned_open : d ≡ false → None ≡ assignment l
     assigned_open g = assignment_open l (sym p ∙ f) (sym q ∙ g)
 
     module _ (g : d ≡ true) (a e : ℕ) (i : a ≡ expr_from l) (j : e ≡ expr_to l) where
-      pub assigned_is : a < e → some (record { lhs = token l 0; expr = side l a e }) ≡ assignment l
+      pub assigned_is : a < e → Some (record { lhs = token l 0; expr = side l a e }) ≡ assignment l
       assigned_is h = rw (i, j) (assignment_is l (sym p ∙ f) (sym q ∙ g) (omega arith))
 
-      pub assigned_empty : e ≤ a → none ≡ assignment l
+      pub assigned_empty : e ≤ a → None ≡ assignment l
       assigned_empty h = assignment_empty l (sym p ∙ f) (sym q ∙ g) (omega arith)
 
 pub ruleset sides = (back_last, back_inner, back_past, expr_cut, blank_is, to_last, to_count, closed_of, two_no, two_yes, assigned_none, assigned_open, assigned_is, assigned_empty)

@@ -3,10 +3,11 @@
 --   side_found, side_next, side_end       the loop of `side_names`
 --   defines_other, defines_none, defines_no, defines_reads, defines_is    the family that a line defines
 -- Assumes nothing.
+use Rattle.std.specs.Prelude.{Option, None, Some}
+use Rattle.std.specs.Option.{option_map}
 use mathlib.Core.Path.{◌≡◌, refl, sym, ◌∙◌}
 use mathlib.Core.Bool.{Bool, true, false, ◌&&◌, ◌||◌, not, and-false}
 use mathlib.Core.List.{List}
-use mathlib.Core.Option.{Option, none, some, map}
 use Prim.Native.Nat.{ℕ, ◌+◌, ◌≤◌, ◌<◌}
 use borrow.Author.Tests.{ne_eqb}
 use lib.Dec.{leb}
@@ -19,8 +20,7 @@ use Rattle.family.specs.Register.{family_of, names_family}
 use Rattle.family.specs.declared.Register.{Register}
 use Rattle.assignment.specs.Assignments.{expr_token, side, assigns, assigned}
 use Rattle.assignment.specs.Definitions.{may_define}
-use Rattle.assignment.specs.declared.Assigned.{Assigned}
-use Rattle.assignment.specs.declared.Assigned.TheVariants.{Side, Nothing}
+use Rattle.assignment.specs.declared.Side.{Side}
 use Rattle.assignment.proofs.Sides.{side_none, side_first, assignment_none}
 
 pub expr_names_at : (l : Line) (n k : ℕ) (s : List ℕ) (o : Option Family) (y : Bool) → n ≡ (token l k).kind → s ≡ (expr_token l k).text
@@ -29,7 +29,7 @@ unfolding expr_token
 expr_names_at l n k s o y d q e = rw (q, d) at e
 
 -- a token of another kind than a register has no family
-no_family : (u : Token) (n : ℕ) → n ≡ u.kind → (n ≡ 1 → ⊥) → fam_of u ≡ none
+no_family : (u : Token) (n : ℕ) → n ≡ u.kind → (n ≡ 1 → ⊥) → fam_of u ≡ None
 unfolding fam_of
 no_family u n d h = rw (← d, ne_eqb n 1 h)
 
@@ -39,8 +39,8 @@ expr_kind l k = refl
 
 pub expr_names_other : (l : Line) (n k : ℕ) (o : Option Family) → n ≡ (token l k).kind → (n ≡ 1 → ⊥) → false ≡ names_family o (expr_token l k)
 unfolding names
-expr_names_other l n k none d h = refl
-expr_names_other l n k (some f) d h = rw (no_family (expr_token l k) n (d ∙ expr_kind l k) h, names)
+expr_names_other l n k None d h = refl
+expr_names_other l n k (Some f) d h = rw (no_family (expr_token l k) n (d ∙ expr_kind l k) h, names)
 
 -- The right side
 
@@ -64,53 +64,53 @@ module _ (p : Token → Bool) (l : Line) (a e k : ℕ) (inv : any p (side l a e)
 
 -- what is asked of the family of an assigned register
 test : Family → List Token → Option (List ℕ)
-test f ts = require (leb 32 f.width && not (is_var f.name) && not (any (names f.name) ts)) >>= λ _. some f.name
+test f ts = require (leb 32 f.width && not (is_var f.name) && not (any (names f.name) ts)) >>= λ _. Some f.name
 
-pub defines_other : (l : Line) (n : ℕ) → n ≡ (token l 0).kind → (n ≡ 1 → ⊥) → none ≡ defines l
+pub defines_other : (l : Line) (n : ℕ) → n ≡ (token l 0).kind → (n ≡ 1 → ⊥) → None ≡ defines l
 unfolding defines assigns
 defines_other l n d h = rw (← assignment_none l (rw (← d, ne_eqb n 1 h) (and-false (leb 2 (length l.tokens)))))
 
-module _ (l : Line) (a : Assigned) (e : assigned l a ≡ assignment l) where
-  pub defines_none : a ≡ Nothing → none ≡ defines l
+module _ (l : Line) (a : Option Side) (e : assigned l a ≡ assignment l) where
+  pub defines_none : a ≡ None → None ≡ defines l
   unfolding defines
   defines_none q = rw (← e, q)
 
-  module _ (i j : ℕ) (q : a ≡ Side i j) (r : Register) (d : family_of (token l 0).text r ≡ fam_of (token l 0)) where
-    defines_step : defines l ≡ (family_of (token l 0).text r >>= λ f. test f (side l i j))
+  module _ (u : Side) (q : a ≡ Some u) (r : Register) (d : family_of (token l 0).text r ≡ fam_of (token l 0)) where
+    defines_step : defines l ≡ (family_of (token l 0).text r >>= λ f. test f (side l u.from u.to))
     unfolding defines test
     defines_step = rw (← e, q, d)
 
-    module _ (s : List ℕ) (u : s ≡ (token l 0).text) (b : Bool) (p : b ≡ may_define (family_of s r)) where
+    module _ (s : List ℕ) (us : s ≡ (token l 0).text) (b : Bool) (p : b ≡ may_define (family_of s r)) where
       may : b ≡ may_define (family_of (token l 0).text r)
-      may = p ∙ rw u
+      may = p ∙ rw us
 
-      pub defines_no : b ≡ false → none ≡ defines l
+      pub defines_no : b ≡ false → None ≡ defines l
       unfolding test
       defines_no g = sym (defines_step ∙ go (family_of (token l 0).text r) (sym may ∙ g))
         where
-          go : (o : Option Family) → may_define o ≡ false → (o >>= λ f. test f (side l i j)) ≡ none
-          go none h = refl
-          go (some f) h = rw h
+          go : (o : Option Family) → may_define o ≡ false → (o >>= λ f. test f (side l u.from u.to)) ≡ None
+          go None h = refl
+          go (Some f) h = rw h
 
-      module _ (g : b ≡ true) (c : Bool) (v : c ≡ any (names_family (family_of s r)) (side l i j)) where
-        reads : c ≡ any (names_family (family_of (token l 0).text r)) (side l i j)
-        reads = v ∙ rw u
+      module _ (g : b ≡ true) (c : Bool) (v : c ≡ any (names_family (family_of s r)) (side l u.from u.to)) where
+        reads : c ≡ any (names_family (family_of (token l 0).text r)) (side l u.from u.to)
+        reads = v ∙ rw us
 
-        pub defines_reads : c ≡ true → none ≡ defines l
+        pub defines_reads : c ≡ true → None ≡ defines l
         unfolding test
         defines_reads h = sym (defines_step ∙ go (family_of (token l 0).text r) (sym may ∙ g) (sym reads ∙ h))
           where
-            go : (o : Option Family) → may_define o ≡ true → any (names_family o) (side l i j) ≡ true → (o >>= λ f. test f (side l i j)) ≡ none
-            go none m n = refl
-            go (some f) m n = rw (m, n)
+            go : (o : Option Family) → may_define o ≡ true → any (names_family o) (side l u.from u.to) ≡ true → (o >>= λ f. test f (side l u.from u.to)) ≡ None
+            go None m n = refl
+            go (Some f) m n = rw (m, n)
 
-        pub defines_is : c ≡ false → map (λ f. f.name) (family_of (token l 0).text r) ≡ defines l
+        pub defines_is : c ≡ false → option_map (λ f. f.name) (family_of (token l 0).text r) ≡ defines l
         unfolding test
         defines_is h = sym (defines_step ∙ go (family_of (token l 0).text r) (sym may ∙ g) (sym reads ∙ h))
           where
-            go : (o : Option Family) → may_define o ≡ true → any (names_family o) (side l i j) ≡ false
-                → (o >>= λ f. test f (side l i j)) ≡ map (λ f. f.name) o
-            go none m n = refl
-            go (some f) m n = rw (m, n)
+            go : (o : Option Family) → may_define o ≡ true → any (names_family o) (side l u.from u.to) ≡ false
+                → (o >>= λ f. test f (side l u.from u.to)) ≡ option_map (λ f. f.name) o
+            go None m n = refl
+            go (Some f) m n = rw (m, n)
 
 pub ruleset defining = (defines_other, side_found, side_next, side_end, defines_none, defines_no, defines_reads, defines_is)

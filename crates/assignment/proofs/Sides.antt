@@ -3,10 +3,10 @@
 --   assignment_none, assignment_open, assignment_empty    no assignment
 --   assignment_is                                    the assignment, by where its right side starts and ends
 -- Assumes nothing.
+use Rattle.std.specs.Prelude.{None, Some}
 use mathlib.Core.Path.{◌≡◌, refl, sym, ap, ◌∙◌}
 use mathlib.Core.Bool.{Bool, true, false, ◌&&◌, cond, false≢true}
 use mathlib.Core.List.{List, [], ◌∷◌, ◌++◌, map, append-nil, append_assoc}
-use mathlib.Core.Option.{none, some}
 use Prim.Native.Nat.{ℕ, zero, suc, ◌+◌, ◌-◌, ◌≤◌, ◌<◌}
 use native.Mathlib.Nat.{add-zero, sub-zero, add-suc, suc-add}
 use native.Mathlib.Numerals.{add-one}
@@ -80,7 +80,7 @@ module _ (l : Line) where
 
 -- The list that `assignment` cuts the `;` off
 
-last_snoc : (xs : List Token) (z : Token) → last (xs ++ (z ∷ [])) ≡ some z
+last_snoc : (xs : List Token) (z : Token) → last (xs ++ (z ∷ [])) ≡ Some z
 unfolding last
 last_snoc [] z = refl
 last_snoc (x ∷ []) z = refl
@@ -90,14 +90,14 @@ cut_semicolon : Token → Token
 cut_semicolon z = tok (take (length z.text - 1) z.text) z.kind
 
 without_snoc : (xs : List Token) (z : Token) → ends_with (ascii ";") z.text ≡ true
-    → without_semicolon (xs ++ (z ∷ [])) ≡ some (xs ++ unless_empty (cut_semicolon z))
+    → without_semicolon (xs ++ (z ∷ [])) ≡ Some (xs ++ unless_empty (cut_semicolon z))
 unfolding without_semicolon cut_semicolon
 without_snoc xs z e =
     let n : length (xs ++ (z ∷ [])) ≡ length xs + 1 = length-append xs (z ∷ []) in
     let k : length xs ≡ length (xs ++ (z ∷ [])) - 1 = omega arith in
     rw (last_snoc xs z, e, take_at xs (z ∷ []) (length (xs ++ (z ∷ [])) - 1) k)
 
-without_open : (xs : List Token) (z : Token) → ends_with (ascii ";") z.text ≡ false → without_semicolon (xs ++ (z ∷ [])) ≡ none
+without_open : (xs : List Token) (z : Token) → ends_with (ascii ";") z.text ≡ false → without_semicolon (xs ++ (z ∷ [])) ≡ None
 unfolding without_semicolon
 without_open xs z e = rw (last_snoc xs z, e)
 
@@ -217,65 +217,65 @@ module _ (l : Line) (start : assigns l ≡ true) where
       let g : length l.tokens ≤ 2 = omega arith in
       rw (bare k, drop_of_length-le l.tokens g)
 
-  side_closed : is_closed l ≡ true → without_semicolon (whole_side l) ≡ some (side l (expr_from l) (expr_to l))
+  side_closed : is_closed l ≡ true → without_semicolon (whole_side l) ≡ Some (side l (expr_from l) (expr_to l))
   unfolding is_closed
   side_closed c = go (dec_lt 2 (length l.tokens))
     where
-      short : length l.tokens ≡ 2 → Dec (3 < length (token l 1).text) → without_semicolon (whole_side l) ≡ some (side l (expr_from l) (expr_to l))
+      short : length l.tokens ≡ 2 → Dec (3 < length (token l 1).text) → without_semicolon (whole_side l) ≡ Some (side l (expr_from l) (expr_to l))
       short z (yes k) =
           let e : ends_with (ascii ";") (drop 3 (token l 1).text) ≡ true = ends_drop (token l 1).text k ∙ (rw z at c) in
           rw (short_side z k)
-          (without_snoc [] (tok (drop 3 (token l 1).text) Punct) e ∙ ap some (ap unless_empty (first_short l z guards.1) ∙ trimmed_short l z))
+          (without_snoc [] (tok (drop 3 (token l 1).text) Punct) e ∙ ap Some (ap unless_empty (first_short l z guards.1) ∙ trimmed_short l z))
       short z (no k) = absurd (false≢true (unfold ◌≟◌ in rw (z, bare (omega arith)) at c))
 
-      go : Dec (2 < length l.tokens) → without_semicolon (whole_side l) ≡ some (side l (expr_from l) (expr_to l))
+      go : Dec (2 < length l.tokens) → without_semicolon (whole_side l) ≡ Some (side l (expr_from l) (expr_to l))
       go (yes h) =
           rw (long_side h)
           (without_snoc (unless_empty (expr_token l 1) ++ side l 2 (length l.tokens - 1)) (token l (length l.tokens - 1)) c
-          ∙ ap some (ap (λ (t : Token). (unless_empty (expr_token l 1) ++ side l 2 (length l.tokens - 1)) ++ unless_empty t) (last_long l h) ∙ trimmed_long l h))
+          ∙ ap Some (ap (λ (t : Token). (unless_empty (expr_token l 1) ++ side l 2 (length l.tokens - 1)) ++ unless_empty t) (last_long l h) ∙ trimmed_long l h))
       go (no h) = short (omega (arith, guards.0)) (dec_lt 3 (length (token l 1).text))
 
-  side_open : is_closed l ≡ false → without_semicolon (whole_side l) ≡ none
+  side_open : is_closed l ≡ false → without_semicolon (whole_side l) ≡ None
   unfolding is_closed
   side_open c = go (dec_lt 2 (length l.tokens))
     where
-      short : length l.tokens ≡ 2 → Dec (3 < length (token l 1).text) → without_semicolon (whole_side l) ≡ none
+      short : length l.tokens ≡ 2 → Dec (3 < length (token l 1).text) → without_semicolon (whole_side l) ≡ None
       short z (yes k) =
           let e : ends_with (ascii ";") (drop 3 (token l 1).text) ≡ false = ends_drop (token l 1).text k ∙ (rw z at c) in
           rw (short_side z k) (without_open [] (tok (drop 3 (token l 1).text) Punct) e)
       short z (no k) = rw (bare_side z (omega arith)) (unfold without_semicolon last in refl)
 
-      go : Dec (2 < length l.tokens) → without_semicolon (whole_side l) ≡ none
+      go : Dec (2 < length l.tokens) → without_semicolon (whole_side l) ≡ None
       go (yes h) = rw (long_side h) (without_open (unless_empty (expr_token l 1) ++ side l 2 (length l.tokens - 1)) (token l (length l.tokens - 1)) c)
       go (no h) = short (omega (arith, guards.0)) (dec_lt 3 (length (token l 1).text))
 
   assignment_step : assignment l
-      ≡ (without_semicolon (whole_side l) >>= λ expr. require (leb 1 (length expr)) >>= λ _. some (record { lhs = token l 0; expr = expr }))
+      ≡ (without_semicolon (whole_side l) >>= λ expr. require (leb 1 (length expr)) >>= λ _. Some (record { lhs = token l 0; expr = expr }))
   unfolding assignment whole_side assigns
   assignment_step =
       let p = both (leb 2 (length l.tokens))
       (eqb (token l 0).kind Register && eqb (token l 1).kind Punct && starts_with (ascii " = ") (token l 1).text) start in
       rw (p.0, p.1)
 
-  pub assignment_open : is_closed l ≡ false → none ≡ assignment l
+  pub assignment_open : is_closed l ≡ false → None ≡ assignment l
   assignment_open c = sym (assignment_step ∙ rw (side_open c))
 
   module _ (c : is_closed l ≡ true) where
-    pub assignment_is : expr_from l < expr_to l → some (record { lhs = token l 0; expr = side l (expr_from l) (expr_to l) }) ≡ assignment l
+    pub assignment_is : expr_from l < expr_to l → Some (record { lhs = token l 0; expr = side l (expr_from l) (expr_to l) }) ≡ assignment l
     assignment_is h =
         sym (assignment_step ∙ rw (side_closed c, length_side l (expr_from l) (expr_to l), le-leb 1 (expr_to l - expr_from l) (omega arith)))
 
-    pub assignment_empty : expr_to l ≤ expr_from l → none ≡ assignment l
+    pub assignment_empty : expr_to l ≤ expr_from l → None ≡ assignment l
     assignment_empty h =
         sym (assignment_step ∙ rw (side_closed c, length_side l (expr_from l) (expr_to l), lt-leb 1 (expr_to l - expr_from l) (omega arith)))
 
-pub assignment_none : (l : Line) → assigns l ≡ false → none ≡ assignment l
+pub assignment_none : (l : Line) → assigns l ≡ false → None ≡ assignment l
 unfolding assignment assigns
 assignment_none l h = go (leb 2 (length l.tokens)) refl
   where
     rest : Bool
     rest = eqb (token l 0).kind Register && eqb (token l 1).kind Punct && starts_with (ascii " = ") (token l 1).text
 
-    go : (b : Bool) → leb 2 (length l.tokens) ≡ b → none ≡ assignment l
+    go : (b : Bool) → leb 2 (length l.tokens) ≡ b → None ≡ assignment l
     go false e = rw e
     go true e = let f : rest ≡ false = rw e at h in rw (e, f)

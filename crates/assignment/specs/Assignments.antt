@@ -7,13 +7,11 @@
 --   assigns l, is_closed l     the line starts as an assignment does; its last token ends with `;`
 --   assigned l a               the assignment
 -- Assumes nothing.
-use Rattle.std.specs.Prelude.{if◌then◌else◌, ℕ, ◌+◌, ◌-◌, Bool, ◌&&◌, List, map, eqb, leb, length}
-use Rattle.std.proofs.Math.Option.{Option, none, some}
+use Rattle.std.specs.Prelude.{if◌then◌else◌, ℕ, ◌+◌, ◌-◌, Bool, ◌&&◌, List, map, eqb, leb, length, Option, None, Some}
 use Rattle.definitions.specs.Lists.{part, range, starts_with, ends_with, ascii}
 use Rattle.definitions.specs.Model.{Token, Line, tok, token, Register, Punct}
 use Rattle.definitions.specs.Statements.{Assignment, is_empty}
-use Rattle.assignment.specs.declared.Assigned.{Assigned}
-use Rattle.assignment.specs.declared.Assigned.TheVariants.{Side, Nothing}
+use Rattle.assignment.specs.declared.Side.{Side}
 
 abbrev pub front : ℕ → ℕ
 front k = if eqb k 1 then 3 else 0
@@ -41,6 +39,6 @@ assigns l =
 unfoldable pub is_closed : Line → Bool
 is_closed l = ends_with (ascii ";") (token l (length l.tokens - 1)).text
 
-abbrev pub assigned : Line → Assigned → Option Assignment
-assigned l (Side a e) = some (record { lhs = token l 0; expr = side l a e })
-assigned l Nothing = none
+abbrev pub assigned : Line → Option Side → Option Assignment
+assigned l (Some s) = Some (record { lhs = token l 0; expr = side l s.from s.to })
+assigned l None = None

@@ -2,17 +2,16 @@
 --   may_define o    o is a family, of width 32 or more, and no `var_`
 --   defined l d     the family's name, by the answer d for line l
 -- Assumes nothing.
-use Rattle.std.specs.Prelude.{ℕ, Bool, ◌&&◌, not, List}
-use Rattle.std.proofs.Math.Option.{Option, none, map}
+use Rattle.std.specs.Option.{option_map}
+use Rattle.std.specs.Prelude.{ℕ, Bool, ◌&&◌, not, List, Option, None, Some}
 use Rattle.definitions.specs.Model.{Line, token}
 use Rattle.definitions.specs.Family.{Family}
+use Rattle.family.specs.declared.Register.{Register}
 use Rattle.family.specs.Register.{family_of, is_wide, is_var_family}
-use Rattle.assignment.specs.declared.definition.Defined.{Defined}
-use Rattle.assignment.specs.declared.definition.Defined.TheVariants.{Family as Of, Nothing}
 
 abbrev pub may_define : Option Family → Bool
 may_define o = is_wide o && not (is_var_family o)
 
-abbrev pub defined : Line → Defined → Option (List ℕ)
-defined l (Of r) = map (λ f. f.name) (family_of (token l 0).text r)
-defined l Nothing = none
+abbrev pub defined : Line → Option Register → Option (List ℕ)
+defined l (Some r) = option_map (λ f. f.name) (family_of (token l 0).text r)
+defined l None = None

@@ -7,19 +7,19 @@
 
 ghost use Rattle.std.specs.Prelude.{◌≡◌};
 ghost use Rattle.definitions.specs.Model.{line};
-ghost use Rattle.definitions.specs.Columns.{listing};
 ghost use Rattle.definitions.specs.Statements.{is_empty, assignment};
+ghost use Rattle.model.specs.Listings.{listing_of};
 ghost use Rattle.assignment.specs.Assignments.{front, back, expr_token, expr_from, expr_to, assigns, is_closed, assigned};
 
-use text::less;
+use model::listing::Listing;
 
 pub mod definition;
 
-#[derive(Drop)]
-pub enum Assigned {
-    // The right side is the tokens from place `from` up to place `to`, token 1 without its ` = `, the last token without its `;`.
-    Side { from: usize, to: usize },
-    Nothing,
+// A right side: the tokens from place `from` up to place `to`, token 1 without its ` = `, the last token without its `;`.
+#[derive(Clone, Copy)]
+pub struct Side {
+    pub from: usize,
+    pub to: usize,
 }
 
 fn front(k: usize) -> usize
@@ -39,82 +39,68 @@ fn back(n: usize, k: usize) -> usize
 }
 
 // The text of token k of the right side of line i, as a part of the lent text.
-pub fn expr_text<'a>(lines: &[u32], tokens: &[u32], text: &'a [u8], i: usize, k: usize) -> &'a [u8]
-    ensures { result.now ≡ (expr_token (line (listing lines.now tokens.now text.now) i) k).text }
+pub fn expr_text<'a>(code: &Listing<'a>, i: usize, k: usize) -> &'a [u8]
+    ensures { result.now ≡ (expr_token (line (listing_of code.now) i) k).text }
 {
-    let n = model::columns::token_count(lines, tokens, text, i);
-    let s = model::columns::text_at(lines, tokens, text, i, k);
-    text::part(s, front(k), less(s.len(), back(n, k)))
+    let n = code.token_count(i);
+    let s = code.text_at(i, k);
+    text::part(s, front(k), s.len().saturating_sub(back(n, k)))
 }
 
 // Token k of the right side of line i is empty: only lengths are looked at.
-fn is_blank(lines: &[u32], tokens: &[u32], text: &[u8], i: usize, k: usize) -> bool
-    ensures { result ≡ is_empty (expr_token (line (listing lines.now tokens.now text.now) i) k) }
+fn is_blank(code: &Listing, i: usize, k: usize) -> bool
+    ensures { result ≡ is_empty (expr_token (line (listing_of code.now) i) k) }
 {
-    let n = model::columns::token_count(lines, tokens, text, i);
-    let s = model::columns::text_at(lines, tokens, text, i, k);
-    less(less(s.len(), back(n, k)), front(k)) == 0
+    let n = code.token_count(i);
+    let s = code.text_at(i, k);
+    s.len().saturating_sub(back(n, k)).saturating_sub(front(k)) == 0
 }
 
-fn expr_from(lines: &[u32], tokens: &[u32], text: &[u8], i: usize) -> usize
-    ensures { result ≡ expr_from (line (listing lines.now tokens.now text.now) i) }
+fn expr_from(code: &Listing, i: usize) -> usize
+    ensures { result ≡ expr_from (line (listing_of code.now) i) }
 {
-    if is_blank(lines, tokens, text, i, 1) {
-        2
-    } else {
-        1
-    }
+    if is_blank(code, i, 1) { 2 } else { 1 }
 }
 
-fn expr_to(lines: &[u32], tokens: &[u32], text: &[u8], i: usize) -> usize
-    ensures { result ≡ expr_to (line (listing lines.now tokens.now text.now) i) }
+fn expr_to(code: &Listing, i: usize) -> usize
+    ensures { result ≡ expr_to (line (listing_of code.now) i) }
 {
-    let n = model::columns::token_count(lines, tokens, text, i);
-    let last = less(n, 1);
-    if is_blank(lines, tokens, text, i, last) {
-        last
-    } else {
-        n
-    }
+    let n = code.token_count(i);
+    let last = n.saturating_sub(1);
+    if is_blank(code, i, last) { last } else { n }
 }
 
 // Line i starts as an assignment does.
-fn assigns(lines: &[u32], tokens: &[u32], text: &[u8], i: usize) -> bool
-    ensures { result ≡ assigns (line (listing lines.now tokens.now text.now) i) }
+fn assigns(code: &Listing, i: usize) -> bool
+    ensures { result ≡ assigns (line (listing_of code.now) i) }
 {
-    if model::columns::token_count(lines, tokens, text, i) < 2 {
-        return false;
-    }
-    if model::columns::kind(lines, tokens, text, i, 0) != 1 {
-        return false;
-    }
-    if model::columns::kind(lines, tokens, text, i, 1) != 6 {
-        return false;
-    }
-    text::starts_with(model::columns::text_at(lines, tokens, text, i, 1), b" = ")
+    2 <= code.token_count(i)
+        && code.kind(i, 0) == 1
+        && code.kind(i, 1) == 6
+        && text::starts_with(code.text_at(i, 1), b" = ")
 }
 
 // The last token of line i ends with `;`.
-fn is_closed(lines: &[u32], tokens: &[u32], text: &[u8], i: usize) -> bool
-    ensures { result ≡ is_closed (line (listing lines.now tokens.now text.now) i) }
+fn is_closed(code: &Listing, i: usize) -> bool
+    ensures { result ≡ is_closed (line (listing_of code.now) i) }
 {
-    let last = less(model::columns::token_count(lines, tokens, text, i), 1);
-    text::ends_with(model::columns::text_at(lines, tokens, text, i, last), b";")
+    let last = code.token_count(i).saturating_sub(1);
+    text::ends_with(code.text_at(i, last), b";")
 }
 
 // The assignment that line i is: its register is token 0.
-pub fn assignment(lines: &[u32], tokens: &[u32], text: &[u8], i: usize) -> Assigned
-    ensures { let l = line (listing lines.now tokens.now text.now) i in
+pub fn assignment(code: &Listing, i: usize) -> Option<Side>
+    ensures { let l = line (listing_of code.now) i in
         assigned l result ≡ assignment l }
 {
-    if assigns(lines, tokens, text, i) {
-        if is_closed(lines, tokens, text, i) {
-            let from = expr_from(lines, tokens, text, i);
-            let to = expr_to(lines, tokens, text, i);
+    if assigns(code, i) {
+        if is_closed(code, i) {
+            let from = expr_from(code, i);
+            let to = expr_to(code, i);
             if from < to {
-                return Assigned::Side { from, to };
+                return Some(Side { from, to });
             }
         }
     }
-    Assigned::Nothing
+    None
 }

@@ -3,31 +3,33 @@
 --   set_one                    a word with one bit set
 --   fill-*                     a row filled so far: at first, by one word more, in the end
 --   *-one                      the same of a row of one word
---   zero-*                     the words of a cleared row
+--   run_words, run_bits        a row of one word over and over
 --   differ-*                   so for the comparison of a row with what is written over it
---   here*, none-*, found, past so for the search of a set bit
+--   here*, none-*, found       so for the search of a set bit
 --   low_last                   the last word of the low bits of a row
 -- Assumes nothing.
-use Prim.Native.Nat.{ℕ, ◌+◌, ◌-◌, ◌*◌, ◌/◌, ◌%◌, ◌^◌, ◌<◌, ◌≤◌}
+use Prim.Native.Nat.{ℕ, ◌+◌, ◌-◌, ◌*◌, ◌/◌, ◌%◌, ◌^◌, ◌<◌, ◌≤◌, min}
 use mathlib.Core.Path.{◌≡◌, refl, sym, ap, ap₂, ◌∙◌}
 use mathlib.Core.Logic.{inl, inr}
 use mathlib.Core.Bool.{Bool, true, false, ◌&&◌, ◌||◌, or-false, true≢false}
-use mathlib.Core.List.{List}
+use mathlib.Core.List.{List, ◌++◌}
 use native.Mathlib.Omega.{arith}
 use native.Mathlib.Decide.{dec_lt, ℕ_discrete}
 use native.Mathlib.Nat.{one-mul, mod-eq_of_lt, lt_of_lt_of_le, lt_of_le_of_lt}
 use lib.Dec.{eqb, leb, ltb}
-use lib.ListN.{length, get_or, set}
-use lib.Seq.{get_or-set_same, get_or-set_other, set-get_or}
+use lib.ListN.{length, get_or, set, take, drop, replicate, length-take, length-drop, length-replicate, get_or-append}
+use lib.Seq.{length-take-le, get_or-take, get_or-drop, get_or-set_same, get_or-set_other, set-get_or}
 use lib.Pow.{pow-lt, pow_mono, shr_le}
 use lib.Bits.{bit_or}
 use lib.Count.{count_trailing_zeros}
 use mir.Syntax.{w64}
 use mir.Val.{Fits}
+use borrow.Rule.Slice.PartMut.{put_mid}
+use Rattle.std.proofs.lemmas.List.{get_or-replicate, get_or-append_right}
 use borrow.Author.Tests.{eq-eqb, ne_eqb, lt-ltb, le-ltb, ltb-true, le-leb, lt-leb}
 use Rattle.theory.proofs.Bools.{clash, and_split, lt_or_ge}
-use Rattle.bits.specs.Rows.{word_bit, bit, Away, Filled, Zero, WithBit, joined, joined_low, copied, Put, Differs, First}
-use Rattle.bits.proofs.Words.{zero_bit, or_bit, shr_bit, one_bit, all_bits, above_bit, word_other, low_none, low_there, keep_low}
+use Rattle.bits.specs.Rows.{word_bit, bit, Away, Filled, WithBit, joined, joined_low, copied, Put, Differs, First}
+use Rattle.bits.proofs.Words.{zero_bit, or_bit, shr_bit, one_bit, above_bit, word_other, low_none, low_there, keep_low}
 
 pub bit_in_word : (l : List ℕ) (w k : ℕ) → k < 64 → bit l (w * 64 + k) ≡ word_bit (get_or l w 0) k
 unfolding bit
@@ -99,9 +101,6 @@ word_left l₀ l w i u j k f F h g =
     ap (λ (x : ℕ). word_bit x k) (F.outside (u + j) g) ∙ sym (bit_in_word l₀ (u + j) k h) ∙ ap (bit l₀) p
 
 module _ (l₀ l : List ℕ) (w u i r : ℕ) (hi : i < r) (el : length l ≡ length l₀) where
-  pub fill_zero : Filled l₀ l w i (λ k. false) → w + r ≤ length l₀ → Filled l₀ (set l (w + i) 0) w (i + 1) (λ k. false)
-  fill_zero F h = fill_next l₀ l w i 0 (λ k. false) F (omega arith) (λ k q. zero_bit k)
-
   pub fill_or : Filled l₀ l w i (joined l₀ w u) → u + r ≤ w → w + r ≤ length l₀
       → Filled l₀ (set l (w + i) (bit_or (get_or l (w + i) 0) (get_or l (u + i) 0))) w (i + 1) (joined l₀ w u)
   fill_or F hu h = fill_next l₀ l w i (bit_or (get_or l (w + i) 0) (get_or l (u + i) 0)) (joined l₀ w u) F (omega arith)
@@ -113,20 +112,41 @@ module _ (l₀ l : List ℕ) (w u i r : ℕ) (hi : i < r) (el : length l ≡ len
   fill_copy F hu h = fill_next l₀ l w i (get_or l (u + i) 0) (copied l₀ u) F (omega arith)
       (λ k hk. word_left l₀ l w i u i k (copied l₀ u) F hk (λ a b. omega arith))
 
-  pub fill_all : Filled l₀ l w i (λ k. true) → w + r ≤ length l₀ → Filled l₀ (set l (w + i) 18446744073709551615) w (i + 1) (λ k. true)
-  fill_all F h = fill_next l₀ l w i 18446744073709551615 (λ k. true) F (omega arith) (λ k q. all_bits k q)
+-- A row of which every word is x
 
-  pub zero_next : Zero l w i → w + r ≤ length l₀ → Zero (set l (w + i) 0) w (i + 1)
-  zero_next Z h v x y = elim (ℕ_discrete v (w + i)) [
-    | yes e ↦ rw e (get_or-set_same l (w + i) 0 0 (omega arith))
-    | no e ↦ get_or-set_other l (w + i) v 0 0 e ∙ Z v x (omega arith)
+module _ (l₀ ys : List ℕ) (w r x : ℕ) (h : w + r ≤ length l₀) (d : ys ≡ replicate (length (take (w + r - w) (drop w l₀))) x) where
+  e : ys ≡ replicate r x
+  e = let q : length (take (w + r - w) (drop w l₀)) ≡ r = simp (length-take, length-drop) (omega arith) in d ∙ rw q
+
+  front : length (take w l₀) ≡ w
+  front = length-take-le w l₀ (omega arith)
+
+  many : length ys ≡ r
+  many = rw e (length-replicate r x)
+
+  pub run_words : (v : ℕ) → w ≤ v → v < w + r → get_or (put_mid w (w + r - w) l₀ ys) v 0 ≡ x
+  run_words v a b =
+      get_or-append_right (take w l₀) (ys ++ drop (w + r - w) (drop w l₀)) w v 0 front a
+      ∙ get_or-append ys (drop (w + r - w) (drop w l₀)) 0 (v - w) (omega (arith, many))
+      ∙ rw e (get_or-replicate r (v - w) x 0 (omega arith))
+
+  others : (v : ℕ) → Away v w r → get_or (put_mid w (w + r - w) l₀ ys) v 0 ≡ get_or l₀ v 0
+  others v g = elim (lt_or_ge v w) [
+    | inl q ↦ get_or-append (take w l₀) (ys ++ drop (w + r - w) (drop w l₀)) 0 v (omega (arith, front)) ∙ get_or-take w l₀ v 0 q
+    | inr q ↦ (let b : w + r ≤ v = elim (lt_or_ge v (w + r)) [ inl p ↦ absurd (g q p) | inr p ↦ p ] in
+        let z : w + r - w ≡ r = omega arith in
+        let y : w + (r + (v - w - r)) ≡ v = omega arith in
+        get_or-append_right (take w l₀) (ys ++ drop (w + r - w) (drop w l₀)) w v 0 front q
+        ∙ get_or-append_right ys (drop (w + r - w) (drop w l₀)) r (v - w) 0 many (omega arith)
+        ∙ rw z (get_or-drop r (drop w l₀) (v - w - r) 0 ∙ get_or-drop w l₀ (r + (v - w - r)) 0 ∙ rw y))
   ]
 
-pub zero_none : (l : List ℕ) (w : ℕ) → Zero l w 0
-zero_none l w v x y = absurd (omega arith)
-
-pub zero_end : (l : List ℕ) (w i r : ℕ) → Zero l w i → r ≤ i → Zero l w r
-zero_end l w i r Z h v x y = Z v x (omega arith)
+  pub run_bits : (b : Bool) → ((k : ℕ) → k < 64 → word_bit x k ≡ b) → Filled l₀ (put_mid w (w + r - w) l₀ ys) w r (λ k. b)
+  unfolding bit
+  run_bits b f = record {
+    inside = λ k q. rw (run_words ((w * 64 + k) / 64) (omega arith) (omega arith)) (f ((w * 64 + k) % 64) (omega arith));
+    outside = others;
+  }
 
 -- A row of one word
 
@@ -245,13 +265,13 @@ module _ (l : List ℕ) (a e p x : ℕ) (ex : x ≡ get_or l (p / 64) 0 / 2 ^ (p
     none_below : (j : ℕ) → a ≤ j → j < p + count_trailing_zeros 64 x → bit l j ≡ false
     none_below j h g = elim (lt_or_ge j p) [ inl q ↦ N j h q | inr q ↦ shifted j q (omega (arith, same_word)) ∙ low_none 64 x (j - p) (omega arith) ]
 
-    pub found : (t q : ℕ) → t ≡ count_trailing_zeros 64 x → q ≡ p + t → q < e → First l a e q
-    found t q u v h = rw (v, u) (record {
-      from = omega arith;
-      upto = omega (arith, u, v);
-      none = none_below;
-      there = λ h. shifted (p + count_trailing_zeros 64 x) (omega arith) same_word ∙ (let z : p + count_trailing_zeros 64 x - p ≡ count_trailing_zeros 64 x = omega arith in rw z there_bit);
-    })
-
-    pub past : (t : ℕ) → t ≡ count_trailing_zeros 64 x → e ≤ p + t → First l a e e
-    past t u h = record { from = omega arith; upto = omega arith; none = λ j q g. none_below j q (omega (arith, u)); there = λ q. absurd (omega arith) }
+    pub found : (q : ℕ) → q ≡ min (p + count_trailing_zeros 64 x) e → First l a e q
+    found q v = elim (lt_or_ge (p + count_trailing_zeros 64 x) e) [
+      | inl h ↦ (let z : q ≡ p + count_trailing_zeros 64 x = omega arith in rw z (record {
+        from = omega arith;
+        upto = omega arith;
+        none = none_below;
+        there = λ g. shifted (p + count_trailing_zeros 64 x) (omega arith) same_word ∙ (let y : p + count_trailing_zeros 64 x - p ≡ count_trailing_zeros 64 x = omega arith in rw y there_bit);
+      }))
+      | inr h ↦ (let z : q ≡ e = omega arith in rw z (record { from = omega arith; upto = omega arith; none = λ j y g. none_below j y (omega arith); there = λ y. absurd (omega arith) }))
+    ]

@@ -14,8 +14,7 @@
 
 #![tactic(auto)]
 
-ghost use Rattle.std.specs.Prelude.{◌≡◌, true, false, ◌&&◌, ◌||◌, ◌+◌, ◌*◌, ◌/◌, ◌<◌, ◌≤◌, length, eqb, ltb};
-ghost use Rattle.std.specs.Int.Count.{count_trailing_zeros};
+ghost use Rattle.std.specs.Prelude.{◌≡◌, true, false, ◌&&◌, ◌+◌, ◌*◌, ◌/◌, ◌<◌, ◌≤◌, length, eqb, ltb};
 ghost use Rattle.bits.specs.Rows.{bit, Filled, Zero, WithBit, joined, joined_low, copied, Put, First};
 ghost use Rattle.bits.specs.Edges.{Matrices, Spanned, Widened, Widen, Noted, Between, NoEdges, Added};
 
@@ -31,7 +30,7 @@ fn set_bit(s: &mut [u64], a: usize)
     ensures { WithBit s.old s.new a }
 {
     let w = a / 64;
-    s[w] = s[w] | (1 << (a % 64));
+    s[w] |= 1 << (a % 64);
 }
 
 pub fn clear_row(s: &mut [u64], w: usize, r: usize)
@@ -39,11 +38,7 @@ pub fn clear_row(s: &mut [u64], w: usize, r: usize)
     ensures filled { Filled s.old s.new w r (λ k. false) }
     ensures zero { Zero s.new w r }
 {
-    let mut i = 0;
-    while i < r {
-        s[w + i] = 0;
-        i += 1;
-    }
+    s[w..w + r].fill(0);
 }
 
 // Sets every bit of a row.
@@ -51,11 +46,7 @@ pub fn fill_row(s: &mut [u64], w: usize, r: usize)
     requires { w + r ≤ length s.old }
     ensures { Filled s.old s.new w r (λ k. true) }
 {
-    let mut i = 0;
-    while i < r {
-        s[w + i] = 18446744073709551615;
-        i += 1;
-    }
+    s[w..w + r].fill(u64::MAX);
 }
 
 // Row w joined with row u, which stands before it.
@@ -68,10 +59,8 @@ pub fn or_row(s: &mut [u64], w: usize, u: usize, r: usize)
         put(s, w, x);
         return;
     }
-    let mut k = 0;
-    while k < r {
-        s[w + k] = s[w + k] | s[u + k];
-        k += 1;
+    for k in 0..r {
+        s[w + k] |= s[u + k];
     }
 }
 
@@ -83,13 +72,7 @@ pub fn or_low(s: &mut [u64], w: usize, u: usize, k: usize)
     let q = k / 64;
     or_row(s, w, u, q);
     let h = 63 - k % 64;
-    s[w + q] = s[w + q] | ((s[u + q] << h) >> h);
-}
-
-pub fn either(a: bool, b: bool) -> bool
-    ensures { result ≡ (a || b) }
-{
-    if a { true } else { b }
+    s[w + q] |= (s[u + q] << h) >> h;
 }
 
 // The word x at place w; answers whether that is a change.
@@ -109,19 +92,9 @@ pub fn copy_row(s: &mut [u64], w: usize, u: usize, r: usize)
     requires { (w + r ≤ u) × (u + r ≤ length s.old) }
     ensures { Filled s.old s.new w r (copied s.old u) }
 {
-    let mut i = 0;
-    while i < r {
-        let x = s[u + i];
-        s[w + i] = x;
-        i += 1;
+    for i in 0..r {
+        s[w + i] = s[u + i];
     }
-}
-
-// How many zeros stand below the lowest set bit.
-fn low_zeros(x: u64) -> usize
-    ensures { (result ≡ count_trailing_zeros 64 x) × (result ≤ 64) }
-{
-    u64::trailing_zeros(x) as usize
 }
 
 // Bit a is one below e, and set.
@@ -129,7 +102,7 @@ fn is_here(s: &[u64], a: usize, e: usize) -> bool
     requires { e ≤ length s.now * 64 }
     ensures { result ≡ (ltb a e && bit s.now a) }
 {
-    if a < e { get_bit(s, a) } else { false }
+    a < e && get_bit(s, a)
 }
 
 // The first set bit from a on, below e; e where there is none. Bit a itself is tested first: in a sweep it mostly is set, and a test that the
@@ -145,11 +118,8 @@ pub fn find_bit(s: &[u64], a: usize, e: usize) -> usize
     while p < e {
         let x = s[p / 64] >> (p % 64);
         if x != 0 {
-            let q = p + low_zeros(x);
-            if q < e {
-                return q;
-            }
-            return e;
+            let q = p + x.trailing_zeros() as usize;
+            return q.min(e);
         }
         p = (p / 64 + 1) * 64;
     }
@@ -216,18 +186,12 @@ pub struct Span {
     pub end: usize,
 }
 
-fn wide(x: u64) -> usize
-    ensures { result ≡ x }
-{
-    x as usize
-}
-
 // Where the bits of the row of lines at word u lie.
 pub fn row_span(s: &[u64], n: usize, r: usize, u: usize) -> Span
     requires { (n + 64 ≤ r * 64) × (u + r ≤ length s.now) × (u + r < 200000) × Spanned n r s.now u }
     ensures { Between n s.now u result }
 {
-    let x = wide(s[u + r - 1]);
+    let x = s[u + r - 1] as usize;
     Span {
         from: u * 64 + x % 65536,
         end: u * 64 + x / 65536,

@@ -6,12 +6,12 @@
 --   linked_fuel      as many steps as the entry are enough
 --   linked_below     the lines stand before the entry
 -- Assumes nothing.
+use Rattle.std.specs.Prelude.{Some}
 use Prim.Native.Nat.{ℕ, zero, suc, ◌-◌, ◌<◌, ◌≤◌}
 use mathlib.Core.Path.{◌≡◌, refl, ap}
 use mathlib.Core.Logic.{inl, inr}
 use mathlib.Core.Bool.{true, false≢true}
 use mathlib.Core.List.{List, ◌∷◌}
-use mathlib.Core.Option.{some}
 use native.Mathlib.Decide.{ℕ_discrete}
 use native.Mathlib.Omega.{arith}
 use borrow.Author.Tests.{eqb-true}
@@ -27,9 +27,9 @@ use Rattle.blocks.specs.Entries.{place, linked}
 pub wider : (l : List ℕ) (k : ℕ) → ((j : ℕ) → Fits w16 (get_or l j 0)) → Fits w64 (get_or l k 0)
 wider l k h = omega (arith, h k)
 
-pub place_some : (e : ℕ) → (e ≡ 0 → ⊥) → place e ≡ some (e - 1)
+pub place_some : (e : ℕ) → (e ≡ 0 → ⊥) → place e ≡ Some (e - 1)
 place_some zero z = absurd (z refl)
-place_some (suc e) z = ap some (omega arith)
+place_some (suc e) z = ap Some (omega arith)
 
 pub get_set : (l : List ℕ) (i j v : ℕ) → i < length l → (P : ℕ → Type 0) → (j ≡ i → P v) → ((j ≡ i → ⊥) → P (get_or l j 0)) → P (get_or (set l i v) j 0)
 get_set l i j v b P at other = go (ℕ_discrete j i)

@@ -3,11 +3,11 @@
 --   closed_below               the innermost opener stands before the line that closes
 --   reading_start, reading_next, reading_fail, reading_end
 -- Assumes nothing.
+use Rattle.std.specs.Prelude.{Option, None, Some}
 use Prim.Native.Nat.{ℕ, ◌+◌, ◌<◌, ◌≤◌}
 use mathlib.Core.Path.{◌≡◌, refl, sym, ◌∙◌}
 use mathlib.Core.Bool.{Bool, true, false, cond}
 use mathlib.Core.List.{List, []}
-use mathlib.Core.Option.{Option, none, some}
 use native.Mathlib.Numerals.{add-one}
 use native.Mathlib.Decide.{dec_lt}
 use native.Mathlib.Omega.{arith}
@@ -19,19 +19,17 @@ use Rattle.definitions.specs.Blocks.{Braces, braces, Blocks, Open, close, enter,
 use Rattle.text.proofs.Parts.{drop_step, drop_end}
 use Rattle.blocks.specs.Structure.{blocks_of, Ended, Enclosed, Matched}
 use Rattle.blocks.specs.Stack.{bottom, Held, Closing, Closed}
-use Rattle.blocks.specs.declared.Top.{Top}
-use Rattle.blocks.specs.declared.Top.TheVariants.{At, Unmatched}
 use Rattle.blocks.proofs.Stacks.{stack_test, entered}
 
-pub closed_below : (i k : ℕ) (o : Open) (es ps cs : List ℕ) (r : Top) (q : ℕ) → Closed i k o es ps cs r → r ≡ At q → q ≤ i
+pub closed_below : (i k : ℕ) (o : Open) (es ps cs : List ℕ) (r : Option ℕ) (q : ℕ) → Closed i k o es ps cs r → r ≡ Some q → q ≤ i
 closed_below i k o es ps cs r q C e = let D : Closing i k 0 o es ps cs q = rw e at C in D.held.below
 
 beginning : List Line → Open
-beginning L = record { stack = []; ends = replicate (length L) none; enclosing = [] }
+beginning L = record { stack = []; ends = replicate (length L) None; enclosing = [] }
 
 pub record Reading (L : List Line) (es ps cs : List ℕ) (p i : ℕ) : Type 0 where
   pub at : Open
-  pub left : blocks L ≡ (blocks_from i (drop i L) at >>= λ o. require (o.stack ≟ []) >>= λ _. some (record { ends = o.ends; enclosing = o.enclosing }))
+  pub left : blocks L ≡ (blocks_from i (drop i L) at >>= λ o. require (o.stack ≟ []) >>= λ _. Some (record { ends = o.ends; enclosing = o.enclosing }))
   pub size : length at.ends ≡ length L
   pub held : Held es ps cs p i at
 
@@ -40,7 +38,7 @@ unfolding blocks beginning
 reading_start L es ps cs = record {
   at = beginning L;
   left = refl;
-  size = length-replicate (length L) none;
+  size = length-replicate (length L) None;
   held = record {
     stack = bottom;
     below = omega arith;
@@ -53,29 +51,29 @@ reading_start L es ps cs = record {
   };
 }
   where
-    empty : (j : ℕ) → Dec (j < length L) → ◌≡◌ {A = Option ℕ} (get_or (replicate (length L) none) j none) none
-    empty j (yes h) = get_or-replicate (length L) j none none h
-    empty j (no h) = get_or-eq_default (replicate (length L) none) none (rw length-replicate (omega arith))
+    empty : (j : ℕ) → Dec (j < length L) → ◌≡◌ {A = Option ℕ} (get_or (replicate (length L) None) j None) None
+    empty j (yes h) = get_or-replicate (length L) j None None h
+    empty j (no h) = get_or-eq_default (replicate (length L) None) None (rw length-replicate (omega arith))
 
 module _ (L : List Line) (es ps cs : List ℕ) (p i : ℕ) (R : Reading L es ps cs p i) where
-  module _ (h : i < length L) (b : Braces) (eb : b ≡ braces (line L i)) (es₁ cs₁ : List ℕ) (r : Top)
+  module _ (h : i < length L) (b : Braces) (eb : b ≡ braces (line L i)) (es₁ cs₁ : List ℕ) (r : Option ℕ)
       (closed : (o : Open) → Held es ps cs p i o → i < length o.ends → Closed i b.closes o es₁ ps cs₁ r) where
     here : Closed i b.closes R.at es₁ ps cs₁ r
     here = closed R.at R.held (omega (arith, R.size))
 
-    step : blocks L ≡ ((close i b.closes R.at >>= λ o. blocks_from (i + 1) (drop (i + 1) L) (enter i b.opens o)) >>= λ o. require (o.stack ≟ []) >>= λ _. some (record { ends = o.ends; enclosing = o.enclosing }))
+    step : blocks L ≡ ((close i b.closes R.at >>= λ o. blocks_from (i + 1) (drop (i + 1) L) (enter i b.opens o)) >>= λ o. require (o.stack ≟ []) >>= λ _. Some (record { ends = o.ends; enclosing = o.enclosing }))
     unfolding blocks_from
     step = R.left ∙ rw (drop_step no_line L i h, eb, add-one i)
 
-    pub reading_fail : (es' ps' : List ℕ) → r ≡ Unmatched → Matched L es' ps' false
+    pub reading_fail : (es' ps' : List ℕ) → r ≡ None → Matched L es' ps' false
     reading_fail es' ps' q =
-        let e : blocks L ≡ none = step ∙ rw (rw q at here) in
+        let e : blocks L ≡ None = step ∙ rw (rw q at here) in
         record { answer = rw e; ends = λ z. absurd (omega (arith, bad z)); parents = λ z. absurd (omega (arith, bad z)) }
       where
         bad : false ≡ true → ◌≡◌ {A = ℕ} 0 1
         bad z = cc
 
-    pub reading_next : (q : ℕ) → r ≡ At q → i < length es₁ → i < length ps → i < length cs₁
+    pub reading_next : (q : ℕ) → r ≡ Some q → i < length es₁ → i < length ps → i < length cs₁
         → (es₂ ps₂ cs₂ : List ℕ) (t : ℕ) → es₂ ≡ set es₁ i 0 → ps₂ ≡ set ps i q → cs₂ ≡ set cs₁ i b.opens → t ≡ cond (ltb 0 b.opens) (i + 1) q
         → Reading L es₂ ps₂ cs₂ t (i + 1)
     unfolding close
@@ -95,7 +93,7 @@ module _ (L : List Line) (es ps cs : List ℕ) (p i : ℕ) (R : Reading L es ps 
       found : Blocks
       found = record { ends = R.at.ends; enclosing = R.at.enclosing }
 
-      all : blocks L ≡ (require (R.at.stack ≟ []) >>= λ _. some found)
+      all : blocks L ≡ (require (R.at.stack ≟ []) >>= λ _. Some found)
       all = R.left ∙ rw (drop_end L i ge)
 
       same : eqb p 0 ≡ (R.at.stack ≟ [])
@@ -104,11 +102,11 @@ module _ (L : List Line) (es ps cs : List ℕ) (p i : ℕ) (R : Reading L es ps 
       answer : eqb p 0 ≡ is_some (blocks L)
       answer = rw (all, same) (go (R.at.stack ≟ []))
         where
-          go : (t : Bool) → t ≡ is_some (require t >>= λ _. some found)
+          go : (t : Bool) → t ≡ is_some (require t >>= λ _. Some found)
           go true = refl
           go false = refl
 
-      whole : eqb p 0 ≡ true → blocks L ≡ some found
+      whole : eqb p 0 ≡ true → blocks L ≡ Some found
       whole z = all ∙ rw (sym same ∙ z)
 
       ends : Ended L found es

@@ -4,12 +4,12 @@
 --   closing_start, closing_next, closing_fail, closing_end    the loop of `close`
 --   entered                      the stack after a line's `{`
 -- Assumes nothing.
+use Rattle.std.specs.Prelude.{None, Some}
 use Prim.Native.Nat.{ℕ, zero, suc, ◌+◌, ◌-◌, ◌<◌, ◌≤◌}
 use mathlib.Core.Path.{◌≡◌, refl, sym, ap, ◌∙◌, subst}
 use mathlib.Core.Logic.{◌⊎◌, inl, inr}
 use mathlib.Core.Bool.{Bool, true, false, cond, ◌||◌, or_self_left}
 use mathlib.Core.List.{List, [], ◌∷◌, ◌++◌}
-use mathlib.Core.Option.{none, some}
 use native.Mathlib.Numerals.{add-one}
 use native.Mathlib.Decide.{ℕ_discrete}
 use native.Mathlib.Omega.{arith}
@@ -77,7 +77,7 @@ module _ (es ps cs : List ℕ) (p i : ℕ) (o : Open) (H : Held es ps cs p i o) 
       let r = stack_some ps cs (p - 1) o.stack (subst (λ (x : ℕ). Stack ps cs x o.stack) e H.stack) in
       omega (arith, r.2)
 
-  held_fail : (k : ℕ) → p ≡ 0 → 0 < k → close i k o ≡ none
+  held_fail : (k : ℕ) → p ≡ 0 → 0 < k → close i k o ≡ None
   unfolding close
   held_fail zero q g = absurd (omega arith)
   held_fail (suc k) q g =
@@ -88,7 +88,7 @@ module _ (es ps cs : List ℕ) (h i : ℕ) (o : Open) (H : Held es ps cs (suc h)
   popped : Open
   popped =
       let r = stack_some ps cs h o.stack H.stack in
-      record { stack = replicate r.0 h ++ r.1; ends = set o.ends h (some i); enclosing = o.enclosing }
+      record { stack = replicate r.0 h ++ r.1; ends = set o.ends h (Some i); enclosing = o.enclosing }
 
   popped_close : (k : ℕ) → close i (suc k) o ≡ close i k popped
   unfolding close popped
@@ -98,7 +98,7 @@ module _ (es ps cs : List ℕ) (h i : ℕ) (o : Open) (H : Held es ps cs (suc h)
 
   popped_size : length popped.ends ≡ length o.ends
   unfolding popped
-  popped_size = length-set o.ends h (some i)
+  popped_size = length-set o.ends h (Some i)
 
   module _ (he : i < length es) (hc : i < length cs) (ho : i < length o.ends) where
     cs' : List ℕ
@@ -132,7 +132,7 @@ module _ (es ps cs : List ℕ) (h i : ℕ) (o : Open) (H : Held es ps cs (suc h)
       below = least (eqb (get_or cs h 0) 1);
       ended = ended;
       later = later;
-      unended = λ j g. get_or-set_other o.ends h j (some i) none (λ q. omega (arith, low)) ∙ H.unended j g;
+      unended = λ j g. get_or-set_other o.ends h j (Some i) None (λ q. omega (arith, low)) ∙ H.unended j g;
       inward = H.inward;
       lines = H.lines;
       around = H.around;
@@ -142,15 +142,15 @@ module _ (es ps cs : List ℕ) (h i : ℕ) (o : Open) (H : Held es ps cs (suc h)
         least true = omega (arith, H.inward h low, low)
         least false = omega (arith, low)
 
-        ended : (j : ℕ) → j < i → place (get_or (set es h (i + 1)) j 0) ≡ get_or (set o.ends h (some i)) j none
+        ended : (j : ℕ) → j < i → place (get_or (set es h (i + 1)) j 0) ≡ get_or (set o.ends h (Some i)) j None
         ended j g = go (ℕ_discrete j h)
           where
-            go : Dec (j ≡ h) → place (get_or (set es h (i + 1)) j 0) ≡ get_or (set o.ends h (some i)) j none
-            go (yes e) = rw (e, get_or-set_same es h (i + 1) 0 (omega (arith, low)), add-one i) (sym (get_or-set_same o.ends h (some i) none (omega (arith, low))))
-            go (no e) = rw (get_or-set_other es h j (i + 1) 0 e) (H.ended j g ∙ sym (get_or-set_other o.ends h j (some i) none e))
+            go : Dec (j ≡ h) → place (get_or (set es h (i + 1)) j 0) ≡ get_or (set o.ends h (Some i)) j None
+            go (yes e) = rw (e, get_or-set_same es h (i + 1) 0 (omega (arith, low)), add-one i) (sym (get_or-set_same o.ends h (Some i) None (omega (arith, low))))
+            go (no e) = rw (get_or-set_other es h j (i + 1) 0 e) (H.ended j g ∙ sym (get_or-set_other o.ends h j (Some i) None e))
 
-        later : (j : ℕ) → j < i → (get_or (set es h (i + 1)) j 0 ≡ 0) ⊎ ((j + 1 < get_or (set es h (i + 1)) j 0) × (get_or (set es h (i + 1)) j 0 ≤ length (set o.ends h (some i))))
-        later j g = rw (length-set o.ends h (some i))
+        later : (j : ℕ) → j < i → (get_or (set es h (i + 1)) j 0 ≡ 0) ⊎ ((j + 1 < get_or (set es h (i + 1)) j 0) × (get_or (set es h (i + 1)) j 0 ≤ length (set o.ends h (Some i))))
+        later j g = rw (length-set o.ends h (Some i))
             (get_set es h j (i + 1) (omega (arith, low)) (λ v. (v ≡ 0) ⊎ ((j + 1 < v) × (v ≤ length o.ends)))
             (λ q. inr (omega arith, omega arith)) (λ q. H.later j g))
 
@@ -159,7 +159,7 @@ module _ (i m : ℕ) (o : Open) (es ps cs : List ℕ) (p : ℕ) where
   closing_start k e H = record { now = o; left = rw e; size = refl; held = H }
 
   module _ (k : ℕ) (C : Closing i m k o es ps cs p) where
-    pub closing_fail : 0 < k → p ≡ 0 → close i m o ≡ none
+    pub closing_fail : 0 < k → p ≡ 0 → close i m o ≡ None
     closing_fail g q = C.left ∙ held_fail es ps cs p i C.now C.held k q g
 
     pub closing_end : k ≤ 0 → Closing i m 0 o es ps cs p
@@ -200,7 +200,7 @@ module _ (es ps cs : List ℕ) (p i k : ℕ) (o : Open) (H : Held es ps cs p i o
   entered = record {
     stack = entered_stack;
     below = least (ltb 0 k);
-    ended = λ j g. get_set es i j 0 he (λ v. place v ≡ get_or o.ends j none) (λ q. sym (H.unended j (omega arith))) (λ q. H.ended j (omega arith));
+    ended = λ j g. get_set es i j 0 he (λ v. place v ≡ get_or o.ends j None) (λ q. sym (H.unended j (omega arith))) (λ q. H.ended j (omega arith));
     later = λ j g. get_set es i j 0 he (λ v. (v ≡ 0) ⊎ ((j + 1 < v) × (v ≤ length o.ends))) (λ q. inl refl) (λ q. H.later j (omega arith));
     unended = λ j g. H.unended j (omega arith);
     inward = λ j g. get_set ps i j p hp (λ v. v ≤ j) (λ q. omega (arith, H.below)) (λ q. H.inward j (omega arith));

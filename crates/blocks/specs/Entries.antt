@@ -2,12 +2,11 @@
 --   place p            the line that the entry p stands for
 --   linked ps k p      the line of the entry p, then that of this line's entry in ps, and so on: at most k of them
 -- Assumes nothing.
-use Rattle.std.specs.Prelude.{ℕ, zero, suc, List, [], ◌∷◌, get_or}
-use Rattle.std.proofs.Math.Option.{Option, none, some}
+use Rattle.std.specs.Prelude.{ℕ, zero, suc, List, [], ◌∷◌, get_or, Option, None, Some}
 
 abbrev pub place : ℕ → Option ℕ
-place zero = none
-place (suc h) = some h
+place zero = None
+place (suc h) = Some h
 
 unfoldable pub linked : List ℕ → ℕ → ℕ → List ℕ
 linked ps zero p = []

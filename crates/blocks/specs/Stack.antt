@@ -5,13 +5,10 @@
 --   Closing i m k o es ps cs p     of the m blocks that line i closes, k are left to close
 --   Closed i k o es ps cs r    line i closed k blocks, or there were fewer
 -- Assumes nothing.
-use Rattle.std.specs.Prelude.{ℕ, zero, suc, ◌+◌, ◌<◌, ◌≤◌, ◌≡◌, ◌⊎◌, List, [], ◌∷◌, ◌++◌, length, get_or, replicate}
-use Rattle.std.proofs.Math.Option.{none}
+use Rattle.std.specs.Prelude.{ℕ, zero, suc, ◌+◌, ◌<◌, ◌≤◌, ◌≡◌, ◌⊎◌, List, [], ◌∷◌, ◌++◌, length, get_or, replicate, None, Option, Some}
 use Rattle.definitions.specs.Lists.{member}
 use Rattle.definitions.specs.Blocks.{Open, close}
 use Rattle.blocks.specs.Entries.{place, linked}
-use Rattle.blocks.specs.declared.Top.{Top}
-use Rattle.blocks.specs.declared.Top.TheVariants.{At, Unmatched}
 
 pub data Stack (ps cs : List ℕ) : ℕ → List ℕ → Type 0 where
   bottom : Stack ps cs zero []
@@ -20,9 +17,9 @@ pub data Stack (ps cs : List ℕ) : ℕ → List ℕ → Type 0 where
 pub record Held (es ps cs : List ℕ) (p i : ℕ) (o : Open) : Type 0 where
   pub stack : Stack ps cs p o.stack
   pub below : p ≤ i
-  pub ended : (j : ℕ) → j < i → place (get_or es j 0) ≡ get_or o.ends j none
+  pub ended : (j : ℕ) → j < i → place (get_or es j 0) ≡ get_or o.ends j None
   pub later : (j : ℕ) → j < i → (get_or es j 0 ≡ 0) ⊎ ((j + 1 < get_or es j 0) × (get_or es j 0 ≤ length o.ends))
-  pub unended : (j : ℕ) → i ≤ j → get_or o.ends j none ≡ none
+  pub unended : (j : ℕ) → i ≤ j → get_or o.ends j None ≡ None
   pub inward : (j : ℕ) → j < i → get_or ps j 0 ≤ j
   pub lines : length o.enclosing ≡ i
   pub around : (j h : ℕ) → j < i → member h (linked ps j (get_or ps j 0)) ≡ member h (get_or o.enclosing j [])
@@ -33,6 +30,6 @@ pub record Closing (i m k : ℕ) (o : Open) (es ps cs : List ℕ) (p : ℕ) : Ty
   pub size : length now.ends ≡ length o.ends
   pub held : Held es ps cs p i now
 
-abbrev pub Closed : ℕ → ℕ → Open → List ℕ → List ℕ → List ℕ → Top → Type 0
-Closed i k o es ps cs (At p) = Closing i k 0 o es ps cs p
-Closed i k o es ps cs Unmatched = close i k o ≡ none
+abbrev pub Closed : ℕ → ℕ → Open → List ℕ → List ℕ → List ℕ → Option ℕ → Type 0
+Closed i k o es ps cs (Some p) = Closing i k 0 o es ps cs p
+Closed i k o es ps cs None = close i k o ≡ None

@@ -7,17 +7,12 @@
 #![tactic(auto)]
 
 ghost use Rattle.std.specs.Prelude.{◌≡◌, cond, ◌+◌, ◌-◌, ◌≤◌, ◌<◌, eqb, ltb, length, get_or, set};
-ghost use Rattle.definitions.specs.Columns.{listing};
 ghost use Rattle.definitions.specs.Blocks.{Open};
+ghost use Rattle.model.specs.Listings.{listing_of};
 ghost use Rattle.blocks.specs.Structure.{Matched};
 ghost use Rattle.blocks.specs.Stack.{Held, Closed};
 
-// The entry of the innermost opener, unless a block was closed that was not open.
-#[derive(Drop)]
-pub enum Top {
-    At(usize),
-    Unmatched,
-}
+use model::listing::Listing;
 
 // One block less of line h, which is the innermost opener; answers the entry of the innermost opener then.
 fn pop(parents: &[u16], counts: &mut [usize], h: usize) -> usize
@@ -38,7 +33,7 @@ fn close(
     top: usize,
     i: usize,
     k: usize,
-) -> Top
+) -> Option<usize>
     requires i_in_bounds { (i < length ends.old) × (i < length parents.now) × (i < length counts.old) × (i < 1024) }
     requires held { (o : Open) × Held ends.old parents.now counts.old top i o × (i < length o.ends) }
     ensures { (o : Open) → Held ends.old parents.now counts.old top i o → i < length o.ends → Closed i k o ends.new parents.now counts.new result }
@@ -47,14 +42,14 @@ fn close(
     let mut left = k;
     while 0 < left {
         if p == 0 {
-            return Top::Unmatched;
+            return None;
         }
         let h = p - 1;
         ends[h] = (i + 1) as u16;
         p = pop(parents, counts, h);
         left -= 1;
     }
-    Top::At(p)
+    Some(p)
 }
 
 // Line i opens k blocks; it lies itself in those that were open before, p being the innermost.
@@ -80,30 +75,21 @@ fn enter(
 
 // For each line the entry of the line that closes its block (of several blocks, the last), and of the innermost opener around it; answers
 // whether every brace matches. The columns have room for an entry for each line.
-pub fn blocks(
-    lines: &[u32],
-    tokens: &[u32],
-    text: &[u8],
-    ends: &mut [u16],
-    parents: &mut [u16],
-    counts: &mut [usize],
-) -> bool
-    requires { let n = length lines.now in
+pub fn blocks(code: &Listing, ends: &mut [u16], parents: &mut [u16], counts: &mut [usize]) -> bool
+    requires { let n = length code.now.lines.now in
         (n ≤ length ends.old) × (n ≤ length parents.old) × (n ≤ length counts.old) × (n ≤ 1024) }
-    ensures { let L = listing lines.now tokens.now text.now in
+    ensures { let L = listing_of code.now in
         Matched L ends.new parents.new result }
 {
     let mut top = 0;
-    let mut i = 0;
-    while i < lines.len() {
-        let b = braces::line_braces(lines, tokens, text, i);
+    for i in 0..code.lines.len() {
+        let b = braces::line_braces(code, i);
         let closes = b.closes;
         let opens = b.opens;
-        let Top::At(p) = close(ends, parents, counts, top, i, closes) else {
+        let Some(p) = close(ends, parents, counts, top, i, closes) else {
             return false;
         };
         top = enter(ends, parents, counts, p, i, opens);
-        i += 1;
     }
     top == 0
 }

@@ -7,11 +7,11 @@
 ghost use Rattle.std.specs.Prelude.{if◌then◌else◌, ◌≡◌, ◌+◌, ◌≤◌, ◌<◌, eqb, length, get_or};
 ghost use Rattle.definitions.specs.Lists.{fold};
 ghost use Rattle.definitions.specs.Model.{line, no_token, Punct};
-ghost use Rattle.definitions.specs.Columns.{token_list, listing};
 ghost use Rattle.definitions.specs.Blocks.{brace, braces};
+ghost use Rattle.model.specs.Listings.{listing_of, tokens_of};
 ghost use Rattle.braces.specs.Counted.{counted};
 
-use model::columns::{line_end, line_start, token_kind, token_text};
+use model::listing::Listing;
 
 // How many blocks a line opens that later lines close, and how many it closes that earlier lines opened.
 #[derive(Drop)]
@@ -55,50 +55,46 @@ fn in_text(s: &[u8], b: Braces) -> Braces
     ensures closes_bound { result.opens + result.closes ≤ b.opens + b.closes + length s.now }
 {
     let mut r = b;
-    let mut k = 0;
-    while k < s.len() {
+    for k in 0..s.len() {
         r = step(r, s[k]);
-        k += 1;
     }
     r
 }
 
 // Token k of all more: its kind decides.
-fn in_token(tokens: &[u32], text: &[u8], k: usize, b: Braces) -> Braces
-    requires { let t = get_or (token_list tokens.now text.now) k no_token in
+fn in_token(code: &Listing, k: usize, b: Braces) -> Braces
+    requires { let t = get_or (tokens_of code.now) k no_token in
         b.opens + b.closes + length t.text ≤ 18446744073709551615 }
-    ensures result_value { let t = get_or (token_list tokens.now text.now) k no_token in
+    ensures result_value { let t = get_or (tokens_of code.now) k no_token in
         counted result ≡ (if eqb t.kind Punct then fold brace (counted b) t.text else counted b) }
-    ensures closes_bound { let t = get_or (token_list tokens.now text.now) k no_token in
+    ensures closes_bound { let t = get_or (tokens_of code.now) k no_token in
         result.opens + result.closes ≤ b.opens + b.closes + length t.text }
 {
-    match token_kind(tokens, text, k) {
+    match code.token_kind(k) {
         0 => b,
         1 => b,
         2 => b,
         3 => b,
         4 => b,
         5 => b,
-        6 => in_text(token_text(tokens, text, k), b),
+        6 => in_text(code.token_text(k), b),
         7 => b,
         _ => b,
     }
 }
 
 // The braces of line i.
-pub fn line_braces(lines: &[u32], tokens: &[u32], text: &[u8], i: usize) -> Braces
-    ensures { counted result ≡ braces (line (listing lines.now tokens.now text.now) i) }
+pub fn line_braces(code: &Listing, i: usize) -> Braces
+    ensures { counted result ≡ braces (line (listing_of code.now) i) }
 {
-    let s = line_start(lines, i);
-    let e = line_end(lines, tokens, i);
+    let s = code.line_start(i);
+    let e = code.line_end(i);
     let mut b = Braces {
         opens: 0,
         closes: 0,
     };
-    let mut k = s;
-    while k < e {
-        b = in_token(tokens, text, k, b);
-        k += 1;
+    for k in s..e {
+        b = in_token(code, k, b);
     }
     b
 }

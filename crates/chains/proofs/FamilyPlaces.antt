@@ -3,12 +3,12 @@
 --   place_most       it is at most their number
 --   names_place      a token names family k exactly if its family's place is k + 1
 -- Assumes nothing.
+use Rattle.std.specs.Prelude.{Option, None, Some}
 use Prim.Native.Nat.{ℕ, ◌+◌, ◌<◌, ◌≤◌}
 use mathlib.Core.Path.{◌≡◌, sym, ◌∙◌}
 use mathlib.Core.Logic.{inl, inr}
 use mathlib.Core.Bool.{true, false}
 use mathlib.Core.List.{List}
-use mathlib.Core.Option.{Option, none, some}
 use native.Mathlib.Omega.{arith}
 use native.Mathlib.Numerals.{add-one}
 use lib.Dec.{eqb}
@@ -42,6 +42,6 @@ pub names_place : (L : List Line) (k : ℕ) → k < length (defined_families L) 
 unfolding names
 names_place L k h u = go (fam_of u)
   where
-    go : (o : Option Family) → eqb (place_of (defined_families L) o) (k + 1) ≡ (elim o [ none ↦ false | some y ↦ y.name ≟ family_name L k ])
-    go none = ne_eqb 0 (k + 1) (λ z. omega arith)
-    go (some y) = place_is L k h y.name
+    go : (o : Option Family) → eqb (place_of (defined_families L) o) (k + 1) ≡ (elim o [ None ↦ false | Some y ↦ y.name ≟ family_name L k ])
+    go None = ne_eqb 0 (k + 1) (λ z. omega arith)
+    go (Some y) = place_is L k h y.name

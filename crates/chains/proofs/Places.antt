@@ -9,12 +9,12 @@
 --   per_token_at          what `per_token` has at a place
 --   per_token_by          a list that has it at every place
 -- Assumes nothing.
+use Rattle.std.specs.Prelude.{Option, None, Some}
 use Prim.Native.Nat.{ℕ, zero, suc, ◌+◌, ◌-◌, ◌/◌, ◌<◌, ◌≤◌}
 use mathlib.Core.Path.{◌≡◌, refl, sym, ap, ◌∙◌}
 use mathlib.Core.Logic.{◌⊎◌, inl, inr}
 use mathlib.Core.Bool.{true}
 use mathlib.Core.List.{List}
-use mathlib.Core.Option.{Option, none, some}
 use native.Mathlib.Omega.{arith}
 use lib.ListN.{length, get_or, take, length-take}
 use lib.Dec.{ltb}
@@ -35,8 +35,8 @@ use Rattle.model.proofs.Formed.{line_order, line_within, tokens_before, all_toke
 
 -- what stands at a token whose family is o
 abbrev pub of_family : ℕ → (List ℕ → ℕ → ℕ → ℕ) → Option Family → ℕ → ℕ → ℕ
-of_family other g none i j = other
-of_family other g (some x) i j = g x.name i j
+of_family other g None i j = other
+of_family other g (Some x) i j = g x.name i j
 
 module _ (l t x : List ℕ) (ok : covers 512 0 l (length t) ≡ true) where
   abbrev L : List Line
@@ -107,8 +107,8 @@ module _ (l t x : List ℕ) (ok : covers 512 0 l (length t) ≡ true) where
     per_token_at i j h b = ap (λ (s : ℕ). get_or (per_token other g L) (s + j) 0) (sym (all_before i (omega arith))) ∙ go (fam_of (token (line L i) j)) refl
       where
         go : (o : Option Family) → fam_of (token (line L i) j) ≡ o → get_or (per_token other g L) (length (all_tokens (take i L)) + j) 0 ≡ of_family other g o i j
-        go none e = number_of_other other g L i j (rw length_listing h) b e
-        go (some y) e = number_of_family other g L i j y e
+        go None e = number_of_other other g L i j (rw length_listing h) b e
+        go (Some y) e = number_of_family other g L i j y e
 
     pub per_token_length : length (per_token other g L) ≡ length t
     per_token_length = length_numbers other g L ∙ ap length (all_tokens_listing l t ok x) ∙ length_tokens t x

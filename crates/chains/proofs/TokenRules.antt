@@ -4,12 +4,12 @@
 --   heads_start, heads_next, heads_end    the loop of `no_heads`
 --   chained_start, chained_next           the loop of `chain_tokens`
 -- Assumes nothing.
+use Rattle.std.specs.Prelude.{Option, None, Some}
 use Prim.Native.Nat.{ℕ, zero, suc, ◌+◌, ◌-◌, ◌<◌, ◌≤◌}
 use mathlib.Core.Path.{◌≡◌, refl, sym, ap, ◌∙◌}
 use mathlib.Core.Logic.{◌⊎◌, inl, inr}
 use mathlib.Core.Bool.{Bool, cond}
 use mathlib.Core.List.{List}
-use mathlib.Core.Option.{Option, none, some}
 use native.Mathlib.Omega.{arith}
 use lib.Dec.{eqb}
 use borrow.Author.Tests.{eq-eqb, ne_eqb}
@@ -37,12 +37,12 @@ use Rattle.chains.proofs.FamilyPlaces.{place_most, names_place}
 
 module _ (fs : List (List ℕ)) (f : ℕ) where
   found_low : (o : Option Family) → f ≡ found fs o → f < 2 → place_of fs o ≡ 0
-  found_low none e h = refl
-  found_low (some x) e h = omega (arith, e)
+  found_low None e h = refl
+  found_low (Some x) e h = omega (arith, e)
 
   found_more : (o : Option Family) → f ≡ found fs o → 2 ≤ f → (f - 1) ≡ place_of fs o
-  found_more none e h = absurd (omega (arith, e))
-  found_more (some x) e h = omega (arith, e)
+  found_more None e h = absurd (omega (arith, e))
+  found_more (Some x) e h = omega (arith, e)
 
 -- `link` and `chain_token`
 
@@ -73,8 +73,8 @@ module _ (l t x table : List ℕ) (count p : ℕ) (ns first : List ℕ) (F : Fin
   room = omega (arith, C.room, F.all, e, most (fam_of u))
     where
       most : (o : Option Family) → place_of fs o ≤ length fs
-      most none = omega arith
-      most (some y) = place_most fs y.name
+      most None = omega arith
+      most (Some y) = place_most fs y.name
 
   -- the words from p on, with v at p
   more_words : (v : ℕ) → v ≡ token_word l ts fs p → (q : ℕ) → p ≤ q → q < length t → get_or (set ns p v) q 0 ≡ token_word l ts fs q
@@ -96,9 +96,9 @@ module _ (l t x table : List ℕ) (count p : ℕ) (ns first : List ℕ) (F : Fin
     unfolding token_word waiting
     word_linked = go (fam_of u) e
       where
-        go : (o : Option Family) → c ≡ place_of fs o → chain_word i (get_or first (c - 1) 0) ≡ (elim o [ none ↦ no_family | some y ↦ waiting l ts fs y.name p ])
-        go none q = absurd (n q)
-        go (some y) q = elim (place_cases fs y.name) [
+        go : (o : Option Family) → c ≡ place_of fs o → chain_word i (get_or first (c - 1) 0) ≡ (elim o [ None ↦ no_family | Some y ↦ waiting l ts fs y.name p ])
+        go None q = absurd (n q)
+        go (Some y) q = elim (place_cases fs y.name) [
           | inl g ↦ absurd (n (q ∙ g.0))
           | inr g ↦ (let z : c - 1 ≡ g.0 = omega (arith, q, g.1) in
               rw (g.1, ne_eqb (suc g.0) 0 (λ z. omega arith), at, z)
@@ -141,9 +141,9 @@ module _ (l t x table : List ℕ) (count p : ℕ) (ns first : List ℕ) (F : Fin
   unfolding token_word waiting
   token_other lt v w = kept_out l t x table count p ns first F h C 0 (sym (found_low families f (fam_of token) e lt)) refl v (go (fam_of token) e)
     where
-      go : (o : Option Family) → f ≡ found families o → v ≡ (elim o [ none ↦ no_family | some y ↦ waiting l (token_list t x) families y.name p ])
-      go none q = w ∙ ap (λ (m : ℕ). other_word m) q
-      go (some y) q = w ∙ ap (λ (b : Bool). cond b no_family 0) (ne_eqb f 0 (λ z. omega (arith, q))) ∙ sym (rw (found_low families f (some y) q lt))
+      go : (o : Option Family) → f ≡ found families o → v ≡ (elim o [ None ↦ no_family | Some y ↦ waiting l (token_list t x) families y.name p ])
+      go None q = w ∙ ap (λ (m : ℕ). other_word m) q
+      go (Some y) q = w ∙ ap (λ (b : Bool). cond b no_family 0) (ne_eqb f 0 (λ z. omega (arith, q))) ∙ sym (rw (found_low families f (Some y) q lt))
 
   module _ (n : 2 ≤ f) where
     pub family_room : f - 1 ≤ length first

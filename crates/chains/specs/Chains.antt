@@ -13,8 +13,7 @@
 --   Linked                    what `link` does: the token at place p of line i is put before the chain of family c - 1
 --   Heads a n first           no family has a token: the first n words are a
 -- Assumes nothing.
-use Rattle.std.specs.Prelude.{if◌then◌else◌, ℕ, suc, ◌+◌, ◌*◌, ◌-◌, ◌/◌, ◌<◌, ◌≤◌, ◌≡◌, Bool, true, List, [], ◌∷◌, eqb, ltb, length, get_or, set, drop}
-use Rattle.std.proofs.Math.Option.{none, some}
+use Rattle.std.specs.Prelude.{if◌then◌else◌, ℕ, suc, ◌+◌, ◌*◌, ◌-◌, ◌/◌, ◌<◌, ◌≤◌, ◌≡◌, Bool, true, List, [], ◌∷◌, eqb, ltb, length, get_or, set, drop, None, Some}
 use Rattle.definitions.specs.Model.{Token, no_token}
 use Rattle.definitions.specs.Family.{fam_of, names}
 use Rattle.definitions.specs.Columns.{token_list, listing}
@@ -42,7 +41,7 @@ unfoldable pub waiting : List ℕ → List Token → List (List ℕ) → List �
 waiting l ts fs f p = if eqb (place fs f) 0 then 0 else chain_word (place_line l p) (next_place f ts (p + 1))
 
 unfoldable pub token_word : List ℕ → List Token → List (List ℕ) → ℕ → ℕ
-token_word l ts fs p = elim (fam_of (get_or ts p no_token)) [ none ↦ no_family | some x ↦ waiting l ts fs x.name p ]
+token_word l ts fs p = elim (fam_of (get_or ts p no_token)) [ None ↦ no_family | Some x ↦ waiting l ts fs x.name p ]
 
 abbrev pub other_word : ℕ → ℕ
 other_word f = if eqb f 0 then no_family else 0

@@ -4,14 +4,15 @@
 //
 // Contracts cite `token_word` and `next_place` of specs/Chains.
 ghost use Rattle.std.specs.Prelude.{◌≡◌, suc, ◌+◌, ◌<◌, ◌≤◌, length};
-ghost use Rattle.definitions.specs.Columns.{listing};
 ghost use Rattle.definitions.specs.Recover.{defined_families};
 ghost use Rattle.model.specs.Places.{line_start};
+ghost use Rattle.model.specs.Listings.{listing_of};
 ghost use Rattle.families.specs.Tokens.{Finds};
 ghost use Rattle.memo.specs.Memo.{Memo};
 ghost use Rattle.chains.specs.Chains.{chain_word, other_word, place_line, Bounds, Chained, Linked, Heads};
 
 use memo::token_place;
+use model::listing::Listing;
 use words::narrow;
 
 // The word of a token that is in no chain: f says what was found of it.
@@ -41,9 +42,7 @@ fn link(numbers: &mut [u32], first: &mut [u16], i: usize, p: usize, c: usize)
 
 // The token at place p of line i; those behind it are done.
 fn chain_token(
-    lines: &[u32],
-    tokens: &[u32],
-    text: &[u8],
+    code: &Listing,
     table: &[u16],
     count: usize,
     memo: &mut [usize],
@@ -52,12 +51,12 @@ fn chain_token(
     i: usize,
     p: usize,
 )
-    requires finds { Finds (listing lines.now tokens.now text.now) count table.now × Bounds lines.now tokens.now × (i < length lines.now) × (p < length tokens.now) × (place_line lines.now p ≡ i) × Chained lines.now tokens.now text.now count (p + 1) numbers.old first.old }
-    requires memo { Memo (defined_families (listing lines.now tokens.now text.now)) memo.old × (128 ≤ length memo.old) }
-    ensures chained { Chained lines.now tokens.now text.now count p numbers.new first.new }
-    ensures memo_2 { Memo (defined_families (listing lines.now tokens.now text.now)) memo.new }
+    requires finds { Finds (listing_of code.now) count table.now × Bounds code.now.lines.now code.now.tokens.now × (i < length code.now.lines.now) × (p < length code.now.tokens.now) × (place_line code.now.lines.now p ≡ i) × Chained code.now.lines.now code.now.tokens.now code.now.text.now count (p + 1) numbers.old first.old }
+    requires memo { Memo (defined_families (listing_of code.now)) memo.old × (128 ≤ length memo.old) }
+    ensures chained { Chained code.now.lines.now code.now.tokens.now code.now.text.now count p numbers.new first.new }
+    ensures memo_2 { Memo (defined_families (listing_of code.now)) memo.new }
 {
-    let f = token_place(lines, tokens, text, table, count, memo, p);
+    let f = token_place(code, table, count, memo, p);
     if f < 2 {
         let v = other_word(f);
         numbers[p] = v;
@@ -68,9 +67,7 @@ fn chain_token(
 
 // The tokens of line i; those of the lines behind it are done.
 fn chain_line(
-    lines: &[u32],
-    tokens: &[u32],
-    text: &[u8],
+    code: &Listing,
     table: &[u16],
     count: usize,
     memo: &mut [usize],
@@ -78,18 +75,16 @@ fn chain_line(
     first: &mut [u16],
     i: usize,
 )
-    requires finds { Finds (listing lines.now tokens.now text.now) count table.now × Bounds lines.now tokens.now × (i < length lines.now) × Chained lines.now tokens.now text.now count (line_start lines.now (suc i)) numbers.old first.old }
-    requires memo { Memo (defined_families (listing lines.now tokens.now text.now)) memo.old × (128 ≤ length memo.old) }
-    ensures chained { Chained lines.now tokens.now text.now count (line_start lines.now i) numbers.new first.new }
-    ensures memo_2 { Memo (defined_families (listing lines.now tokens.now text.now)) memo.new }
+    requires finds { Finds (listing_of code.now) count table.now × Bounds code.now.lines.now code.now.tokens.now × (i < length code.now.lines.now) × Chained code.now.lines.now code.now.tokens.now code.now.text.now count (line_start code.now.lines.now (suc i)) numbers.old first.old }
+    requires memo { Memo (defined_families (listing_of code.now)) memo.old × (128 ≤ length memo.old) }
+    ensures chained { Chained code.now.lines.now code.now.tokens.now code.now.text.now count (line_start code.now.lines.now i) numbers.new first.new }
+    ensures memo_2 { Memo (defined_families (listing_of code.now)) memo.new }
 {
-    let s = model::columns::line_start(lines, i);
-    let mut p = model::columns::line_end(lines, tokens, i);
+    let s = code.line_start(i);
+    let mut p = code.line_end(i);
     while s < p {
         p -= 1;
-        chain_token(
-            lines, tokens, text, table, count, memo, numbers, first, i, p,
-        );
+        chain_token(code, table, count, memo, numbers, first, i, p);
     }
 }
 
@@ -99,49 +94,43 @@ fn no_heads(first: &mut [u16], end: usize)
     ensures { Heads end (length first.old) first.new }
 {
     let v = narrow(end);
-    let mut k = 0;
-    while k < first.len() {
+    for k in 0..first.len() {
         first[k] = v;
-        k += 1;
     }
 }
 
 // The words of all tokens, and the first place of each family; `first` has no token yet.
 fn chain_lines(
-    lines: &[u32],
-    tokens: &[u32],
-    text: &[u8],
+    code: &Listing,
     table: &[u16],
     count: usize,
     memo: &mut [usize],
     numbers: &mut [u32],
     first: &mut [u16],
 )
-    requires finds { Finds (listing lines.now tokens.now text.now) count table.now × Bounds lines.now tokens.now × Chained lines.now tokens.now text.now count (line_start lines.now (length lines.now)) numbers.old first.old }
-    requires memo { Memo (defined_families (listing lines.now tokens.now text.now)) memo.old × (128 ≤ length memo.old) }
-    ensures { Chained lines.now tokens.now text.now count 0 numbers.new first.new }
+    requires finds { Finds (listing_of code.now) count table.now × Bounds code.now.lines.now code.now.tokens.now × Chained code.now.lines.now code.now.tokens.now code.now.text.now count (line_start code.now.lines.now (length code.now.lines.now)) numbers.old first.old }
+    requires memo { Memo (defined_families (listing_of code.now)) memo.old × (128 ≤ length memo.old) }
+    ensures { Chained code.now.lines.now code.now.tokens.now code.now.text.now count 0 numbers.new first.new }
 {
-    let mut i = lines.len();
+    let mut i = code.lines.len();
     while 0 < i {
         i -= 1;
-        chain_line(lines, tokens, text, table, count, memo, numbers, first, i);
+        chain_line(code, table, count, memo, numbers, first, i);
     }
 }
 
 // The words of all tokens, and the first place of each family.
 pub fn chain_tokens(
-    lines: &[u32],
-    tokens: &[u32],
-    text: &[u8],
+    code: &Listing,
     table: &[u16],
     count: usize,
     numbers: &mut [u32],
     first: &mut [u16],
 )
-    requires { Finds (listing lines.now tokens.now text.now) count table.now × Bounds lines.now tokens.now × (length numbers.old ≡ length tokens.now) × (count ≤ length first.old) }
-    ensures { Chained lines.now tokens.now text.now count 0 numbers.new first.new }
+    requires { Finds (listing_of code.now) count table.now × Bounds code.now.lines.now code.now.tokens.now × (length numbers.old ≡ length code.now.tokens.now) × (count ≤ length first.old) }
+    ensures { Chained code.now.lines.now code.now.tokens.now code.now.text.now count 0 numbers.new first.new }
 {
     let mut memo = [0usize; 128];
-    no_heads(first, tokens.len());
-    chain_lines(lines, tokens, text, table, count, &mut memo, numbers, first);
+    no_heads(first, code.tokens.len());
+    chain_lines(code, table, count, &mut memo, numbers, first);
 }

@@ -10,57 +10,52 @@ ghost use Rattle.questions.specs.Refusals.{at_most};
 ghost use Rattle.pseudo_ssa.specs.Answers.{lent};
 ghost use Rattle.choose.specs.Choices.{called, choose_call_of};
 
-use pseudo_ssa::Webs;
-use questions::Limits;
+use model::listing::Listing;
+use questions::{Limits, Refusal};
 
-// Webs, with the total of sweeps, or splits, or refused, with the number of the question.
+// Webs, with the total of sweeps, or splits.
 #[derive(Drop)]
 pub enum Choice {
     ByWebs(usize),
     BySplits,
-    Refused(usize),
 }
 
 // The chooser with the limits `most`.
 pub fn choose_within(
-    lines: &[u32],
-    tokens: &[u32],
-    text: &[u8],
+    code: &Listing,
     numbers: &mut [u32],
     marks: &mut [u8],
     space: &mut [u64],
     most: Limits,
-) -> Choice
+) -> Result<Choice, Refusal>
     requires { (most.lines ≤ 1024) × (most.tokens ≤ 16384) }
-    ensures { called result numbers.new marks.new space.new ≡ choose_call_of (at_most most) lines.now tokens.now text.now (lent numbers.old marks.old space.old) }
+    ensures { called result numbers.new marks.new space.new ≡ choose_call_of (at_most most) code.now.lines.now code.now.tokens.now code.now.text.now (lent numbers.old marks.old space.old) }
 {
-    match pseudo_ssa::recover_within(lines, tokens, text, numbers, marks, space, most, 4294967295) {
-        Webs::Accepted(sweeps) => Choice::ByWebs(sweeps),
-        Webs::Refused(number) => {
-            if number < 7 {
-                return Choice::Refused(number);
+    match pseudo_ssa::recover_within(code, numbers, marks, space, most, 4294967295) {
+        Ok(sweeps) => Ok(Choice::ByWebs(sweeps)),
+        Err(refusal) => {
+            if refusal.number() < 7 {
+                return Err(refusal);
             }
-            splits::call::split_numbers(lines, tokens, text, numbers, marks);
-            Choice::BySplits
+            splits::call::split_numbers(code, numbers, marks);
+            Ok(Choice::BySplits)
         }
     }
 }
 
 // The chooser.
 pub fn choose(
-    lines: &[u32],
-    tokens: &[u32],
-    text: &[u8],
+    code: &Listing,
     numbers: &mut [u32],
     marks: &mut [u8],
     space: &mut [u64],
-) -> Choice
-    ensures { called result numbers.new marks.new space.new ≡ choose_call lines.now tokens.now text.now (lent numbers.old marks.old space.old) }
+) -> Result<Choice, Refusal>
+    ensures { called result numbers.new marks.new space.new ≡ choose_call code.now.lines.now code.now.tokens.now code.now.text.now (lent numbers.old marks.old space.old) }
 {
     let most = Limits {
         lines: 1024,
         tokens: 16384,
         text: 262144,
     };
-    choose_within(lines, tokens, text, numbers, marks, space, most)
+    choose_within(code, numbers, marks, space, most)
 }

@@ -4,36 +4,33 @@
 --   condition_none, condition_past, condition_shut, condition_open     no condition: no keyword, nothing behind it, no ` (`, no end
 --   condition_is                                      the condition
 -- Assumes nothing.
+use Rattle.std.specs.Prelude.{Option, None, Some, slice_get}
 use mathlib.Core.Path.{◌≡◌, refl, sym, ◌∙◌}
 use mathlib.Core.Bool.{Bool, true, false}
 use mathlib.Core.List.{List, [], ◌∷◌}
-use mathlib.Core.Option.{Option, none, some}
 use Prim.Native.Nat.{ℕ, zero, suc, ◌+◌, ◌-◌, ◌≤◌, ◌<◌}
 use native.Mathlib.Nat.{le_of_suc-le-suc, not-suc-le-zero}
 use native.Mathlib.Omega.{arith}
-use lib.ListN.{length, get_or, drop, get_elem?}
+use lib.ListN.{length, get_or, drop}
 use Rattle.definitions.specs.Lists.{◌>>=◌, require, position, last, starts_with, ends_with, ascii}
 use Rattle.definitions.specs.Model.{Line, no_token, token}
 use Rattle.definitions.specs.Statements.{is_kw}
 use Rattle.definitions.specs.Condition.{cut, closing, condition}
-use Rattle.pseudo_opt.specs.Places.{found}
 use Rattle.condition.specs.Conditions.{cut_by}
-use Rattle.pseudo_opt.specs.declared.Found.{Found}
-use Rattle.pseudo_opt.specs.declared.Found.TheVariants.{At, Nothing}
 
 -- The end
 
 module _ (s : List ℕ) (b : Bool) (p : b ≡ ends_with (ascii ") {") s) where
-  pub closing_brace : b ≡ true → some 3 ≡ closing s
+  pub closing_brace : b ≡ true → Some 3 ≡ closing s
   unfolding closing
   closing_brace f = rw (← p, f)
 
   module _ (f : b ≡ false) (c : Bool) (q : c ≡ ends_with (ascii ");") s) where
-    pub closing_semicolon : c ≡ true → some 2 ≡ closing s
+    pub closing_semicolon : c ≡ true → Some 2 ≡ closing s
     unfolding closing
     closing_semicolon g = rw (← p, f, ← q, g)
 
-    pub closing_none : c ≡ false → none ≡ closing s
+    pub closing_none : c ≡ false → None ≡ closing s
     unfolding closing
     closing_none g = rw (← p, f, ← q, g)
 
@@ -44,17 +41,17 @@ closes_of o s l n m e q d = rw (← d, ← q) e
 -- Elements that may be missing
 
 module _ {A : Type 0} (d : A) where
-  element_some : (xs : List A) (k : ℕ) → k < length xs → get_elem? xs k ≡ some (get_or xs k d)
+  element_some : (xs : List A) (k : ℕ) → k < length xs → slice_get xs k ≡ Some (get_or xs k d)
   element_some [] k h = absurd (not-suc-le-zero h)
   element_some (x ∷ xs) zero h = refl
   element_some (x ∷ xs) (suc k) h = element_some xs k (le_of_suc-le-suc h)
 
-  element_none : (xs : List A) (k : ℕ) → length xs ≤ k → get_elem? xs k ≡ none
+  element_none : (xs : List A) (k : ℕ) → length xs ≤ k → slice_get xs k ≡ None
   element_none [] k h = refl
   element_none (x ∷ xs) zero h = absurd (not-suc-le-zero h)
   element_none (x ∷ xs) (suc k) h = element_none xs k (le_of_suc-le-suc h)
 
-  last_some : (xs : List A) (k : ℕ) → length xs ≡ suc k → last xs ≡ some (get_or xs k d)
+  last_some : (xs : List A) (k : ℕ) → length xs ≡ suc k → last xs ≡ Some (get_or xs k d)
   unfolding last
   last_some [] k h = absurd (omega arith)
   last_some (x ∷ []) zero h = refl
@@ -64,34 +61,34 @@ module _ {A : Type 0} (d : A) where
 
 -- The condition
 
-module _ (l : Line) (kw : List ℕ) (f : Found) (e : found f ≡ position (is_kw kw) l.tokens) where
-  pub condition_none : f ≡ Nothing → none ≡ condition l kw
+module _ (l : Line) (kw : List ℕ) (f : Option ℕ) (e : f ≡ position (is_kw kw) l.tokens) where
+  pub condition_none : f ≡ None → None ≡ condition l kw
   unfolding condition
   condition_none q = rw (← e, q)
 
-  module _ (k n m : ℕ) (q : f ≡ At k) (c : n ≡ length l.tokens) (d : m ≡ n - 1) where
-    pub condition_past : m ≤ k → none ≡ condition l kw
+  module _ (k n m : ℕ) (q : f ≡ Some k) (c : n ≡ length l.tokens) (d : m ≡ n - 1) where
+    pub condition_past : m ≤ k → None ≡ condition l kw
     unfolding condition
     condition_past h = rw (← e, q, element_none no_token l.tokens (k + 1) (omega arith))
 
     module _ (h : k < m) (b : Bool) (o : b ≡ starts_with (ascii " (") (token l (k + 1)).text) where
       condition_step : condition l kw
-          ≡ (require b >>= λ _. closing (token l (n - 1)).text >>= λ z. some (cut 2 z (drop (k + 1) l.tokens)))
+          ≡ (require b >>= λ _. closing (token l (n - 1)).text >>= λ z. Some (cut 2 z (drop (k + 1) l.tokens)))
       unfolding condition
       condition_step =
           rw (← e, q, element_some no_token l.tokens (k + 1) (omega arith), last_some no_token l.tokens (n - 1) (omega arith), ← o)
 
-      pub condition_shut : b ≡ false → none ≡ condition l kw
+      pub condition_shut : b ≡ false → None ≡ condition l kw
       condition_shut g = sym (condition_step ∙ rw g)
 
       module _ (g : b ≡ true) (z : ℕ) (r : cut_by z ≡ closing (token l (n - 1)).text) where
-        pub condition_open : z ≡ 0 → none ≡ condition l kw
+        pub condition_open : z ≡ 0 → None ≡ condition l kw
         condition_open i = sym (condition_step ∙ rw (g, ← r, i))
 
-        pub condition_is : (z ≡ 0 → ⊥) → some (cut 2 z (drop (k + 1) l.tokens)) ≡ condition l kw
+        pub condition_is : (z ≡ 0 → ⊥) → Some (cut 2 z (drop (k + 1) l.tokens)) ≡ condition l kw
         condition_is i = sym (condition_step ∙ rw (g, ← r) (go z i))
           where
-            go : (y : ℕ) → (y ≡ 0 → ⊥) → (cut_by y >>= λ w. some (cut 2 w (drop (k + 1) l.tokens))) ≡ some (cut 2 y (drop (k + 1) l.tokens))
+            go : (y : ℕ) → (y ≡ 0 → ⊥) → (cut_by y >>= λ w. Some (cut 2 w (drop (k + 1) l.tokens))) ≡ Some (cut 2 y (drop (k + 1) l.tokens))
             go zero i = absurd (i refl)
             go (suc y) i = refl
 

@@ -9,26 +9,25 @@
 ghost use Rattle.std.specs.Prelude.{◌≡◌, ◌-◌};
 ghost use Rattle.definitions.specs.Lists.{starts_with, ascii};
 ghost use Rattle.definitions.specs.Model.{token, line};
-ghost use Rattle.definitions.specs.Columns.{listing};
 ghost use Rattle.definitions.specs.Condition.{closing, condition};
+ghost use Rattle.model.specs.Listings.{listing_of};
 ghost use Rattle.condition.specs.Conditions.{cut_by, conditional};
 
-use pseudo_opt::Found;
+use model::listing::Listing;
 use pseudo_opt::keywords::keyword_at;
-use text::less;
 
-#[derive(Drop)]
-pub enum Conditional {
-    // The tokens behind the one at place `keyword`, the first without its ` (`, the last without `end` bytes; empty ones do not count.
-    Cut { keyword: usize, end: usize },
-    Nothing,
+// A condition: the tokens behind the one at place `keyword`, the first without its ` (`, the last without `end` bytes; empty ones do not count.
+#[derive(Clone, Copy)]
+pub struct Cut {
+    pub keyword: usize,
+    pub end: usize,
 }
 
-fn opens(lines: &[u32], tokens: &[u32], text: &[u8], i: usize, k: usize) -> bool
-    ensures { let l = line (listing lines.now tokens.now text.now) i in
+fn opens(code: &Listing, i: usize, k: usize) -> bool
+    ensures { let l = line (listing_of code.now) i in
         result ≡ starts_with (ascii " (") (token l k).text }
 {
-    text::starts_with(model::columns::text_at(lines, tokens, text, i, k), b" (")
+    text::starts_with(code.text_at(i, k), b" (")
 }
 
 // How many bytes the text loses at its end, 0 where it does not close a condition.
@@ -45,30 +44,28 @@ fn closing(s: &[u8]) -> usize
 }
 
 // The same of the last token of line i, where it has n tokens.
-fn closes(lines: &[u32], tokens: &[u32], text: &[u8], i: usize, n: usize) -> usize
-    ensures { let l = line (listing lines.now tokens.now text.now) i in
+fn closes(code: &Listing, i: usize, n: usize) -> usize
+    ensures { let l = line (listing_of code.now) i in
         cut_by result ≡ closing (token l (n - 1)).text }
 {
-    closing(model::columns::text_at(lines, tokens, text, i, less(n, 1)))
+    closing(code.text_at(i, n.saturating_sub(1)))
 }
 
 // The condition after the first keyword kw of line i.
-pub fn condition(lines: &[u32], tokens: &[u32], text: &[u8], i: usize, kw: &[u8]) -> Conditional
-    ensures { let l = line (listing lines.now tokens.now text.now) i in
+pub fn condition(code: &Listing, i: usize, kw: &[u8]) -> Option<Cut>
+    ensures { let l = line (listing_of code.now) i in
         conditional l result ≡ condition l kw.now }
 {
-    let Found::At(k) = keyword_at(lines, tokens, text, i, kw) else {
-        return Conditional::Nothing;
-    };
-    let n = model::columns::token_count(lines, tokens, text, i);
-    if less(n, 1) <= k {
-        return Conditional::Nothing;
+    let k = keyword_at(code, i, kw)?;
+    let n = code.token_count(i);
+    if n.saturating_sub(1) <= k {
+        return None;
     }
-    if opens(lines, tokens, text, i, k + 1) {
-        let end = closes(lines, tokens, text, i, n);
+    if opens(code, i, k + 1) {
+        let end = closes(code, i, n);
         if end != 0 {
-            return Conditional::Cut { keyword: k, end };
+            return Some(Cut { keyword: k, end });
         }
     }
-    Conditional::Nothing
+    None
 }

@@ -10,12 +10,12 @@
 --   marked_empty, empty_kept     what was marked in an empty column
 --   no_gotos                a listing without gotos
 -- Assumes nothing.
+use Rattle.std.specs.Prelude.{Option, None, Some}
 use Prim.Native.Nat.{ℕ, zero, suc, ◌+◌, ◌-◌, ◌<◌, ◌≤◌, max, min}
 use mathlib.Core.Path.{◌≡◌, refl, sym, ap, ◌∙◌}
 use mathlib.Core.Logic.{inl, inr}
 use mathlib.Core.Bool.{Bool, true, false, cond, ◌&&◌, ◌||◌, or-false, or_assoc}
 use mathlib.Core.List.{List, [], ◌∷◌, ◌++◌, map, map-append}
-use mathlib.Core.Option.{Option, none, some}
 use native.Mathlib.Decide.{ℕ_discrete}
 use native.Mathlib.Nat.{sub-zero}
 use native.Mathlib.Omega.{arith}
@@ -35,9 +35,6 @@ use Rattle.model.proofs.Decode.{length_listing, length_tokens}
 use Rattle.theory.proofs.Bools.{same_test, and_both, and_split, or_left, or_right, or_cases, not_so, lt_or_ge}
 use Rattle.theory.proofs.ListLaws.{any_found, any_here, member_range, range_member}
 use Rattle.labels.specs.Gotos.{targets_at, goto_line}
-use Rattle.labels.specs.Buckets.{line_of}
-use Rattle.labels.specs.declared.Label.{Label}
-use Rattle.labels.specs.declared.Label.TheVariants.{At, Missing}
 use Rattle.labels.proofs.Leads.{line_tokens, leads_at}
 use Rattle.crossings.specs.Crossed.{goto, gotos, line_gotos, crossed, Marked, Marking}
 
@@ -126,32 +123,32 @@ module _ (far₀ far : List ℕ) (i q : ℕ) where
 
 -- One goto
 
-last_inside : {A : Type 0} (p : A → Bool) (xs : List A) (k : ℕ) → last_position p xs ≡ some k → k < length xs
+last_inside : {A : Type 0} (p : A → Bool) (xs : List A) (k : ℕ) → last_position p xs ≡ Some k → k < length xs
 unfolding last_position
 last_inside p [] k e = let z : ◌≡◌ {A = ℕ} 0 1 = cc in absurd (omega arith)
 last_inside p (x ∷ xs) k e = go (last_position p xs) (last_inside p xs) (p x) e
   where
-    go : (o : Option ℕ) → ((k : ℕ) → o ≡ some k → k < length xs) → (b : Bool)
-        → (elim o [ some j ↦ some (suc j) | none ↦ cond b (some 0) none ]) ≡ some k → k < suc (length xs)
-    go (some j) r b e = let h = r j refl in let z : suc j ≡ k = cc in omega arith
-    go none r true e = let z : 0 ≡ k = cc in omega arith
-    go none r false e = let z : ◌≡◌ {A = ℕ} 0 1 = cc in absurd (omega arith)
+    go : (o : Option ℕ) → ((k : ℕ) → o ≡ Some k → k < length xs) → (b : Bool)
+        → (elim o [ Some j ↦ Some (suc j) | None ↦ cond b (Some 0) None ]) ≡ Some k → k < suc (length xs)
+    go (Some j) r b e = let h = r j refl in let z : suc j ≡ k = cc in omega arith
+    go None r true e = let z : 0 ≡ k = cc in omega arith
+    go None r false e = let z : ◌≡◌ {A = ℕ} 0 1 = cc in absurd (omega arith)
 
-pub label_inside : (l t x : List ℕ) (us : List Token) (far : List ℕ) (k e q : ℕ) (f : Label) → line_of f ≡ goto_line (listing l t x) us k e → f ≡ At q → length l ≤ length far → q < length far
+pub label_inside : (l t x : List ℕ) (us : List Token) (far : List ℕ) (k e q : ℕ) (f : Option ℕ) → f ≡ goto_line (listing l t x) us k e → f ≡ Some q → length l ≤ length far → q < length far
 unfolding label_line
 label_inside l t x us far k e q f w z h =
-    omega (arith, length_listing l t x, go (first_symbol (part k e us)) (sym w ∙ ap line_of z))
+    omega (arith, length_listing l t x, go (first_symbol (part k e us)) (sym w ∙ z))
   where
-    go : (o : Option (List ℕ)) → (o >>= label_line (listing l t x)) ≡ some q → q < length (listing l t x)
-    go (some s) e = last_inside (λ l. is_label l && (label l ≟ s)) (listing l t x) q e
-    go none e = let z : ◌≡◌ {A = ℕ} 0 1 = cc in absurd (omega arith)
+    go : (o : Option (List ℕ)) → (o >>= label_line (listing l t x)) ≡ Some q → q < length (listing l t x)
+    go (Some s) e = last_inside (λ l. is_label l && (label l ≟ s)) (listing l t x) q e
+    go None e = let z : ◌≡◌ {A = ℕ} 0 1 = cc in absurd (omega arith)
 
-module _ (i : ℕ) (f : Label) (o : Option ℕ) (e : line_of f ≡ o) where
-  pub token_none : f ≡ Missing → (far : List ℕ) → Marked far far (gotos i (to_list o))
+module _ (i : ℕ) (f : Option ℕ) (o : Option ℕ) (e : f ≡ o) where
+  pub token_none : f ≡ None → (far : List ℕ) → Marked far far (gotos i (to_list o))
   unfolding any
   token_none z far = rw (← e, z) (record { at = λ k. sym (or-false (crossed far k)) })
 
-  pub token_some : (q : ℕ) (far₀ far : List ℕ) → f ≡ At q → Marked far₀ far (goto i q ∷ []) → Marked far₀ far (gotos i (to_list o))
+  pub token_some : (q : ℕ) (far₀ far : List ℕ) → f ≡ Some q → Marked far₀ far (goto i q ∷ []) → Marked far₀ far (gotos i (to_list o))
   token_some q far₀ far z m = rw (← e, z) m
 
 -- One list of gotos after the other

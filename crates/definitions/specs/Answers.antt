@@ -4,8 +4,7 @@
 --   splits L                 split numbers and marks
 --   choose L                 webs, or splits where webs refuses, and which
 -- Assumes nothing.
-use Rattle.std.specs.Prelude.{if◌then◌else◌, ℕ, Bool, ◌&&◌, not, List, [], map, eqb, leb, length}
-use Rattle.std.proofs.Math.Option.{Option, none, some}
+use Rattle.std.specs.Prelude.{if◌then◌else◌, ℕ, Bool, ◌&&◌, not, List, [], map, eqb, leb, length, Option, None, Some}
 use Rattle.definitions.specs.Lists.{is_some, or_else, concat, up_to}
 use Rattle.definitions.specs.Model.{Line, token, line}
 use Rattle.definitions.specs.Family.{fam_of}
@@ -46,7 +45,7 @@ no_family = 4294967295
 -- f of each token's family, line and place, and `other` where the token has no family
 unfoldable pub per_token : ℕ → (List ℕ → ℕ → ℕ → ℕ) → List Line → List ℕ
 per_token other f L =
-    concat (map (λ i. map (λ k. elim (fam_of (token (line L i) k)) [ none ↦ other | some x ↦ f x.name i k ])
+    concat (map (λ i. map (λ k. elim (fam_of (token (line L i) k)) [ None ↦ other | Some x ↦ f x.name i k ])
     (up_to (length (line L i).tokens))) (up_to (length L)))
 
 abbrev pub mark : Bool → ℕ
@@ -69,13 +68,13 @@ numbered_splits L ss = record {
 -- Questions 7 to 9: two lines or more? Does every brace match? Has every goto keyword a symbol after it, the first of which names a label?
 unfoldable pub webs_refusal : List Line → Option ℕ
 webs_refusal L =
-    if not (leb 2 (length L)) then some 7
-    else if not (is_some (blocks L)) then some 8
-    else if not (gotos_lead L) then some 9
-    else none
+    if not (leb 2 (length L)) then Some 7
+    else if not (is_some (blocks L)) then Some 8
+    else if not (gotos_lead L) then Some 9
+    else None
 
 unfoldable pub webs : List Line → Answer Numbered
-webs L = elim (webs_refusal L) [ some n ↦ refused n | none ↦ accepted (numbered_webs L (or_else (recover L) [])) ]
+webs L = elim (webs_refusal L) [ Some n ↦ refused n | None ↦ accepted (numbered_webs L (or_else (recover L) [])) ]
 
 unfoldable pub splits : List Line → Numbered
 splits L = numbered_splits L (split_points L)

@@ -2,8 +2,7 @@
 --   braces l     how many blocks line l closes that earlier lines opened, and how many it opens that later lines close
 --   blocks L     for each line the line that closes its block, and the openers of the blocks around it; none where a brace does not match
 -- Assumes nothing.
-use Rattle.std.specs.Prelude.{if◌then◌else◌, ℕ, zero, suc, ◌+◌, ◌-◌, List, [], ◌∷◌, ◌++◌, eqb, ltb, length, set, replicate}
-use Rattle.std.proofs.Math.Option.{Option, none, some}
+use Rattle.std.specs.Prelude.{if◌then◌else◌, ℕ, zero, suc, ◌+◌, ◌-◌, List, [], ◌∷◌, ◌++◌, eqb, ltb, length, set, replicate, Option, None, Some}
 use Rattle.definitions.specs.Lists.{◌>>=◌, require, filter, fold, ◌≟◌}
 use Rattle.definitions.specs.Model.{Line, text, Punct}
 
@@ -38,10 +37,10 @@ pub record Open : Type 0 where
 
 -- Line i closes k blocks. A line that opens twice has the later close.
 unfoldable pub close : ℕ → ℕ → Open → Option Open
-close i zero o = some o
+close i zero o = Some o
 close i (suc k) o = elim o.stack [
-  | [] ↦ none
-  | h ∷ hs ↦ close i k (record { stack = hs; ends = set o.ends h (some i); enclosing = o.enclosing })
+  | [] ↦ None
+  | h ∷ hs ↦ close i k (record { stack = hs; ends = set o.ends h (Some i); enclosing = o.enclosing })
 ]
 
 -- Line i opens k blocks; it lies itself in those that were open before.
@@ -49,11 +48,11 @@ abbrev pub enter : ℕ → ℕ → Open → Open
 enter i k o = record { stack = replicate k i ++ o.stack; ends = o.ends; enclosing = o.enclosing ++ (o.stack ∷ []) }
 
 unfoldable pub blocks_from : ℕ → List Line → Open → Option Open
-blocks_from i [] o = some o
+blocks_from i [] o = Some o
 blocks_from i (l ∷ ls) o = close i (braces l).closes o >>= λ closed. blocks_from (suc i) ls (enter i (braces l).opens closed)
 
 unfoldable pub blocks : List Line → Option Blocks
 blocks L = do
-  o ← blocks_from 0 L (record { stack = []; ends = replicate (length L) none; enclosing = [] })
+  o ← blocks_from 0 L (record { stack = []; ends = replicate (length L) None; enclosing = [] })
   _ ← require (o.stack ≟ [])
-  some (record { ends = o.ends; enclosing = o.enclosing })
+  Some (record { ends = o.ends; enclosing = o.enclosing })

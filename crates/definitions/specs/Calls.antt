@@ -4,8 +4,7 @@
 --   pass_call      `recover_loops` or `recover_goto_loops` over columns
 --   web_call, split_call, choose_call
 -- Assumes nothing.
-use Rattle.std.specs.Prelude.{ℕ, ◌-◌, Bool, ◌&&◌, List, [], ◌∷◌, ◌++◌, eqb, leb, length, replicate}
-use Rattle.std.proofs.Math.Option.{Option, none, some}
+use Rattle.std.specs.Prelude.{ℕ, ◌-◌, Bool, ◌&&◌, List, [], ◌∷◌, ◌++◌, eqb, leb, length, replicate, Option, None, Some}
 use Rattle.definitions.specs.Model.{Line}
 use Rattle.definitions.specs.Columns.{listing, with_addresses, line_words, address_words, token_words, text_bytes}
 use Rattle.definitions.specs.Questions.{Limits, limits, question_1, question_2, question_3, question_4, question_5, pass_room, refusal}
@@ -64,8 +63,8 @@ passed (accepted M) out = record { answer = accepted (counts M); out = packed M 
 
 unfoldable pub pass_call : (List Line → Answer (List Line)) → Columns → Columns → Passed
 pass_call pass c out = elim (pass_refusal c out) [
-  | some n ↦ record { answer = refused n; out = out }
-  | none ↦ passed (pass (with_addresses c.lines c.addresses (listing c.lines c.tokens c.text))) out
+  | Some n ↦ record { answer = refused n; out = out }
+  | None ↦ passed (pass (with_addresses c.lines c.addresses (listing c.lines c.tokens c.text))) out
 ]
 
 -- Webs: questions 1, 2, 3, 4, 5, 7, 8, 9. Splits: 1, 2, 3, 4. The chooser: 1, 2, 3, 4, 5.
@@ -103,14 +102,14 @@ webs_written (accepted r) o = record { answer = accepted r.sweeps; lent = writte
 -- answers the total number of sweeps
 unfoldable pub web_call : List ℕ → List ℕ → List ℕ → Lent → Called ℕ
 web_call l t x o = elim (web_refusal l t x o) [
-  | some n ↦ record { answer = refused n; lent = o }
-  | none ↦ webs_written (webs (listing l t x)) o
+  | Some n ↦ record { answer = refused n; lent = o }
+  | None ↦ webs_written (webs (listing l t x)) o
 ]
 
 unfoldable pub split_call : List ℕ → List ℕ → List ℕ → Lent → Called (Unit {0})
 split_call l t x o = elim (split_refusal l t x o) [
-  | some n ↦ record { answer = refused n; lent = o }
-  | none ↦ record { answer = accepted tt; lent = written (splits (listing l t x)) o }
+  | Some n ↦ record { answer = refused n; lent = o }
+  | None ↦ record { answer = accepted tt; lent = written (splits (listing l t x)) o }
 ]
 
 -- which of the two was chosen, webs with the total number of sweeps
@@ -124,6 +123,6 @@ chosen_written (chose_splits r) o = record { answer = accepted by_splits; lent =
 
 unfoldable pub choose_call : List ℕ → List ℕ → List ℕ → Lent → Called Chosen
 choose_call l t x o = elim (web_refusal l t x o) [
-  | some n ↦ record { answer = refused n; lent = o }
-  | none ↦ chosen_written (choose (listing l t x)) o
+  | Some n ↦ record { answer = refused n; lent = o }
+  | None ↦ chosen_written (choose (listing l t x)) o
 ]

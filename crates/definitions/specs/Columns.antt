@@ -9,8 +9,7 @@
 --   with_addresses l a L     the listing L with the addresses of the column a where the words l have one
 --   line_words L, address_words L, token_words L, text_bytes L    the columns of a listing
 -- Assumes nothing.
-use Rattle.std.specs.Prelude.{if◌then◌else◌, ℕ, ◌+◌, ◌*◌, ◌/◌, ◌%◌, List, [], ◌∷◌, map, eqb, length}
-use Rattle.std.proofs.Math.Option.{Option, none, some}
+use Rattle.std.specs.Prelude.{if◌then◌else◌, ℕ, ◌+◌, ◌*◌, ◌/◌, ◌%◌, List, [], ◌∷◌, map, eqb, length, Option, None, Some}
 use Rattle.definitions.specs.Lists.{is_some, or_else, part, concat}
 use Rattle.definitions.specs.Model.{Token, Line, tok, pseudo_line, text}
 
@@ -24,7 +23,7 @@ abbrev pub token_of : ℕ → List ℕ → Token
 token_of w s = tok s (w % 256)
 
 abbrev pub line_of : ℕ → List Token → Line
-line_of w ts = pseudo_line none (w % 256) ts
+line_of w ts = pseudo_line None (w % 256) ts
 
 abbrev pub token_list : List ℕ → List ℕ → List Token
 token_list t x = pieces 256 token_of 0 t x
@@ -33,7 +32,7 @@ abbrev pub listing : List ℕ → List ℕ → List ℕ → List Line
 listing l t x = pieces 512 line_of 0 l (token_list t x)
 
 abbrev pub address_of : ℕ → ℕ → Option ℕ
-address_of w a = if eqb (w / 256 % 2) 1 then some a else none
+address_of w a = if eqb (w / 256 % 2) 1 then Some a else None
 
 unfoldable pub with_addresses : List ℕ → List ℕ → List Line → List Line
 with_addresses (w ∷ ws) (a ∷ rest) (l ∷ ls) = pseudo_line (address_of w a) l.indent l.tokens ∷ with_addresses ws rest ls

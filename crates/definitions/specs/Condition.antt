@@ -2,10 +2,8 @@
 --   condition l kw    the tokens between the brackets after the keyword kw of line l
 --   negate_cond c     the condition that holds where c does not
 -- Assumes nothing.
-use Rattle.std.specs.Prelude.{if◌then◌else◌, ℕ, zero, suc, ◌+◌, ◌-◌, Bool, ◌&&◌, ◌||◌, not, List, [], ◌∷◌, ◌++◌, eqb, length, take, drop}
+use Rattle.std.specs.Prelude.{if◌then◌else◌, ℕ, zero, suc, ◌+◌, ◌-◌, Bool, ◌&&◌, ◌||◌, not, List, [], ◌∷◌, ◌++◌, eqb, length, take, drop, Option, None, Some, slice_get}
 use Prim.Native.String.{String}
-use Rattle.std.proofs.Math.Option.{Option, none, some}
-use Rattle.std.proofs.Math.ListN.{get_elem?}
 use Rattle.definitions.specs.Lists.{◌>>=◌, require, position, find, filter, count, last, on_first, on_last, on_part, starts_with, ends_with, ascii}
 use Rattle.definitions.specs.Model.{Token, Line, tok, Keyword, Punct}
 use Rattle.definitions.specs.Statements.{is_kw, is_empty, merge}
@@ -24,16 +22,16 @@ abbrev pub cut : ℕ → ℕ → List Token → List Token
 cut n m ts = filter (λ t. not (is_empty t)) (on_last (cut_end m) (on_first (cut_front n) ts))
 
 unfoldable pub closing : List ℕ → Option ℕ
-closing s = if ends_with (ascii ") {") s then some 3 else if ends_with (ascii ");") s then some 2 else none
+closing s = if ends_with (ascii ") {") s then Some 3 else if ends_with (ascii ");") s then Some 2 else None
 
 unfoldable pub condition : Line → List ℕ → Option (List Token)
 condition l kw = do
   k ← position (is_kw kw) l.tokens
-  opening ← get_elem? l.tokens (k + 1)
+  opening ← slice_get l.tokens (k + 1)
   end ← last l.tokens
   _ ← require (starts_with (ascii " (") opening.text)
   n ← closing end.text
-  some (cut 2 n (drop (k + 1) l.tokens))
+  Some (cut 2 n (drop (k + 1) l.tokens))
 
 -- Negation: over punct tokens at bracket depth 0 exactly one comparison and no ` && ` or ` || ` flips it; otherwise `!(..)`.
 
@@ -64,7 +62,7 @@ pub record Seen : Type 0 where
   pub found : Option Found
 
 abbrev pub nothing_seen : Seen
-nothing_seen = record { opened = 0; closed = 0; count = 0; found = none }
+nothing_seen = record { opened = 0; closed = 0; count = 0; found = None }
 
 abbrev pub at_depth_0 : Seen → Bool
 at_depth_0 r = eqb r.opened r.closed
@@ -76,14 +74,14 @@ abbrev pub add_count : ℕ → Seen → Seen
 add_count n r = record { opened = r.opened; closed = r.closed; count = r.count + n; found = r.found }
 
 abbrev pub add_found : Found → Seen → Seen
-add_found f r = record { opened = r.opened; closed = r.closed; count = r.count + 1; found = some f }
+add_found f r = record { opened = r.opened; closed = r.closed; count = r.count + 1; found = Some f }
 
 -- ` && ` and ` || ` count two
 unfoldable pub see_logical : List ℕ → Seen → Seen
 see_logical s r = if at_depth_0 r && (starts_with (ascii " && ") s || starts_with (ascii " || ") s) then add_count 2 r else r
 
 abbrev pub comparison_at : List ℕ → Seen → Option Comparison
-comparison_at s r = if at_depth_0 r then find (λ c. starts_with c.op s) comparisons else none
+comparison_at s r = if at_depth_0 r then find (λ c. starts_with c.op s) comparisons else None
 
 unfoldable pub see_bracket : ℕ → Seen → Seen
 see_bracket c r = if eqb c 40 then add_brackets 1 0 r else if eqb c 41 then add_brackets 0 1 r else r
@@ -93,9 +91,9 @@ unfoldable pub scan_text : ℕ → ℕ → ℕ → List ℕ → Seen → Seen
 scan_text place pos skip [] r = r
 scan_text place pos (suc skip) (c ∷ s) r = scan_text place (suc pos) skip s r
 scan_text place pos zero (c ∷ s) r = elim (comparison_at (c ∷ s) r) [
-  | some o ↦ scan_text place (suc pos) (length o.op - 1) s
+  | Some o ↦ scan_text place (suc pos) (length o.op - 1) s
       (add_found (record { place = place; pos = pos; comparison = o }) (see_logical (c ∷ s) r))
-  | none ↦ scan_text place (suc pos) zero s (see_bracket c (see_logical (c ∷ s) r))
+  | None ↦ scan_text place (suc pos) zero s (see_bracket c (see_logical (c ∷ s) r))
 ]
 
 -- Punct tokens are scanned, keyword brackets count, other tokens are passed over.
@@ -113,10 +111,10 @@ abbrev pub flip : Found → Token → Token
 flip f t = tok (take f.pos t.text ++ (f.comparison.flipped ++ drop (f.pos + length f.comparison.op) t.text)) t.kind
 
 unfoldable pub only_comparison : Seen → Option Found
-only_comparison r = if eqb r.count 1 then r.found else none
+only_comparison r = if eqb r.count 1 then r.found else None
 
 unfoldable pub negate_cond : List Token → List Token
 negate_cond c = elim (only_comparison (scan 0 c nothing_seen)) [
-  | some f ↦ on_part f.place (f.place + 1) (flip f) c
-  | none ↦ merge (tok (ascii "!(") Punct ∷ (c ++ (tok (ascii ")") Punct ∷ [])))
+  | Some f ↦ on_part f.place (f.place + 1) (flip f) c
+  | None ↦ merge (tok (ascii "!(") Punct ∷ (c ++ (tok (ascii ")") Punct ∷ [])))
 ]

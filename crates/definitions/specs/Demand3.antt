@@ -5,8 +5,8 @@
 --   ChainNumbers L G numbers   two definitions of a family whose address is not taken have one number exactly if a chain links them
 --   Demand3                    both, of the answered numbers
 -- Assumes nothing.
-use Rattle.std.specs.Prelude.{ℕ, zero, suc, ◌<◌, ◌≡◌, ◌↔◌, Bool, true, false, List, [], ◌∷◌, length, get_or}
-use Rattle.std.proofs.Math.Option.{Option, none, some}
+use Rattle.std.specs.Prelude.{ℕ, zero, suc, ◌<◌, ◌≡◌, ◌↔◌, Bool, true, false, List, [], ◌∷◌, length, get_or, Some}
+use Rattle.std.proofs.Math.Option as maybe
 use Rattle.definitions.specs.Lists.{member}
 use Rattle.definitions.specs.Model.{Line, line}
 use Rattle.definitions.specs.Statements.{defines}
@@ -25,14 +25,14 @@ Trace G [] = ⊥
 Trace G (i ∷ is) = (i ≡ 0) × Walk G 0 is
 
 -- To a family that the line at a place defines the rule always gives a value.
-abbrev pub Gives {ℓ} : {Value : Type ℓ} → List Line → (ℕ → List Value → List ℕ → Option Value) → List ℕ → Type ℓ
+abbrev pub Gives {ℓ} : {Value : Type ℓ} → List Line → (ℕ → List Value → List ℕ → maybe.Option Value) → List ℕ → Type ℓ
 Gives {Value = Value} L rule is =
-    (k : ℕ) (vs : List Value) (f : List ℕ) → 0 < k → k < length is → defines (line L (get_or is k 0)) ≡ some f → is_read_family f ≡ true
-    → ¬ (rule k vs f ≡ none)
+    (k : ℕ) (vs : List Value) (f : List ℕ) → 0 < k → k < length is → defines (line L (get_or is k 0)) ≡ Some f → is_read_family f ≡ true
+    → ¬ (rule k vs f ≡ maybe.none)
 
 abbrev pub TwoRunsOver {ℓ} : Type ℓ → List Line → List (List ℕ) → List ℕ → Type ℓ
 TwoRunsOver Value L G numbers =
-    (rule : ℕ → List Value → List ℕ → Option Value) (entry : List ℕ → Value) (cells : List ℕ → ℕ → Value)
+    (rule : ℕ → List Value → List ℕ → maybe.Option Value) (entry : List ℕ → Value) (cells : List ℕ → ℕ → Value)
     → ((f : List ℕ) → cells f 0 ≡ entry f)
     → (is : List ℕ) → Trace G is → Gives L rule is
     → family_run L rule entry is ≡ web_run L rule numbers cells is
@@ -59,5 +59,5 @@ ChainNumbers L G numbers =
 
 abbrev pub Demand3 {ℓ} : Type (ℓ + 1)
 Demand3 =
-    (L : List Line) (G : List (List ℕ)) (r : Numbered) → webs L ≡ accepted r → flow_graph L ≡ some G
+    (L : List Line) (G : List (List ℕ)) (r : Numbered) → webs L ≡ accepted r → flow_graph L ≡ Some G
     → TwoRuns {ℓ} L G r.numbers × ChainNumbers L G r.numbers

@@ -3,8 +3,7 @@
 --   fam_of t      the same of a register token
 --   names f t     the token t names the family f
 -- Assumes nothing.
-use Rattle.std.specs.Prelude.{if◌then◌else◌, ℕ, ◌+◌, Bool, false, ◌&&◌, ◌||◌, not, List, [], ◌∷◌, ◌++◌, eqb, leb, length, take, drop, get_or}
-use Rattle.std.proofs.Math.Option.{Option, none, some}
+use Rattle.std.specs.Prelude.{if◌then◌else◌, ℕ, ◌+◌, Bool, false, ◌&&◌, ◌||◌, not, List, [], ◌∷◌, ◌++◌, eqb, leb, length, take, drop, get_or, Option, None, Some}
 use Rattle.definitions.specs.Lists.{◌>>=◌, position, take_while, ◌≟◌, starts_with, ascii}
 use Rattle.definitions.specs.Model.{Token, Register}
 
@@ -29,12 +28,12 @@ abbrev pub widths : List ℕ
 widths = 64 ∷ 32 ∷ 16 ∷ 8 ∷ []
 
 unfoldable pub legacy_family : List (List (List ℕ)) → List ℕ → Option Family
-legacy_family [] s = none
+legacy_family [] s = None
 legacy_family (row ∷ rows) s =
     let later = legacy_family rows s in
     elim (position (s ≟◌) row) [
-      | none ↦ later
-      | some column ↦ some (record { name = get_or row 0 []; width = get_or widths column 0 })
+      | None ↦ later
+      | Some column ↦ Some (record { name = get_or row 0 []; width = get_or widths column 0 })
     ]
 
 -- ah bh ch dh are 8 bits of their r?x.
@@ -48,11 +47,11 @@ digits s = take_while (λ c. leb 48 c && leb c 57) s
 
 unfoldable pub suffix_width : List ℕ → Option ℕ
 suffix_width s =
-    if s ≟ [] then some 64
-    else if s ≟ ascii "d" then some 32
-    else if s ≟ ascii "w" then some 16
-    else if (s ≟ ascii "b") || (s ≟ ascii "l") then some 8
-    else none
+    if s ≟ [] then Some 64
+    else if s ≟ ascii "d" then Some 32
+    else if s ≟ ascii "w" then Some 16
+    else if (s ≟ ascii "b") || (s ≟ ascii "l") then Some 8
+    else None
 
 abbrev pub is_numbered : List ℕ → Bool
 is_numbered s = starts_with (ascii "r") s && not (digits (drop 1 s) ≟ [])
@@ -61,21 +60,21 @@ abbrev pub numbered_family : List ℕ → Option Family
 numbered_family s = do
   let number = digits (drop 1 s)
   width ← suffix_width (drop (1 + length number) s)
-  some (record { name = ascii "r" ++ number; width = width })
+  Some (record { name = ascii "r" ++ number; width = width })
 
 -- A name starting `var_` is its own family, 64. Nothing else has one.
 unfoldable pub other_family : List ℕ → Option Family
 other_family s =
-    if is_high s then some (record { name = ascii "r" ++ (take 1 s ++ ascii "x"); width = 8 })
+    if is_high s then Some (record { name = ascii "r" ++ (take 1 s ++ ascii "x"); width = 8 })
     else if is_numbered s then numbered_family s
-    else if starts_with (ascii "var_") s then some (record { name = s; width = 64 })
-    else none
+    else if starts_with (ascii "var_") s then Some (record { name = s; width = 64 })
+    else None
 
 unfoldable pub family : List ℕ → Option Family
-family s = elim (legacy_family legacy s) [ some f ↦ some f | none ↦ other_family s ]
+family s = elim (legacy_family legacy s) [ Some f ↦ Some f | None ↦ other_family s ]
 
 unfoldable pub fam_of : Token → Option Family
-fam_of t = if eqb t.kind Register then family t.text else none
+fam_of t = if eqb t.kind Register then family t.text else None
 
 unfoldable pub names : List ℕ → Token → Bool
-names f t = elim (fam_of t) [ none ↦ false | some x ↦ x.name ≟ f ]
+names f t = elim (fam_of t) [ None ↦ false | Some x ↦ x.name ≟ f ]

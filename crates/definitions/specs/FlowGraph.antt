@@ -6,8 +6,7 @@
 --   jumps L i           where the gotos of line i lead
 --   gotos_lead L        every goto keyword has a symbol after it, the first of which names a label
 -- Assumes nothing.
-use Rattle.std.specs.Prelude.{if◌then◌else◌, ℕ, zero, suc, ◌+◌, ◌-◌, Bool, false, ◌&&◌, ◌||◌, List, [], ◌∷◌, ◌++◌, map, eqb, ltb, length, get_or}
-use Rattle.std.proofs.Math.Option.{Option, none, some}
+use Rattle.std.specs.Prelude.{if◌then◌else◌, ℕ, zero, suc, ◌+◌, ◌-◌, Bool, false, ◌&&◌, ◌||◌, List, [], ◌∷◌, ◌++◌, map, eqb, ltb, length, get_or, Option, None, Some}
 use Rattle.definitions.specs.Lists.{◌>>=◌, require, is_some, to_list, any, all, filter, concat, last_position, range, up_to, member, ◌≟◌, contains, ascii}
 use Rattle.definitions.specs.Model.{Line, token, line, Punct}
 use Rattle.definitions.specs.Statements.{is_kw, has_kw, is_label, label, goto_targets}
@@ -15,7 +14,7 @@ use Rattle.definitions.specs.Blocks.{Blocks, blocks}
 
 -- the line that closes the block that line h opens
 abbrev pub end_of : Blocks → ℕ → Option ℕ
-end_of b h = get_or b.ends h none
+end_of b h = get_or b.ends h None
 
 -- Line i steps to i + 1, except that before an else-close (keyword else, a punct `}`, opens a block) it steps past the whole chain.
 
@@ -24,26 +23,26 @@ is_else_close l = has_kw l (ascii "else") && any (λ t. eqb t.kind Punct && cont
 
 -- the close of the block at an else-close
 abbrev pub else_end : List Line → Blocks → ℕ → Option ℕ
-else_end L b c = if is_else_close (line L c) then end_of b c else none
+else_end L b c = if is_else_close (line L c) then end_of b c else None
 
 -- the last close of the chain in which line c closes a block; as each close is a later line, as many steps as lines are enough
 unfoldable pub chain_end : List Line → Blocks → ℕ → ℕ → ℕ
 chain_end L b zero c = c
-chain_end L b (suc k) c = elim (else_end L b c) [ none ↦ c | some e ↦ chain_end L b k e ]
+chain_end L b (suc k) c = elim (else_end L b c) [ None ↦ c | Some e ↦ chain_end L b k e ]
 
 unfoldable pub falls : List Line → Blocks → ℕ → List ℕ
-falls L b i = elim (else_end L b (i + 1)) [ none ↦ (i + 1) ∷ [] | some c ↦ (chain_end L b (length L) c + 1) ∷ [] ]
+falls L b i = elim (else_end L b (i + 1)) [ None ↦ (i + 1) ∷ [] | Some c ↦ (chain_end L b (length L) c + 1) ∷ [] ]
 
 -- An opener also steps to the line after its close; a loop's close steps to its opener; a switch to each case or default between.
 
 unfoldable pub past_end : Blocks → ℕ → List ℕ
-past_end b h = elim (end_of b h) [ none ↦ [] | some c ↦ (c + 1) ∷ [] ]
+past_end b h = elim (end_of b h) [ None ↦ [] | Some c ↦ (c + 1) ∷ [] ]
 
 abbrev pub is_loop : Line → Bool
 is_loop l = has_kw l (ascii "while") || has_kw l (ascii "for") || has_kw l (ascii "do")
 
 abbrev pub closes : Blocks → ℕ → ℕ → Bool
-closes b c h = elim (end_of b h) [ none ↦ false | some e ↦ eqb e c ]
+closes b c h = elim (end_of b h) [ None ↦ false | Some e ↦ eqb e c ]
 
 unfoldable pub loops_back : List Line → Blocks → ℕ → List ℕ
 loops_back L b c = filter (λ h. is_loop (line L h)) (filter (closes b c) (up_to (length L)))
@@ -56,8 +55,8 @@ is_case l = is_kw (ascii "case") (token l 0) || is_kw (ascii "default") (token l
 
 unfoldable pub cases : List Line → Blocks → ℕ → List ℕ
 cases L b h = elim (end_of b h) [
-  | none ↦ []
-  | some c ↦ filter (λ j. is_switch (line L h) && is_case (line L j)) (range (h + 1) (c - (h + 1)))
+  | None ↦ []
+  | Some c ↦ filter (λ j. is_switch (line L h) && is_case (line L j)) (range (h + 1) (c - (h + 1)))
 ]
 
 -- Break and continue step to the opener, and past the end, of every enclosing loop or switch.
@@ -92,7 +91,7 @@ unfoldable pub flow_graph : List Line → Option (List (List ℕ))
 flow_graph L = do
   b ← blocks L
   _ ← require (gotos_lead L)
-  some (map (successors L b) (up_to (length L)))
+  Some (map (successors L b) (up_to (length L)))
 
 abbrev pub steps : List (List ℕ) → ℕ → ℕ → Bool
 steps G i j = member j (get_or G i [])

@@ -22,32 +22,30 @@
 --   contains b s                    the byte b stands in s
 --   ascii "goto"                    the bytes of an ASCII text
 -- Assumes nothing.
-use Rattle.std.specs.Prelude.{if◌then◌else◌, ℕ, zero, suc, ◌+◌, ◌-◌, Bool, true, false, ◌&&◌, ◌||◌, List, [], ◌∷◌, ◌++◌, map, eqb, leb, length, take, drop}
+use Rattle.std.specs.Option.{option_map}
+use Rattle.std.specs.Prelude.{if◌then◌else◌, ℕ, zero, suc, ◌+◌, ◌-◌, Bool, true, false, ◌&&◌, ◌||◌, List, [], ◌∷◌, ◌++◌, map, eqb, leb, length, take, drop, Option, None, Some, slice_get}
 use Prim.Native.Char.{code}
 use Prim.Native.String.{String}
 use Prim.Native.String as S
-use Rattle.std.proofs.Math.Option
-use Rattle.std.proofs.Math.Option.{Option, none, some}
-use Rattle.std.proofs.Math.ListN.{get_elem?}
 
 -- Choices and options
 
 infixl 1 ◌>>=◌
 abbrev pub ◌>>=◌ : {A B : Type 0} → Option A → (A → Option B) → Option B
-none >>= f = none
-some a >>= f = f a
+None >>= f = None
+Some a >>= f = f a
 
 abbrev pub require : Bool → Option (Unit {0})
-require true = some tt
-require false = none
+require true = Some tt
+require false = None
 
 abbrev pub is_some : {A : Type 0} → Option A → Bool
-is_some none = false
-is_some (some a) = true
+is_some None = false
+is_some (Some a) = true
 
 abbrev pub or_else : {A : Type 0} → Option A → A → A
-or_else none a = a
-or_else (some x) a = x
+or_else None a = a
+or_else (Some x) a = x
 
 -- Lists
 
@@ -71,26 +69,26 @@ take_while p [] = []
 take_while p (x ∷ xs) = let rest = take_while p xs in if p x then x ∷ rest else []
 
 unfoldable pub position : {A : Type 0} → (A → Bool) → List A → Option ℕ
-position p [] = none
-position p (x ∷ xs) = let later = Option.map suc (position p xs) in if p x then some 0 else later
+position p [] = None
+position p (x ∷ xs) = let later = option_map suc (position p xs) in if p x then Some 0 else later
 
 abbrev pub position_from : {A : Type 0} → ℕ → (A → Bool) → List A → Option ℕ
-position_from k p xs = Option.map (k +◌) (position p (drop k xs))
+position_from k p xs = option_map (k +◌) (position p (drop k xs))
 
 unfoldable pub last_position : {A : Type 0} → (A → Bool) → List A → Option ℕ
-last_position p [] = none
-last_position p (x ∷ xs) = elim (last_position p xs) [ some k ↦ some (suc k) | none ↦ (if p x then some 0 else none) ]
+last_position p [] = None
+last_position p (x ∷ xs) = elim (last_position p xs) [ Some k ↦ Some (suc k) | None ↦ (if p x then Some 0 else None) ]
 
 unfoldable pub find : {A : Type 0} → (A → Bool) → List A → Option A
-find p [] = none
-find p (x ∷ xs) = let later = find p xs in if p x then some x else later
+find p [] = None
+find p (x ∷ xs) = let later = find p xs in if p x then Some x else later
 
 abbrev pub first : {A : Type 0} → List A → Option A
-first xs = get_elem? xs 0
+first xs = slice_get xs 0
 
 unfoldable pub last : {A : Type 0} → List A → Option A
-last [] = none
-last (x ∷ []) = some x
+last [] = None
+last (x ∷ []) = Some x
 last (x ∷ (y ∷ xs)) = last (y ∷ xs)
 
 abbrev pub part : {A : Type 0} → ℕ → ℕ → List A → List A
@@ -119,8 +117,8 @@ concat [] = []
 concat (xs ∷ xss) = xs ++ concat xss
 
 abbrev pub to_list : {A : Type 0} → Option A → List A
-to_list none = []
-to_list (some a) = a ∷ []
+to_list None = []
+to_list (Some a) = a ∷ []
 
 unfoldable pub fold : {A B : Type 0} → (B → A → B) → B → List A → B
 fold f b [] = b

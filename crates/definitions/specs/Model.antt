@@ -7,8 +7,7 @@
 --   line L i             line i of the listing L
 --   text ts              the texts of the tokens, one after the other
 -- Assumes nothing.
-use Rattle.std.specs.Prelude.{ℕ, List, [], ◌∷◌, ◌++◌, get_or}
-use Rattle.std.proofs.Math.Option.{Option, none}
+use Rattle.std.specs.Prelude.{ℕ, List, [], ◌∷◌, ◌++◌, get_or, Option, None}
 
 -- The kinds of a token.
 
@@ -57,7 +56,7 @@ abbrev pub no_token : Token
 no_token = tok [] Text
 
 abbrev pub no_line : Line
-no_line = pseudo_line none 0 []
+no_line = pseudo_line None 0 []
 
 abbrev pub token : Line → ℕ → Token
 token l k = get_or l.tokens k no_token

@@ -2,8 +2,7 @@
 --   question_1 .. question_5    the answer to a question, yes being true
 --   refusal qs                  the number of the first of the questions that is answered no
 -- Assumes nothing.
-use Rattle.std.specs.Prelude.{if◌then◌else◌, ℕ, ◌+◌, ◌*◌, ◌/◌, ◌%◌, Bool, ◌&&◌, List, [], ◌∷◌, eqb, leb, length}
-use Rattle.std.proofs.Math.Option.{Option, none, some}
+use Rattle.std.specs.Prelude.{if◌then◌else◌, ℕ, ◌+◌, ◌*◌, ◌/◌, ◌%◌, Bool, ◌&&◌, List, [], ◌∷◌, eqb, leb, length, Option, None, Some}
 use Rattle.definitions.specs.Lists.{all}
 use Rattle.definitions.specs.Utf8.{is_utf8}
 use Rattle.definitions.specs.Columns.{token_list}
@@ -53,5 +52,5 @@ question_5 n space = leb (space_words n) (length space)
 
 -- A question is its number and its answer; the refusal is the number of the first that is answered no.
 unfoldable pub refusal : List (ℕ × Bool) → Option ℕ
-refusal [] = none
-refusal (q ∷ qs) = if q.1 then refusal qs else some q.0
+refusal [] = None
+refusal (q ∷ qs) = if q.1 then refusal qs else Some q.0

@@ -6,8 +6,7 @@
 --   key ws f i k                     the web number of the family f at token k of line i
 --   is_def ws f i                    line i starts a fresh value of f
 -- Assumes nothing.
-use Rattle.std.specs.Prelude.{if◌then◌else◌, ℕ, ◌+◌, ◌-◌, Bool, false, ◌&&◌, ◌||◌, not, List, [], ◌∷◌, map, eqb, leb, ltb, length, drop, get_or}
-use Rattle.std.proofs.Math.Option.{Option, none, some}
+use Rattle.std.specs.Prelude.{if◌then◌else◌, ℕ, ◌+◌, ◌-◌, Bool, false, ◌&&◌, ◌||◌, not, List, [], ◌∷◌, map, eqb, leb, ltb, length, drop, get_or, Option, None, Some}
 use Rattle.definitions.specs.Lists.{◌>>=◌, require, is_some, to_list, or_else, any, filter, find, count, first, fold, concat, range, up_to, member, ◌≟◌, ends_with, ascii}
 use Rattle.definitions.specs.Model.{Token, Line, line}
 use Rattle.definitions.specs.Family.{names}
@@ -21,7 +20,7 @@ abbrev pub from_line_1 : List Line → List ℕ
 from_line_1 L = range 1 (length L - 1)
 
 abbrev pub is_def_of : List ℕ → Line → Bool
-is_def_of f l = elim (defines l) [ none ↦ false | some g ↦ g ≟ f ]
+is_def_of f l = elim (defines l) [ None ↦ false | Some g ↦ g ≟ f ]
 
 abbrev pub def_lines : List Line → List ℕ → List ℕ
 def_lines L f = filter (λ i. is_def_of f (line L i)) (from_line_1 L)
@@ -98,7 +97,7 @@ recover L = do
   _ ← require (leb 2 (length L))
   G ← flow_graph L
   let preds = map (predecessors G) (up_to (length L))
-  some (map (webs_of L preds) (filter (λ f. not (address_taken L f)) (defined_families L)))
+  Some (map (webs_of L preds) (filter (λ f. not (address_taken L f)) (defined_families L)))
 
 -- Web 0 holds the entry; others are numbered by first definition.
 unfoldable pub web_number : Webs → ℕ → ℕ
@@ -112,12 +111,12 @@ abbrev pub webs_for : List Webs → List ℕ → Option Webs
 webs_for ws f = find (λ w. w.family ≟ f) ws
 
 unfoldable pub is_def : List Webs → List ℕ → ℕ → Bool
-is_def ws f i = elim (webs_for ws f) [ none ↦ false | some w ↦ member i w.defs ]
+is_def ws f i = elim (webs_for ws f) [ None ↦ false | Some w ↦ member i w.defs ]
 
 unfoldable pub key : List Webs → List ℕ → ℕ → ℕ → ℕ
 key ws f i k = elim (webs_for ws f) [
-  | none ↦ 0
-  | some w ↦ (if eqb k 0 && member i w.defs then web_number w i else if member i w.reads then read_number w i else 0)
+  | None ↦ 0
+  | Some w ↦ (if eqb k 0 && member i w.defs then web_number w i else if member i w.reads then read_number w i else 0)
 ]
 
 abbrev pub total_sweeps : List Webs → ℕ

@@ -1,9 +1,8 @@
 -- Label and goto loops, to be read beside `recover_goto_loops` of pseudo_types.rs.
 --   recover_goto_loops L    the listing with `h: body; goto h;` made `while (..) { body }`, or `for`
 -- Assumes nothing.
-use Rattle.std.specs.Prelude.{if◌then◌else◌, ℕ, ◌+◌, Bool, false, ◌&&◌, ◌||◌, not, List, [], ◌∷◌, ◌++◌, eqb, ltb, take, drop, set}
-use Rattle.std.proofs.Math.Option.{Option, none, some, map}
-use Rattle.std.proofs.Math.ListN.{get_elem?}
+use Rattle.std.specs.Option.{option_map}
+use Rattle.std.specs.Prelude.{if◌then◌else◌, ℕ, ◌+◌, Bool, false, ◌&&◌, ◌||◌, not, List, [], ◌∷◌, ◌++◌, eqb, ltb, take, drop, set, Option, None, Some, slice_get}
 use Rattle.definitions.specs.Lists.{◌>>=◌, require, is_some, or_else, any, all, filter, take_while, position, last_position, first, last, part, remove, insert, on_first, on_part, ◌≟◌, starts_with, ends_with, ascii}
 use Rattle.definitions.specs.Model.{Token, Line, tok, pseudo_line, token, line, text, Number, Keyword, Punct}
 use Rattle.definitions.specs.Statements.{is_kw, is_label, label, merge, goto_target}
@@ -13,7 +12,7 @@ use Rattle.definitions.specs.Passes.{Turn, go, beyond, Pass, pass, while_head}
 
 -- line l has a goto, and its target passes p
 unfoldable pub goes_to : (List ℕ → Bool) → Line → Bool
-goes_to p l = elim (goto_target l) [ none ↦ false | some t ↦ p t ]
+goes_to p l = elim (goto_target l) [ None ↦ false | Some t ↦ p t ]
 
 -- The back edge: the last `goto h;` one deeper than the label, before the first line that is less indented than the label, or as much and
 -- no label.
@@ -27,7 +26,7 @@ is_back head d l = eqb l.indent d && (text l.tokens ≟ (ascii "goto " ++ (head 
 abbrev pub back_edge : List Line → ℕ → Option ℕ
 back_edge L h =
     let l = line L h in
-    map ((h + 1) +◌) (last_position (is_back (label l) (l.indent + 1)) (take_while (in_block l.indent) (drop (h + 1) L)))
+    option_map ((h + 1) +◌) (last_position (is_back (label l) (l.indent + 1)) (take_while (in_block l.indent) (drop (h + 1) L)))
 
 -- No goto outside h..b may target h or a label inside.
 abbrev pub enters : List Line → ℕ → ℕ → Bool
@@ -43,14 +42,14 @@ jump_line kw l =
 
 abbrev pub exit_label : List Line → ℕ → Option (List ℕ)
 exit_label L b = do
-  l ← get_elem? L (b + 1)
+  l ← slice_get L (b + 1)
   _ ← require (is_label l)
-  some (label l)
+  Some (label l)
 
 unfoldable pub jump : List ℕ → Option (List ℕ) → Line → Line
 jump head exit l =
     if goes_to (λ t. t ≟ head) l then jump_line (ascii "continue") l
-    else if goes_to (λ t. elim exit [ none ↦ false | some e ↦ t ≟ e ]) l then jump_line (ascii "break") l
+    else if goes_to (λ t. elim exit [ None ↦ false | Some e ↦ t ≟ e ]) l then jump_line (ascii "break") l
     else l
 
 abbrev pub move_in : Line → Line
@@ -78,7 +77,7 @@ leading_test l d = do
   _ ← require (starts_with (ascii " (") opening.text)
   end ← last (on_first (cut_front 2) c)
   _ ← require (ends_with (ascii ") ") end.text)
-  some (negate_cond (cut 2 2 c))
+  Some (negate_cond (cut 2 2 c))
 
 abbrev pub one : List Token
 one = tok (ascii "1") Number ∷ []
@@ -102,8 +101,8 @@ rewritten L h b =
 
 unfoldable pub looped : List Line → ℕ → Turn
 looped L h = elim (back_edge L h) [
-  | none ↦ go (h + 1) L
-  | some b ↦ (if ltb (h + 1) b && not (enters L h b) then rewritten L h b else go (h + 1) L)
+  | None ↦ go (h + 1) L
+  | Some b ↦ (if ltb (h + 1) b && not (enters L h b) then rewritten L h b else go (h + 1) L)
 ]
 
 -- `lines[h].indent + 1` is worked out for every label with at least two lines after it.

@@ -1,8 +1,7 @@
 -- Guarded do-while loops, to be read beside `recover_loops` of pseudo_types.rs.
 --   recover_loops L    the listing with `if (C) { do { B } while (C); }` made `while (C) { B }`, or `for`
 -- Assumes nothing.
-use Rattle.std.specs.Prelude.{if◌then◌else◌, ℕ, ◌+◌, ◌-◌, Bool, ◌&&◌, not, List, eqb, leb, ltb, length, set}
-use Rattle.std.proofs.Math.Option.{Option, none, some}
+use Rattle.std.specs.Prelude.{if◌then◌else◌, ℕ, ◌+◌, ◌-◌, Bool, ◌&&◌, not, List, eqb, leb, ltb, length, set, Option, None, Some}
 use Rattle.definitions.specs.Lists.{◌>>=◌, require, all, position_from, part, remove, on_part, ◌≟◌, ends_with, ascii}
 use Rattle.definitions.specs.Model.{Token, Line, pseudo_line, token, line, text}
 use Rattle.definitions.specs.Statements.{is_kw, has_kw, is_label}
@@ -23,7 +22,7 @@ guarded L i w = do
   c2 ← condition (line L w) (ascii "while")
   _ ← require (eqb (line L w).indent (ind + 1) && ltb (w + 1) (length L))
   _ ← require (eqb (line L (w + 1)).indent ind && lone_brace (line L (w + 1)) && (text c1 ≟ text c2))
-  some c1
+  Some c1
 
 abbrev pub move_out : Line → Line
 move_out l = pseudo_line l.address (l.indent - 1) l.tokens
@@ -39,13 +38,13 @@ rebuilt M i end =
     else beyond
 
 unfoldable pub close_at : List Line → ℕ → ℕ → Turn
-close_at L i w = elim (guarded L i w) [ none ↦ go (i + 1) L | some c ↦ rebuilt (unwrapped L i w c) i (w - 1) ]
+close_at L i w = elim (guarded L i w) [ None ↦ go (i + 1) L | Some c ↦ rebuilt (unwrapped L i w c) i (w - 1) ]
 
 -- The close is the first non-label line from i + 2 with indent at most one above the guard's; if there is none the whole pass stops.
 unfoldable pub close : List Line → ℕ → Turn
 close L i = elim (position_from (i + 2) (λ l. leb l.indent ((line L i).indent + 1) && not (is_label l)) L) [
-  | none ↦ stop
-  | some w ↦ close_at L i w
+  | None ↦ stop
+  | Some w ↦ close_at L i w
 ]
 
 -- `ind + 1` is worked out wherever the next line has the keyword do, whatever line i itself is.

@@ -3,9 +3,8 @@
 --   Row, rows             the rows
 --   shown c L             what the call c answers of the listing L, web numbers as the web program prints them
 -- Assumes nothing.
-use Rattle.std.specs.Prelude.{if◌then◌else◌, ℕ, ◌+◌, List, [], ◌∷◌, ◌++◌, map, eqb, length, get_or, take}
+use Rattle.std.specs.Prelude.{if◌then◌else◌, ℕ, ◌+◌, List, [], ◌∷◌, ◌++◌, map, eqb, length, get_or, take, None, Some}
 use Prim.Native.String.{String}
-use Rattle.std.proofs.Math.Option.{none, some}
 use Rattle.definitions.specs.Lists.{concat, up_to, ascii}
 use Rattle.definitions.specs.Model.{Token, Line, tok, pseudo_line, token, line, Register, Number, Keyword, Symbol, Punct}
 use Rattle.definitions.specs.Family.{fam_of}
@@ -37,7 +36,7 @@ occurrence i k f number byte = record { line = i; place = k; family = f; number 
 abbrev pub occurrence_at : List Line → Numbered → ℕ → ℕ → List Occurrence
 occurrence_at L r i k =
     let n = length (all_tokens (take i L)) + k in
-    elim (fam_of (token (line L i) k)) [ none ↦ [] | some f ↦ occurrence i k f.name (get_or r.numbers n 0) (get_or r.marks n 0) ∷ [] ]
+    elim (fam_of (token (line L i) k)) [ None ↦ [] | Some f ↦ occurrence i k f.name (get_or r.numbers n 0) (get_or r.marks n 0) ∷ [] ]
 
 abbrev pub occurrences : List Line → Numbered → List Occurrence
 occurrences L r = concat (map (λ i. concat (map (occurrence_at L r i) (up_to (length (line L i).tokens)))) (up_to (length L)))
@@ -70,7 +69,7 @@ abbrev p : String → Token
 p s = tok (ascii s) Punct
 
 abbrev at : ℕ → List Token → Line
-at indent ts = pseudo_line none indent ts
+at indent ts = pseudo_line None indent ts
 
 -- `r = n;`
 abbrev set : String → String → List Token

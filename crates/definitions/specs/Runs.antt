@@ -4,11 +4,11 @@
 --   number_at L numbers i k    the number answered for token k of line i
 --   family_run                 the values read with one cell per family
 --   web_run                    the values read with one cell per family and web number
--- The rule takes a place in the list, the values read there and a family, and gives the family a new value or none.
+-- The rule takes a place in the list, the values read there and a family, and gives the family a new value or none: a value may be of any
+-- universe, so that is the `Option` of mathlib.
 -- Assumes nothing.
-use Rattle.std.specs.Prelude.{ℕ, suc, ◌+◌, Bool, cond, ◌&&◌, not, List, [], ◌∷◌, ◌++◌, map, eqb, length, take, get_or}
-use Rattle.std.proofs.Math.Option
-use Rattle.std.proofs.Math.Option.{Option, none, some}
+use Rattle.std.proofs.Math.Option as maybe
+use Rattle.std.specs.Prelude.{ℕ, suc, ◌+◌, Bool, cond, ◌&&◌, not, List, [], ◌∷◌, ◌++◌, map, eqb, length, take, get_or, None, Some}
 use Rattle.definitions.specs.Lists.{is_some, or_else, any, position, concat, up_to}
 use Rattle.definitions.specs.Model.{Line, token, line}
 use Rattle.definitions.specs.Family.{fam_of, names}
@@ -25,8 +25,8 @@ pub record Read : Type 0 where
 -- token k of line l as a read: it has a family, neither rsp nor `var_`, and is not the register that the line defines
 unfoldable pub read_at : Line → ℕ → List Read
 read_at l k = elim (fam_of (token l k)) [
-  | none ↦ []
-  | some x ↦ cond (is_read_family x.name && not (eqb k 0 && is_some (defines l))) (record { place = k; family = x.name } ∷ []) []
+  | None ↦ []
+  | Some x ↦ cond (is_read_family x.name && not (eqb k 0 && is_some (defines l))) (record { place = k; family = x.name } ∷ []) []
 ]
 
 unfoldable pub reads_on : List Line → ℕ → List Read
@@ -44,16 +44,16 @@ number_at L numbers i k = get_or numbers (length (all_tokens (take i L)) + k) 0
 
 -- The runs. Line 0, at place 0, does nothing. A later visit reads its line's reads in token order, then stores the rule's values.
 
-module _ {ℓ} {Value : Type ℓ} (L : List Line) (rule : ℕ → List Value → List ℕ → Option Value) where
+module _ {ℓ} {Value : Type ℓ} (L : List Line) (rule : ℕ → List Value → List ℕ → maybe.Option Value) where
   -- the values that the rule gives at place k, line i, where vs were read; none to a family that the line does not name
-  abbrev pub given : ℕ → ℕ → List Value → List ℕ → Option Value
-  given k i vs f = cond (named_on L i f) (rule k vs f) none
+  abbrev pub given : ℕ → ℕ → List Value → List ℕ → maybe.Option Value
+  given k i vs f = cond (named_on L i f) (rule k vs f) maybe.none
 
   abbrev pub family_values : (List ℕ → Value) → ℕ → List Value
   family_values cells i = map (λ r. cells r.family) (reads_on L i)
 
   abbrev pub family_store : ℕ → ℕ → List Value → (List ℕ → Value) → List ℕ → Value
-  family_store k i vs cells f = Option.get_or (given k i vs f) (cells f)
+  family_store k i vs cells f = maybe.get_or (given k i vs f) (cells f)
 
   unfoldable pub family_run_from : ℕ → (List ℕ → Value) → List ℕ → List Value
   family_run_from k cells [] = []
@@ -73,7 +73,7 @@ module _ {ℓ} {Value : Type ℓ} (L : List Line) (rule : ℕ → List Value →
     -- A store takes the cell of the number at the family's first token on the line.
     abbrev pub web_store : ℕ → ℕ → List Value → (List ℕ → ℕ → Value) → List ℕ → ℕ → Value
     web_store k i vs cells f w =
-        cond (eqb w (number_at L numbers i (first_on L i f))) (Option.get_or (given k i vs f) (cells f w)) (cells f w)
+        cond (eqb w (number_at L numbers i (first_on L i f))) (maybe.get_or (given k i vs f) (cells f w)) (cells f w)
 
     unfoldable pub web_run_from : ℕ → (List ℕ → ℕ → Value) → List ℕ → List Value
     web_run_from k cells [] = []

@@ -3,8 +3,8 @@
 --   split_key ss f i       how many of them define f up to and with line i
 --   split_starts ss f i    line i is one of them and defines f
 -- Assumes nothing.
+use Rattle.std.specs.Option.{option_map}
 use Rattle.std.specs.Prelude.{ℕ, Bool, ◌&&◌, ◌||◌, not, List, map, eqb, leb, ltb, length}
-use Rattle.std.proofs.Math.Option
 use Rattle.definitions.specs.Lists.{to_list, any, filter, count, concat, up_to, ◌≟◌}
 use Rattle.definitions.specs.Model.{Line, line}
 use Rattle.definitions.specs.Statements.{defines}
@@ -29,7 +29,7 @@ pub record Split : Type 0 where
 unfoldable pub split_points : List Line → List Split
 split_points L =
     let js = all_jumps L in
-    concat (map (λ k. to_list (Option.map (λ f. record { at = k; family = f }) (defines (line L k))))
+    concat (map (λ k. to_list (option_map (λ f. record { at = k; family = f }) (defines (line L k))))
     (filter (λ k. eqb (line L k).indent 1 && not (any (crosses k) js)) (from_line_1 L)))
 
 abbrev pub split_key : List Split → List ℕ → ℕ → ℕ

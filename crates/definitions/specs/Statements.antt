@@ -9,8 +9,8 @@
 --   goto_targets l     the same of each goto
 --   defines l          the family that line l defines
 -- Assumes nothing.
-use Rattle.std.specs.Prelude.{if◌then◌else◌, ℕ, ◌+◌, ◌-◌, Bool, ◌&&◌, ◌||◌, not, List, [], ◌∷◌, ◌++◌, eqb, leb, length, take, drop}
-use Rattle.std.proofs.Math.Option.{Option, none, some, map}
+use Rattle.std.specs.Option.{option_map}
+use Rattle.std.specs.Prelude.{if◌then◌else◌, ℕ, ◌+◌, ◌-◌, Bool, ◌&&◌, ◌||◌, not, List, [], ◌∷◌, ◌++◌, eqb, leb, length, take, drop, Option, None, Some}
 use Rattle.definitions.specs.Lists.{◌>>=◌, require, any, position, find, last, ◌≟◌, starts_with, ends_with, ascii}
 use Rattle.definitions.specs.Model.{Token, Line, tok, token, Text, Register, Keyword, Symbol, Punct}
 use Rattle.definitions.specs.Family.{fam_of, names}
@@ -37,9 +37,9 @@ is_callee t u =
     || (eqb t.kind Keyword && starts_with (ascii "((void") t.text)
 
 unfoldable pub callee : List Token → Option ℕ
-callee [] = none
-callee (t ∷ []) = none
-callee (t ∷ (u ∷ ts)) = let later = map (1 +◌) (callee (u ∷ ts)) in if is_callee t u then some 0 else later
+callee [] = None
+callee (t ∷ []) = None
+callee (t ∷ (u ∷ ts)) = let later = option_map (1 +◌) (callee (u ∷ ts)) in if is_callee t u then Some 0 else later
 
 abbrev pub call_at : Line → Option ℕ
 call_at l = callee l.tokens
@@ -61,7 +61,7 @@ unfoldable pub without_semicolon : List Token → Option (List Token)
 without_semicolon ts = do
   end ← last ts
   _ ← require (ends_with (ascii ";") end.text)
-  some (take (length ts - 1) ts ++ unless_empty (tok (take (length end.text - 1) end.text) end.kind))
+  Some (take (length ts - 1) ts ++ unless_empty (tok (take (length end.text - 1) end.text) end.kind))
 
 unfoldable pub assignment : Line → Option Assignment
 assignment l = do
@@ -71,7 +71,7 @@ assignment l = do
   _ ← require (eqb lhs.kind Register && eqb eq.kind Punct && starts_with (ascii " = ") eq.text)
   expr ← without_semicolon (unless_empty (tok (drop 3 eq.text) Punct) ++ drop 2 l.tokens)
   _ ← require (leb 1 (length expr))
-  some (record { lhs = lhs; expr = expr })
+  Some (record { lhs = lhs; expr = expr })
 
 -- Merging
 
@@ -91,7 +91,7 @@ merge (t ∷ ts) = glue t (merge ts)
 unfoldable pub first_symbol : List Token → Option (List ℕ)
 first_symbol ts = do
   t ← find (λ t. eqb t.kind Symbol) ts
-  some t.text
+  Some t.text
 
 unfoldable pub goto_target : Line → Option (List ℕ)
 goto_target l = do
@@ -116,4 +116,4 @@ defines l = do
   a ← assignment l
   f ← fam_of a.lhs
   _ ← require (leb 32 f.width && not (is_var f.name) && not (any (names f.name) a.expr))
-  some f.name
+  Some f.name

@@ -2,8 +2,7 @@
 --   to_for L w    the listing with the while header at w made a for header, where its conditions hold
 --   pop s         a text without its last code point
 -- Assumes nothing.
-use Rattle.std.specs.Prelude.{if◌then◌else◌, ℕ, zero, suc, ◌+◌, ◌-◌, Bool, ◌&&◌, ◌||◌, not, List, [], ◌∷◌, ◌++◌, reverse, eqb, leb, ltb, drop, set}
-use Rattle.std.proofs.Math.Option.{Option, none, some}
+use Rattle.std.specs.Prelude.{if◌then◌else◌, ℕ, zero, suc, ◌+◌, ◌-◌, Bool, ◌&&◌, ◌||◌, not, List, [], ◌∷◌, ◌++◌, reverse, eqb, leb, ltb, drop, set, Option, None, Some}
 use Rattle.definitions.specs.Lists.{◌>>=◌, require, is_some, or_else, any, position_from, first, part, remove, on_last, ◌≟◌, starts_with, ascii}
 use Rattle.definitions.specs.Model.{Token, Line, tok, pseudo_line, line, text, Keyword, Punct}
 use Rattle.definitions.specs.Family.{fam_of, names}
@@ -17,14 +16,14 @@ is_step s = (s ≟ ascii "++;") || (s ≟ ascii "--;") || starts_with (ascii " +
 -- An initialiser of v at indent ind among the n lines before line k, its right side free of v; the lines between are assignments at that
 -- indent that neither name v nor call.
 unfoldable pub initialiser : List Line → ℕ → List ℕ → ℕ → ℕ → Option ℕ
-initialiser L ind v zero k = none
-initialiser L ind v (suc n) zero = none
+initialiser L ind v zero k = None
+initialiser L ind v (suc n) zero = None
 initialiser L ind v (suc n) (suc k) =
     let earlier = initialiser L ind v n k in
     assignment (line L k) >>= λ a.
     require (eqb (line L k).indent ind) >>= λ _.
-    if names v a.lhs then (if any (names v) a.expr then none else some k)
-    else if any (names v) (line L k).tokens || is_some (call_at (line L k)) then none
+    if names v a.lhs then (if any (names v) a.expr then None else Some k)
+    else if any (names v) (line L k).tokens || is_some (call_at (line L k)) then None
     else earlier
 
 -- From the end: continuation bytes, and the byte before them, are a text's last code point.
@@ -62,7 +61,7 @@ for_loop L w = do
   _ ← require (any (names v.name) c && not (any (λ l. has_kw l (ascii "continue")) (part (w + 1) end L)))
   k ← initialiser L ind v.name 4 w
   let header = pseudo_line (line L w).address ind (for_head (line L k).tokens c step.tokens)
-  some (remove k (set (remove (end - 1) L) w header))
+  Some (remove k (set (remove (end - 1) L) w header))
 
 unfoldable pub to_for : List Line → ℕ → List Line
 to_for L w = or_else (for_loop L w) L

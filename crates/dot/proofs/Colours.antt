@@ -4,12 +4,12 @@
 -- Behind them: Same k p, tokens k and p are of one web; First k r, the first token of the web of token k is r; `before` rises where a web appears; `hue`
 -- tells the first 100,000 colours apart.
 -- Assumes nothing.
+use Rattle.std.specs.Prelude.{Option, None, Some}
 use Prim.Native.Nat.{ℕ, zero, suc, ◌+◌, ◌*◌, ◌/◌, ◌%◌, ◌≤◌, ◌<◌}
 use mathlib.Core.Path.{◌≡◌, refl, sym, ap, ◌∙◌}
 use mathlib.Core.Logic.{◌⊎◌, inl, inr}
 use mathlib.Core.Bool.{Bool, true, false, cond}
 use mathlib.Core.List.{List}
-use mathlib.Core.Option.{Option, none, some}
 use native.Mathlib.Decide.{dec_lt, ℕ_discrete}
 use native.Mathlib.Omega.{arith}
 use borrow.Author.Tests.{eqb-true, eq-eqb}
@@ -33,14 +33,14 @@ record SameFamily (o p : Option Family) : Type 0 where
   name : name_of o ≡ name_of p
 
 to_family : (o p : Option Family) → same_name o p ≡ true → SameFamily o p
-to_family none p e = let z : ◌≡◌ {A = ℕ} 0 1 = cc in absurd (omega arith)
-to_family (some f) none e = let z : ◌≡◌ {A = ℕ} 0 1 = cc in absurd (omega arith)
-to_family (some f) (some g) e = record { left = refl; right = refl; name = ≟_eq f.name g.name e }
+to_family None p e = let z : ◌≡◌ {A = ℕ} 0 1 = cc in absurd (omega arith)
+to_family (Some f) None e = let z : ◌≡◌ {A = ℕ} 0 1 = cc in absurd (omega arith)
+to_family (Some f) (Some g) e = record { left = refl; right = refl; name = ≟_eq f.name g.name e }
 
 from_family : (o p : Option Family) → SameFamily o p → same_name o p ≡ true
-from_family none p s = let q = s.left in let z : ◌≡◌ {A = ℕ} 0 1 = cc in absurd (omega arith)
-from_family (some f) none s = let q = s.right in let z : ◌≡◌ {A = ℕ} 0 1 = cc in absurd (omega arith)
-from_family (some f) (some g) s = eq_≟ f.name g.name s.name
+from_family None p s = let q = s.left in let z : ◌≡◌ {A = ℕ} 0 1 = cc in absurd (omega arith)
+from_family (Some f) None s = let q = s.right in let z : ◌≡◌ {A = ℕ} 0 1 = cc in absurd (omega arith)
+from_family (Some f) (Some g) s = eq_≟ f.name g.name s.name
 
 -- Hues
 
@@ -154,7 +154,7 @@ module _ (T : List Token) (N : List ℕ) where
 
       go : (y : Bool) → same_web T N k p ≡ y
           → (((q : ℕ) → q < suc p → same_web T N k q ≡ false) → First k (or_else (find (same_web T N k) (range (suc p) n)) k))
-          → First k (or_else (cond y (some p) (find (same_web T N k) (range (suc p) n))) k)
+          → First k (or_else (cond y (Some p) (find (same_web T N k) (range (suc p) n))) k)
       go true e ih = record { low = omega arith; hit = inr e; none_before = b }
       go false e ih = ih (later e)
 

@@ -3,14 +3,13 @@
 --   nodes_same, edges_same                       the lines, the edges
 --   picture_is, nodes_are                        the pieces of the picture
 --   dot_drawn                                    the flow graph is drawn
---   no_flow, dot_brace, dot_label                there is none
+--   no_flow, dot_none                            there is none
 -- Assumes nothing.
-use Rattle.std.specs.Prelude.{if◌then◌else◌}
+use Rattle.std.specs.Prelude.{if◌then◌else◌, Option, None, Some}
 use Prim.Native.Nat.{ℕ, ◌+◌, ◌*◌, ◌-◌, ◌<◌}
 use mathlib.Core.Path.{◌≡◌, refl, sym, ap, ◌∙◌}
 use mathlib.Core.Bool.{Bool, true, false, not}
 use mathlib.Core.List.{List, [], ◌++◌, map}
-use mathlib.Core.Option.{Option, none, some}
 use native.Mathlib.Omega.{arith}
 use lib.ListN.{length}
 use lib.Seq.{length-take-le}
@@ -24,9 +23,7 @@ use Rattle.model.specs.Places.{line_start}
 use Rattle.model.proofs.Decode.{length_listing, length_tokens, line_length}
 use Rattle.model.proofs.Formed.{line_order, line_within, tokens_before, all_tokens_listing}
 use Rattle.bits.specs.Edges.{succs}
-use Rattle.flow.specs.Graph.{Graph, flow_refusal, refused}
-use Rattle.flow.specs.declared.graph.Flow.{Flow}
-use Rattle.flow.specs.declared.graph.Flow.TheVariants.{Drawn, UnmatchedBrace, UnknownLabel}
+use Rattle.flow.specs.Graph.{Graph, flow_refusal}
 use Rattle.json_append.specs.Appended.{Appended}
 use Rattle.rows.specs.Rows.{rows}
 use Rattle.dot.specs.Dot.{line_text, cells, greatest, start, width, node, edge, edges, settings, drawn, dot_text}
@@ -98,31 +95,24 @@ pub nodes_are : (l t x N : List ℕ) (m : ℕ) (out : List ℕ) (at : ℕ) (out'
 unfolding nodes_at
 nodes_are l t x N m out at out' e q f = rw (← q) f
 
-no_graph : (L : List Line) (n : ℕ) (o : Option Blocks) (y : Bool) → (if not (is_some o) then some 8 else if not y then some 9 else none) ≡ some n
-    → (o >>= (λ b. require y >>= (λ z. some (map (successors L b) (up_to (length L)))))) ≡ none
-no_graph L n none y q = refl
-no_graph L n (some b) false q = refl
-no_graph L n (some b) true q = let z : ◌≡◌ {A = ℕ} 0 1 = cc in absurd (omega arith)
+no_graph : (L : List Line) (n : ℕ) (o : Option Blocks) (y : Bool) → (if not (is_some o) then Some 8 else if not y then Some 9 else None) ≡ Some n
+    → (o >>= (λ b. require y >>= (λ z. Some (map (successors L b) (up_to (length L)))))) ≡ None
+no_graph L n None y q = refl
+no_graph L n (Some b) false q = refl
+no_graph L n (Some b) true q = let z : ◌≡◌ {A = ℕ} 0 1 = cc in absurd (omega arith)
 
-no_flow : (L : List Line) (n : ℕ) → flow_refusal L ≡ some n → flow_graph L ≡ none
+no_flow : (L : List Line) (n : ℕ) → flow_refusal L ≡ Some n → flow_graph L ≡ None
 unfolding flow_graph flow_refusal
 no_flow L n q = no_graph L n (blocks L) (gotos_lead L) q
 
-module _ (l t x N : List ℕ) (space ranks out out' : List ℕ) (e : ℕ) (a : Flow) where
-  pub dot_drawn : (s : List ℕ) → Ready l t x space ranks → (refused a ≡ none → Graph (listing l t x) (length l) 17 space s) → a ≡ Drawn
+module _ (l t x N : List ℕ) (space ranks out out' : List ℕ) (e : ℕ) where
+  pub dot_drawn : (s : List ℕ) → Ready l t x space ranks → Graph (listing l t x) (length l) 17 space s
       → Appended out 0 (picture l t x N (succs (length l) 17 s)) out' e → Appended out 0 (dot_text (listing l t x) N) out' e
   unfolding dot_text drawn picture
-  dot_drawn s ready drawn h f =
-      let g = drawn (rw h) in
+  dot_drawn s ready g f =
       let step = edges_same (succs (length l) 17 s) (steps g.graph) (length l) (λ i j a b. g.agree.both i j a b ∙ g.edge i j a b) in
       rw (g.flow, nodes_same l t x N ready.cover, length_listing l t x, ← step) f
 
-  dot_none : (n : ℕ) → refused a ≡ flow_refusal (listing l t x) → refused a ≡ some n → Appended out 0 [] out' e → Appended out 0 (dot_text (listing l t x) N) out' e
+  pub dot_none : (n : ℕ) → Some n ≡ flow_refusal (listing l t x) → Appended out 0 [] out' e → Appended out 0 (dot_text (listing l t x) N) out' e
   unfolding dot_text drawn
-  dot_none n q h f = rw (no_flow (listing l t x) n (sym q ∙ h)) f
-
-  pub dot_brace : refused a ≡ flow_refusal (listing l t x) → a ≡ UnmatchedBrace → Appended out 0 [] out' e → Appended out 0 (dot_text (listing l t x) N) out' e
-  dot_brace q h f = dot_none 8 q (rw h) f
-
-  pub dot_label : refused a ≡ flow_refusal (listing l t x) → a ≡ UnknownLabel → Appended out 0 [] out' e → Appended out 0 (dot_text (listing l t x) N) out' e
-  dot_label q h f = dot_none 9 q (rw h) f
+  dot_none n q f = rw (no_flow (listing l t x) n (sym q)) f

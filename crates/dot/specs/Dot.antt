@@ -22,8 +22,7 @@
 --   drawn L N g                    the picture with the flow graph g, nothing where there is none
 --   dot_text L N                   the picture
 -- Assumes nothing.
-use Rattle.std.specs.Prelude.{if◌then◌else◌, ℕ, zero, suc, ◌+◌, ◌*◌, ◌-◌, ◌/◌, ◌%◌, max, Bool, ◌&&◌, not, List, [], ◌∷◌, ◌++◌, map, eqb, leb, ltb, length, take, get_or}
-use Rattle.std.proofs.Math.Option.{Option, none, some}
+use Rattle.std.specs.Prelude.{if◌then◌else◌, ℕ, zero, suc, ◌+◌, ◌*◌, ◌-◌, ◌/◌, ◌%◌, max, Bool, ◌&&◌, not, List, [], ◌∷◌, ◌++◌, map, eqb, leb, ltb, length, take, get_or, Option, None, Some}
 use Rattle.definitions.specs.Lists.{or_else, find, concat, range, up_to, ascii}
 use Rattle.definitions.specs.Model.{Token, Line, no_token, line}
 use Rattle.definitions.specs.Columns.{all_tokens}
@@ -163,8 +162,8 @@ abbrev pub settings : List ℕ
 settings = ascii "digraph flow {\n  ranksep=0.1\n  nodesep=0.15\n  node [shape=box margin=0 height=0 color=gray80 fontname=Courier fontsize=10]\n  edge [color=gray30 arrowsize=0.5]\n"
 
 unfoldable pub drawn : List Line → List ℕ → Option (List (List ℕ)) → List ℕ
-drawn L N none = []
-drawn L N (some G) = settings ++ (rows (node L N) 0 (length L) ++ (edges (steps G) (length L) ++ ascii "}\n"))
+drawn L N None = []
+drawn L N (Some G) = settings ++ (rows (node L N) 0 (length L) ++ (edges (steps G) (length L) ++ ascii "}\n"))
 
 unfoldable pub dot_text : List Line → List ℕ → List ℕ
 dot_text L N = drawn L N (flow_graph L)

@@ -5,8 +5,7 @@
 --   loop_webs              the web call answers these numbers
 --   example                the definition gives this picture
 -- Assumes nothing.
-use Rattle.std.specs.Prelude.{ℕ, ◌≡◌, refl, List, [], ◌∷◌, ◌++◌}
-use Rattle.std.proofs.Math.Option.{none}
+use Rattle.std.specs.Prelude.{ℕ, ◌≡◌, refl, List, [], ◌∷◌, ◌++◌, None}
 use Rattle.definitions.specs.Model.{text, Line, tok, pseudo_line, Text, Register, Keyword, Symbol, Punct}
 use Rattle.definitions.specs.Answers.{no_family}
 use Rattle.definitions.specs.Computed.{Result, refused, rewritten, by_webs, by_splits, webs_call, answer}
@@ -20,10 +19,10 @@ use Rattle.dot.specs.Dot.{character, characters, digit, hue, font, blanks, below
 
 abbrev pub loop : List Line
 loop =
-    pseudo_line none 0 (tok (ascii "f(") Punct ∷ tok (ascii "rdi") Register ∷ tok (ascii ")") Punct ∷ [])
-    ∷ pseudo_line none 0 (tok (ascii "L1") Symbol ∷ tok (ascii ":") Punct ∷ [])
-    ∷ pseudo_line none 1 (tok (ascii "rax") Register ∷ tok (ascii " = ") Punct ∷ tok (ascii "rdi") Register ∷ tok (ascii " < 8;") Punct ∷ [])
-    ∷ pseudo_line none 1 (tok (ascii "goto") Keyword ∷ tok (ascii " ") Text ∷ tok (ascii "L1") Symbol ∷ tok (ascii ";") Punct ∷ [])
+    pseudo_line None 0 (tok (ascii "f(") Punct ∷ tok (ascii "rdi") Register ∷ tok (ascii ")") Punct ∷ [])
+    ∷ pseudo_line None 0 (tok (ascii "L1") Symbol ∷ tok (ascii ":") Punct ∷ [])
+    ∷ pseudo_line None 1 (tok (ascii "rax") Register ∷ tok (ascii " = ") Punct ∷ tok (ascii "rdi") Register ∷ tok (ascii " < 8;") Punct ∷ [])
+    ∷ pseudo_line None 1 (tok (ascii "goto") Keyword ∷ tok (ascii " ") Text ∷ tok (ascii "L1") Symbol ∷ tok (ascii ";") Punct ∷ [])
     ∷ []
 
 abbrev pub web_numbers : Result → List ℕ

@@ -46,7 +46,7 @@ fn put_aside(out: &mut [u8], at: usize, i: usize, j: usize) -> usize
 fn is_next(i: usize, j: usize) -> bool
     ensures { result ≡ eqb j (i + 1) }
 {
-    if i < j { j - i == 1 } else { false }
+    i < j && j - i == 1
 }
 
 fn put_edge(out: &mut [u8], at: usize, drawn: bool, i: usize, j: usize) -> usize
@@ -67,11 +67,9 @@ fn put_from(out: &mut [u8], at: usize, space: &[u64], n: usize, i: usize) -> usi
     ensures { Appended out.old at (rows (λ j. edge (succs n 17 space.now i j) i j) 0 n) out.new result }
 {
     let mut to = at;
-    let mut j = 0;
-    while j < n {
+    for j in 0..n {
         let drawn = bits::get_bit(space, (n * 17 + i * 17) * 64 + j);
         to = put_edge(out, to, drawn, i, j);
-        j += 1;
     }
     to
 }
@@ -82,10 +80,8 @@ pub fn put_edges(out: &mut [u8], at: usize, space: &[u64], n: usize) -> usize
     ensures { Appended out.old at (edges (succs n 17 space.now) n) out.new result }
 {
     let mut to = at;
-    let mut i = 0;
-    while i < n {
+    for i in 0..n {
         to = put_from(out, to, space, n, i);
-        i += 1;
     }
     to
 }

@@ -19,7 +19,7 @@ mod widths;
 
 ghost use Rattle.std.specs.Prelude.{◌++◌, ◌≤◌, length};
 ghost use Rattle.definitions.specs.Lists.{ascii};
-ghost use Rattle.definitions.specs.Columns.{listing};
+ghost use Rattle.model.specs.Listings.{listing_of};
 ghost use Rattle.bits.specs.Edges.{succs};
 ghost use Rattle.json_append.specs.Appended.{Appended};
 ghost use Rattle.dot.specs.Dot.{edges, dot_text};
@@ -29,8 +29,8 @@ use crate::edges::put_edges;
 use crate::nodes::put_nodes;
 use crate::webs::rank;
 use crate::widths::widest;
-use flow::graph::Flow;
 use json_append::bytes::put;
+use model::listing::Listing;
 
 // The edges, and the end.
 fn put_end(out: &mut [u8], at: usize, space: &[u64], n: usize) -> usize
@@ -42,64 +42,51 @@ fn put_end(out: &mut [u8], at: usize, space: &[u64], n: usize) -> usize
 }
 
 // The lines.
-fn put_lines(
-    out: &mut [u8],
-    at: usize,
-    lines: &[u32],
-    tokens: &[u32],
-    text: &[u8],
-    numbers: &[u32],
-    ranks: &mut [u32],
-) -> usize
-    requires { (length tokens.now ≤ 16384) × (length text.now ≤ 262144) × (length tokens.now ≤ length ranks.old) }
-    ensures { Appended out.old at (nodes_at lines.now tokens.now text.now numbers.now) out.new result }
+fn put_lines(out: &mut [u8], at: usize, code: &Listing, numbers: &[u32], ranks: &mut [u32]) -> usize
+    requires { (length code.now.tokens.now ≤ 16384) × (length code.now.text.now ≤ 262144) × (length code.now.tokens.now ≤ length ranks.old) }
+    ensures { Appended out.old at (nodes_at code.now.lines.now code.now.tokens.now code.now.text.now numbers.now) out.new result }
 {
-    rank(tokens, text, numbers, ranks);
-    let w = 7 * widest(lines, tokens, text, numbers);
-    put_nodes(out, at, lines, tokens, text, numbers, ranks, w)
+    rank(code, numbers, ranks);
+    let w = 7 * widest(code, numbers);
+    put_nodes(out, at, code, numbers, ranks, w)
 }
 
 // The picture, with the edges that are drawn in the space.
 fn put_picture(
     out: &mut [u8],
-    lines: &[u32],
-    tokens: &[u32],
-    text: &[u8],
+    code: &Listing,
     numbers: &[u32],
     space: &[u64],
     ranks: &mut [u32],
 ) -> usize
-    requires { Ready lines.now tokens.now text.now space.now ranks.old }
+    requires { Ready code.now.lines.now code.now.tokens.now code.now.text.now space.now ranks.old }
     ensures { Appended out.old 0
-        (picture lines.now tokens.now text.now numbers.now (succs (length lines.now) 17 space.now)) out.new result }
+        (picture code.now.lines.now code.now.tokens.now code.now.text.now numbers.now (succs (length code.now.lines.now) 17 space.now)) out.new result }
 {
     let a = put(
         out,
         0,
         b"digraph flow {\n  ranksep=0.1\n  nodesep=0.15\n  node [shape=box margin=0 height=0 color=gray80 fontname=Courier fontsize=10]\n  edge [color=gray30 arrowsize=0.5]\n",
     );
-    let b = put_lines(out, a, lines, tokens, text, numbers, ranks);
-    put_end(out, b, space, lines.len())
+    let b = put_lines(out, a, code, numbers, ranks);
+    put_end(out, b, space, code.lines.len())
 }
 
 // The picture of the listing with these web numbers, at the start of the slice; the answer is how long it is. The space takes the flow graph, and `ranks`
 // a word a token.
 pub fn put_dot(
     out: &mut [u8],
-    lines: &[u32],
-    tokens: &[u32],
-    text: &[u8],
+    code: &Listing,
     numbers: &[u32],
     space: &mut [u64],
     ranks: &mut [u32],
 ) -> usize
-    requires { Ready lines.now tokens.now text.now space.old ranks.old }
+    requires { Ready code.now.lines.now code.now.tokens.now code.now.text.now space.old ranks.old }
     ensures { Appended out.old 0
-        (dot_text (listing lines.now tokens.now text.now) numbers.now) out.new result }
+        (dot_text (listing_of code.now) numbers.now) out.new result }
 {
-    match flow::graph::flow_graph(lines, tokens, text, space, 17) {
-        Flow::Drawn => put_picture(out, lines, tokens, text, numbers, space, ranks),
-        Flow::UnmatchedBrace => put(out, 0, b""),
-        Flow::UnknownLabel => put(out, 0, b""),
+    match flow::graph::flow_graph(code, space, 17) {
+        Ok(()) => put_picture(out, code, numbers, space, ranks),
+        Err(_) => put(out, 0, b""),
     }
 }

@@ -40,10 +40,8 @@ pub fn put_characters(out: &mut [u8], at: usize, s: &[u8]) -> usize
     ensures { Appended out.old at (characters s.now) out.new result }
 {
     let mut to = at;
-    let mut j = 0;
-    while j < s.len() {
+    for j in 0..s.len() {
         to = put_character(out, to, s[j]);
-        j += 1;
     }
     to
 }
@@ -53,10 +51,8 @@ pub fn put_blanks(out: &mut [u8], at: usize, d: usize) -> usize
     ensures { Appended out.old at (blanks d) out.new result }
 {
     let mut to = at;
-    let mut i = 0;
-    while i < d {
+    for i in 0..d {
         to = put(out, to, b"&nbsp;&nbsp;&nbsp;&nbsp;");
-        i += 1;
     }
     to
 }

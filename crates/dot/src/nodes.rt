@@ -2,8 +2,8 @@
 //
 // Contracts: `Appended` of Rattle.json_append.specs.Appended, of the texts of specs/Dot.antt.
 ghost use Rattle.std.specs.Prelude.{◌<◌, length};
-ghost use Rattle.definitions.specs.Columns.{token_list};
 ghost use Rattle.model.specs.Places.{line_start, line_end};
+ghost use Rattle.model.specs.Listings.{tokens_of};
 ghost use Rattle.json_append.specs.Appended.{Appended};
 ghost use Rattle.rows.specs.Rows.{rows};
 ghost use Rattle.dot.specs.Dot.{token_text, node_head, number_cell, text_cell, node_start};
@@ -13,22 +13,21 @@ use crate::node_labels::{put_blanks, put_characters, put_web, wide};
 use crate::webs::has_web;
 use json_append::bytes::put;
 use json_append::values::put_decimal;
-use model::columns::{indent, line_end, line_start, token_text};
+use model::listing::Listing;
 
 // Token k of all.
 fn put_token(
     out: &mut [u8],
     at: usize,
-    tokens: &[u32],
-    text: &[u8],
+    code: &Listing,
     numbers: &[u32],
     ranks: &[u32],
     k: usize,
 ) -> usize
-    requires { Ranked (token_list tokens.now text.now) numbers.now (length tokens.now) ranks.now × (k < length tokens.now) }
-    ensures { Appended out.old at (token_text (token_list tokens.now text.now) numbers.now k) out.new result }
+    requires { Ranked (tokens_of code.now) numbers.now (length code.now.tokens.now) ranks.now × (k < length code.now.tokens.now) }
+    ensures { Appended out.old at (token_text (tokens_of code.now) numbers.now k) out.new result }
 {
-    let s = token_text(tokens, text, k);
+    let s = code.token_text(k);
     if has_web(numbers, k) {
         let f = text::word(ranks, k) / 32768;
         let c = text::word(ranks, f) % 32768;
@@ -41,24 +40,20 @@ fn put_token(
 fn put_tokens(
     out: &mut [u8],
     at: usize,
-    lines: &[u32],
-    tokens: &[u32],
-    text: &[u8],
+    code: &Listing,
     numbers: &[u32],
     ranks: &[u32],
     i: usize,
 ) -> usize
-    requires { Ranked (token_list tokens.now text.now) numbers.now (length tokens.now) ranks.now }
+    requires { Ranked (tokens_of code.now) numbers.now (length code.now.tokens.now) ranks.now }
     ensures { Appended out.old at
-        (rows (token_text (token_list tokens.now text.now) numbers.now) (line_start lines.now i) (line_end lines.now tokens.now i))
+        (rows (token_text (tokens_of code.now) numbers.now) (line_start code.now.lines.now i) (line_end code.now.lines.now code.now.tokens.now i))
         out.new result }
 {
-    let end = line_end(lines, tokens, i);
+    let end = code.line_end(i);
     let mut to = at;
-    let mut k = line_start(lines, i);
-    while k < end {
-        to = put_token(out, to, tokens, text, numbers, ranks, k);
-        k += 1;
+    for k in code.line_start(i)..end {
+        to = put_token(out, to, code, numbers, ranks, k);
     }
     to
 }
@@ -103,37 +98,33 @@ fn put_start(out: &mut [u8], at: usize, w: usize, i: usize) -> usize
 fn put_line(
     out: &mut [u8],
     at: usize,
-    lines: &[u32],
-    tokens: &[u32],
-    text: &[u8],
+    code: &Listing,
     numbers: &[u32],
     ranks: &[u32],
     i: usize,
 ) -> usize
-    requires { Ranked (token_list tokens.now text.now) numbers.now (length tokens.now) ranks.now }
-    ensures { Appended out.old at (line_at lines.now tokens.now text.now numbers.now i) out.new result }
+    requires { Ranked (tokens_of code.now) numbers.now (length code.now.tokens.now) ranks.now }
+    ensures { Appended out.old at (line_at code.now.lines.now code.now.tokens.now code.now.text.now numbers.now i) out.new result }
 {
-    let a = put_blanks(out, at, indent(lines, tokens, text, i));
-    put_tokens(out, a, lines, tokens, text, numbers, ranks, i)
+    let a = put_blanks(out, at, code.indent(i));
+    put_tokens(out, a, code, numbers, ranks, i)
 }
 
 // Line i, its text w points wide.
 fn put_node(
     out: &mut [u8],
     at: usize,
-    lines: &[u32],
-    tokens: &[u32],
-    text: &[u8],
+    code: &Listing,
     numbers: &[u32],
     ranks: &[u32],
     w: usize,
     i: usize,
 ) -> usize
-    requires { Ranked (token_list tokens.now text.now) numbers.now (length tokens.now) ranks.now }
-    ensures { Appended out.old at (node_at lines.now tokens.now text.now numbers.now w i) out.new result }
+    requires { Ranked (tokens_of code.now) numbers.now (length code.now.tokens.now) ranks.now }
+    ensures { Appended out.old at (node_at code.now.lines.now code.now.tokens.now code.now.text.now numbers.now w i) out.new result }
 {
     let a = put_start(out, at, w, i);
-    let b = put_line(out, a, lines, tokens, text, numbers, ranks, i);
+    let b = put_line(out, a, code, numbers, ranks, i);
     put(out, b, b"</td></tr></table>>]\n")
 }
 
@@ -141,22 +132,18 @@ fn put_node(
 pub fn put_nodes(
     out: &mut [u8],
     at: usize,
-    lines: &[u32],
-    tokens: &[u32],
-    text: &[u8],
+    code: &Listing,
     numbers: &[u32],
     ranks: &[u32],
     w: usize,
 ) -> usize
-    requires { Ranked (token_list tokens.now text.now) numbers.now (length tokens.now) ranks.now }
+    requires { Ranked (tokens_of code.now) numbers.now (length code.now.tokens.now) ranks.now }
     ensures { Appended out.old at
-        (rows (node_at lines.now tokens.now text.now numbers.now w) 0 (length lines.now)) out.new result }
+        (rows (node_at code.now.lines.now code.now.tokens.now code.now.text.now numbers.now w) 0 (length code.now.lines.now)) out.new result }
 {
     let mut to = at;
-    let mut i = 0;
-    while i < lines.len() {
-        to = put_node(out, to, lines, tokens, text, numbers, ranks, w, i);
-        i += 1;
+    for i in 0..code.lines.len() {
+        to = put_node(out, to, code, numbers, ranks, w, i);
     }
     to
 }

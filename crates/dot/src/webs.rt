@@ -4,15 +4,15 @@
 // Contracts cite `same_web` and `first_of` of specs/Dot.antt and `Ranked` of specs/Held.antt.
 ghost use Rattle.std.specs.Prelude.{◌≡◌, ◌&&◌, ◌+◌, ◌*◌, ◌≤◌, ◌<◌, eqb, length, get_or};
 ghost use Rattle.definitions.specs.Model.{no_token};
-ghost use Rattle.definitions.specs.Columns.{token_list};
 ghost use Rattle.definitions.specs.Family.{fam_of};
 ghost use Rattle.definitions.specs.Answers.{mark};
+ghost use Rattle.model.specs.Listings.{tokens_of};
 ghost use Rattle.family.specs.Register.{family_of, same_name};
 ghost use Rattle.dot.specs.Dot.{has_web, same_web, first_of};
 ghost use Rattle.dot.specs.Held.{Ranked};
 
 use family::{Register, fam_of, same_family};
-use model::columns::{token_kind, token_text};
+use model::listing::Listing;
 
 // The number of a token without a family.
 const NO_FAMILY: usize = 4294967295;
@@ -24,46 +24,32 @@ pub fn has_web(numbers: &[u32], k: usize) -> bool
 }
 
 // Token p is of the family that the answer r gives the text u.
-fn same_name(tokens: &[u32], text: &[u8], p: usize, u: &[u8], r: Register) -> bool
-    ensures { result ≡ same_name (fam_of (get_or (token_list tokens.now text.now) p no_token)) (family_of u.now r) }
+fn same_name(code: &Listing, p: usize, u: &[u8], r: Register) -> bool
+    ensures { result ≡ same_name (fam_of (get_or (tokens_of code.now) p no_token)) (family_of u.now r) }
 {
-    let s = token_text(tokens, text, p);
-    same_family(s, fam_of(token_kind(tokens, text, p), s), u, r)
+    let s = code.token_text(p);
+    same_family(s, fam_of(code.token_kind(p), s), u, r)
 }
 
 // Tokens p and k are of one web; the answer r gives the text u the family of token k.
-fn same_web(
-    tokens: &[u32],
-    text: &[u8],
-    numbers: &[u32],
-    k: usize,
-    u: &[u8],
-    r: Register,
-    p: usize,
-) -> bool
-    requires { family_of u.now r ≡ fam_of (get_or (token_list tokens.now text.now) k no_token) }
-    ensures { result ≡ same_web (token_list tokens.now text.now) numbers.now k p }
+fn same_web(code: &Listing, numbers: &[u32], k: usize, u: &[u8], r: Register, p: usize) -> bool
+    requires { family_of u.now r ≡ fam_of (get_or (tokens_of code.now) k no_token) }
+    ensures { result ≡ same_web (tokens_of code.now) numbers.now k p }
 {
-    if text::word(numbers, p) == text::word(numbers, k) {
-        same_name(tokens, text, p, u, r)
-    } else {
-        false
-    }
+    text::word(numbers, p) == text::word(numbers, k) && same_name(code, p, u, r)
 }
 
 // The first token of the web of token k.
-fn first_of(tokens: &[u32], text: &[u8], numbers: &[u32], k: usize) -> usize
-    ensures value { result ≡ first_of (token_list tokens.now text.now) numbers.now k }
+fn first_of(code: &Listing, numbers: &[u32], k: usize) -> usize
+    ensures value { result ≡ first_of (tokens_of code.now) numbers.now k }
     ensures upper_bound { result ≤ k }
 {
-    let u = token_text(tokens, text, k);
-    let r = fam_of(token_kind(tokens, text, k), u);
-    let mut p = 0;
-    while p < k {
-        if same_web(tokens, text, numbers, k, u, r, p) {
+    let u = code.token_text(k);
+    let r = fam_of(code.token_kind(k), u);
+    for p in 0..k {
+        if same_web(code, numbers, k, u, r, p) {
             return p;
         }
-        p += 1;
     }
     k
 }
@@ -72,7 +58,7 @@ fn first_of(tokens: &[u32], text: &[u8], numbers: &[u32], k: usize) -> usize
 fn appears(numbers: &[u32], k: usize, f: usize) -> bool
     ensures { result ≡ (has_web numbers.now k && eqb f k) }
 {
-    if has_web(numbers, k) { f == k } else { false }
+    has_web(numbers, k) && f == k
 }
 
 // One more where `yes`.
@@ -92,17 +78,15 @@ fn packed(f: usize, c: usize) -> u32
 }
 
 // Ranks every token.
-pub fn rank(tokens: &[u32], text: &[u8], numbers: &[u32], ranks: &mut [u32])
-    requires { (length tokens.now ≤ 16384) × (length tokens.now ≤ length ranks.old) }
-    ensures { Ranked (token_list tokens.now text.now) numbers.now (length tokens.now) ranks.new }
+pub fn rank(code: &Listing, numbers: &[u32], ranks: &mut [u32])
+    requires { (length code.now.tokens.now ≤ 16384) × (length code.now.tokens.now ≤ length ranks.old) }
+    ensures { Ranked (tokens_of code.now) numbers.now (length code.now.tokens.now) ranks.new }
 {
     let mut c = 0;
-    let mut k = 0;
-    while k < tokens.len() {
-        let f = first_of(tokens, text, numbers, k);
+    for k in 0..code.tokens.len() {
+        let f = first_of(code, numbers, k);
         let v = packed(f, c);
         ranks[k] = v;
         c = counted(c, appears(numbers, k, f));
-        k += 1;
     }
 }

@@ -3,6 +3,7 @@
 --   remainder                    the kind modulo 4
 --   test_one, test_leading, test_guard    by the kind of the header
 -- Assumes nothing.
+use Rattle.std.specs.Prelude.{Option, Some, None}
 use mathlib.Core.Path.{◌≡◌, refl, sym, ap, ◌∙◌}
 use mathlib.Core.List.{List, []}
 use Prim.Native.Nat.{ℕ, zero, suc, ◌%◌, ◌<◌}
@@ -12,17 +13,15 @@ use Rattle.definitions.specs.Model.{Line, line}
 use Rattle.definitions.specs.Condition.{condition, negate_cond}
 use Rattle.definitions.specs.RecoverGotoLoops.{leading_test, one}
 use Rattle.negate.specs.Tests.{test}
-use Rattle.pseudo_opt.specs.declared.Found.{Found}
-use Rattle.pseudo_opt.specs.declared.Found.TheVariants.{At, Nothing}
 use Rattle.pieces.specs.Pieces.{piece, origin}
 use Rattle.pieces.specs.Leading.{leading}
 use Rattle.emit.specs.Lines.{test_read}
 
-module _ (C : List Line) (p : ℕ) (r : Found) (e : leading (origin C p) r ≡ leading_test (piece C p) 0) where
-  pub leading_one : r ≡ Nothing → one ≡ or_else (leading_test (piece C p) 0) one
+module _ (C : List Line) (p : ℕ) (r : Option ℕ) (e : leading (origin C p) r ≡ leading_test (piece C p) 0) where
+  pub leading_one : r ≡ None → one ≡ or_else (leading_test (piece C p) 0) one
   leading_one q = ap (λ o. or_else o one) (sym (ap (leading (origin C p)) q) ∙ e)
 
-  pub leading_is : (g : ℕ) → r ≡ At g → negate_cond (test (origin C p) g) ≡ or_else (leading_test (piece C p) 0) one
+  pub leading_is : (g : ℕ) → r ≡ Some g → negate_cond (test (origin C p) g) ≡ or_else (leading_test (piece C p) 0) one
   leading_is g q = ap (λ o. or_else o one) (sym (ap (leading (origin C p)) q) ∙ e)
 
 pub remainder : {h k n : ℕ} → h ≡ k → h % 4 ≡ n → k % 4 ≡ n

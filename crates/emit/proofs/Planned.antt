@@ -4,10 +4,10 @@
 --   plain_sound, goto_sound                  the words of either pass are sound
 --   word_sound, emitted_next, emitted_end    the lines before place i are done
 -- Assumes nothing.
+use Rattle.std.specs.Prelude.{Option, None}
 use mathlib.Core.Path.{◌≡◌, refl, sym, ap, ap₂, subst, ◌∙◌}
 use mathlib.Core.Bool.{Bool, true, false, ◌&&◌, ◌||◌, or-true}
 use mathlib.Core.List.{List, [], ◌∷◌, ◌++◌, append_assoc}
-use mathlib.Core.Option.{Option, none}
 use Prim.Native.Nat.{ℕ, zero, suc, ◌+◌, ◌/◌, ◌%◌, ◌≤◌, ◌<◌}
 use native.Mathlib.Omega.{arith}
 use native.Mathlib.Numerals.{add-one}
@@ -145,9 +145,9 @@ module _ (S : List Line) (l t x : List ℕ) (R : Source S l t x) where
 
   test_same : (p : Piece) (q : Test) → test_tokens S p q ≡ test_tokens (listing l t x) p q
   unfolding test_tokens
-  test_same p guard = ap (λ ts. or_else (condition (pseudo_line none 1 ts) (ascii "if")) []) (piece_same p)
+  test_same p guard = ap (λ ts. or_else (condition (pseudo_line None 1 ts) (ascii "if")) []) (piece_same p)
   test_same p always = refl
-  test_same p (leading q) = ap (λ ts. or_else (leading_test (pseudo_line none 1 ts) 0) one) (piece_same q)
+  test_same p (leading q) = ap (λ ts. or_else (leading_test (pseudo_line None 1 ts) 0) one) (piece_same q)
 
   while_same : (p : Piece) (q : Test) → while_tokens S p q ≡ while_tokens (listing l t x) p q
   unfolding while_tokens

@@ -1,9 +1,9 @@
 // The condition of a header, appended merged to the open line.
 ghost use Rattle.std.specs.Prelude.{◌≡◌, true, ◌/◌, ◌%◌};
 ghost use Rattle.definitions.specs.Lists.{or_else};
-ghost use Rattle.definitions.specs.Columns.{listing};
 ghost use Rattle.definitions.specs.Questions.{question_2};
 ghost use Rattle.definitions.specs.RecoverGotoLoops.{leading_test, one};
+ghost use Rattle.model.specs.Listings.{listing_of};
 ghost use Rattle.plan.specs.Plan.{header_at, piece_at, test_at};
 ghost use Rattle.pieces.specs.Pieces.{piece};
 ghost use Rattle.append.specs.Adds.{Adding};
@@ -11,46 +11,30 @@ ghost use Rattle.emit.specs.Lines.{test_read};
 
 use append::add;
 use append_pieces::conditions::add_condition;
-use pseudo_opt::Found;
+use model::listing::Listing;
 use write::Cursor;
 
 // The negated condition of the leading test that the piece p is, or 1.
-fn add_leading(
-    lines: &[u32],
-    tokens: &[u32],
-    text: &[u8],
-    p: usize,
-    words: &mut [u32],
-    bytes: &mut [u8],
-    c: Cursor,
-) -> Cursor
-    requires { question_2 lines.now tokens.now text.now ≡ true }
-    ensures { let C = listing lines.now tokens.now text.now in
+fn add_leading(code: &Listing, p: usize, words: &mut [u32], bytes: &mut [u8], c: Cursor) -> Cursor
+    requires { question_2 code.now.lines.now code.now.tokens.now code.now.text.now ≡ true }
+    ensures { let C = listing_of code.now in
         Adding true (or_else (leading_test (piece C p) 0) one) words.old bytes.old c words.new bytes.new result }
 {
-    let Found::At(g) = pieces::leading::leading_test(lines, tokens, text, p) else {
+    let Some(g) = pieces::leading::leading_test(code, p) else {
         return add(words, bytes, c, b"1", 2, true);
     };
-    negate::adding::add_negated(lines, tokens, text, p / 4, g, words, bytes, c)
+    negate::adding::add_negated(code, p / 4, g, words, bytes, c)
 }
 
 // The condition of the header that the word w stands for: 1, that of a leading test, or that of the guard on the word's own line.
-pub fn add_test(
-    lines: &[u32],
-    tokens: &[u32],
-    text: &[u8],
-    w: usize,
-    words: &mut [u32],
-    bytes: &mut [u8],
-    c: Cursor,
-) -> Cursor
-    requires { question_2 lines.now tokens.now text.now ≡ true }
-    ensures { let C = listing lines.now tokens.now text.now in
+pub fn add_test(code: &Listing, w: usize, words: &mut [u32], bytes: &mut [u8], c: Cursor) -> Cursor
+    requires { question_2 code.now.lines.now code.now.tokens.now code.now.text.now ≡ true }
+    ensures { let C = listing_of code.now in
         Adding true (test_read C (header_at w % 4) (piece_at w / 4) (test_at w)) words.old bytes.old c words.new bytes.new result }
 {
     match plan::header(w) % 4 {
         2 => add(words, bytes, c, b"1", 2, true),
-        3 => add_leading(lines, tokens, text, plan::test(w), words, bytes, c),
-        _ => add_condition(lines, tokens, text, plan::source(w), words, bytes, c, true),
+        3 => add_leading(code, plan::test(w), words, bytes, c),
+        _ => add_condition(code, plan::source(w), words, bytes, c, true),
     }
 }

@@ -9,10 +9,10 @@
 --   size_listed, size_before, gotos_before, gotos_behind    what the scans ask
 --   enters_before, enters_behind            the answer
 -- Assumes nothing.
+use Rattle.std.specs.Prelude.{Option, None, Some}
 use mathlib.Core.Path.{◌≡◌, refl, sym, ap, ap₂, ◌∙◌}
 use mathlib.Core.Bool.{Bool, true, false, ◌||◌, cond}
 use mathlib.Core.List.{List, [], ◌∷◌, ◌++◌, append-nil, append_assoc, map}
-use mathlib.Core.Option.{Option, none, some}
 use Prim.Native.Nat.{ℕ, zero, suc, ◌+◌, ◌/◌, ◌%◌, ◌≤◌, ◌<◌}
 use native.Mathlib.Nat.{sub-zero, zero-add}
 use native.Mathlib.Numerals.{add-one}
@@ -166,9 +166,9 @@ goes_same : (p q : List ℕ → Bool) → ((t : List ℕ) → p t ≡ q t) → (
 unfolding goes_to
 goes_same p q e l = go (goto_target l)
   where
-    go : (o : Option (List ℕ)) → ◌≡◌ {A = Bool} (elim o [ none ↦ false | some t ↦ p t ]) (elim o [ none ↦ false | some t ↦ q t ])
-    go none = refl
-    go (some t) = e t
+    go : (o : Option (List ℕ)) → ◌≡◌ {A = Bool} (elim o [ None ↦ false | Some t ↦ p t ]) (elim o [ None ↦ false | Some t ↦ q t ])
+    go None = refl
+    go (Some t) = e t
 
 named : (C : List Line) (t : List ℕ) (ws : List ℕ) → any (λ l. label l ≟ t) (filter is_label (map (line_of C) ws)) ≡ any (names C t) (labels C ws)
 unfolding any filter labels

@@ -4,10 +4,11 @@
 --   clean_popped, clean_over    nor does one through what a header takes from a clean piece
 --   quiet_clean       a quiet piece is clean
 -- Assumes nothing.
+use Rattle.std.specs.Prelude.{Option, None, Some}
+use Rattle.std.specs.Option.{option_map}
 use mathlib.Core.Path.{◌≡◌, refl, sym, subst, ◌∙◌}
 use mathlib.Core.Bool.{Bool, true, false, cond, not, ◌&&◌}
 use mathlib.Core.List.{List, [], ◌∷◌, ◌++◌, reverse, reverse-cons}
-use mathlib.Core.Option.{Option, none, some, map}
 use Prim.Native.Nat.{ℕ, zero, suc, ◌+◌, ◌-◌, ◌/◌, ◌%◌, ◌≤◌, ◌<◌}
 use native.Mathlib.Decide.{dec_le, dec_lt}
 use native.Mathlib.Omega.{arith}
@@ -53,8 +54,8 @@ mark_of [] = 0
 mark_of (t ∷ ts) = let later = mark_of ts in cond (has_g t) (cond (t.text ≟ ascii "goto") 1 2) later
 
 abbrev marked : List Token → Option ℕ → ℕ
-marked ts none = 0
-marked ts (some k) = cond ((get_or ts k no_token).text ≟ ascii "goto") 1 2
+marked ts None = 0
+marked ts (Some k) = cond ((get_or ts k no_token).text ≟ ascii "goto") 1 2
 
 mark_place : (ts : List Token) → mark_of ts ≡ marked ts (position has_g ts)
 unfolding mark_of position
@@ -62,10 +63,10 @@ mark_place [] = refl
 mark_place (t ∷ ts) = go (has_g t) (position has_g ts) (mark_place ts)
   where
     go : (b : Bool) (o : Option ℕ) → mark_of ts ≡ marked ts o
-        → cond b (cond (t.text ≟ ascii "goto") 1 2) (mark_of ts) ≡ marked (t ∷ ts) (cond b (some 0) (map suc o))
+        → cond b (cond (t.text ≟ ascii "goto") 1 2) (mark_of ts) ≡ marked (t ∷ ts) (cond b (Some 0) (option_map suc o))
     go true o e = refl
-    go false none e = e
-    go false (some k) e = e
+    go false None e = e
+    go false (Some k) e = e
 
 never_zero : (s : List ℕ) → ◌≡◌ {A = ℕ} (cond (s ≟ ascii "goto") 1 2) 0 → ⊥
 never_zero s e = go (s ≟ ascii "goto") e
@@ -96,25 +97,25 @@ clean_before (t ∷ ts) e = go (eqb t.kind Keyword) (contains 103 t.text) (t.tex
     go false g z f e p q = rw p (f e)
 
 -- the first keyword with the letter g is goto: the first goto is there
-goto_place : (ts : List Token) (g : ℕ) → position has_g ts ≡ some g → ((get_or ts g no_token).text ≟ ascii "goto") ≡ true → position (is_kw (ascii "goto")) ts ≡ some g
+goto_place : (ts : List Token) (g : ℕ) → position has_g ts ≡ Some g → ((get_or ts g no_token).text ≟ ascii "goto") ≡ true → position (is_kw (ascii "goto")) ts ≡ Some g
 unfolding position
 goto_place [] g e q = none_some e
 goto_place (t ∷ ts) g e q = go (has_g t) refl (position has_g ts) (goto_place ts) refl g e q
   where
     go : (b : Bool) → has_g t ≡ b → (o : Option ℕ)
-        → ((g : ℕ) → position has_g ts ≡ some g → ((get_or ts g no_token).text ≟ ascii "goto") ≡ true → position (is_kw (ascii "goto")) ts ≡ some g) → position has_g ts ≡ o
-        → (g : ℕ) → cond b (some 0) (map suc o) ≡ some g → ((get_or (t ∷ ts) g no_token).text ≟ ascii "goto") ≡ true
-        → cond (is_kw (ascii "goto") t) (some 0) (map suc (position (is_kw (ascii "goto")) ts)) ≡ some g
+        → ((g : ℕ) → position has_g ts ≡ Some g → ((get_or ts g no_token).text ≟ ascii "goto") ≡ true → position (is_kw (ascii "goto")) ts ≡ Some g) → position has_g ts ≡ o
+        → (g : ℕ) → cond b (Some 0) (option_map suc o) ≡ Some g → ((get_or (t ∷ ts) g no_token).text ≟ ascii "goto") ≡ true
+        → cond (is_kw (ascii "goto") t) (Some 0) (option_map suc (position (is_kw (ascii "goto")) ts)) ≡ Some g
     go true h o f i zero e q = rw ((and_split (eqb t.kind Keyword) (contains 103 t.text) h).0, q)
     go true h o f i (suc g) e q = absurd (let z : ◌≡◌ {A = ℕ} 0 (suc g) = some_same e in omega arith)
-    go false h none f i g e q = none_some e
-    go false h (some k) f i zero e q = absurd (let z : ◌≡◌ {A = ℕ} (suc k) 0 = some_same e in omega arith)
-    go false h (some k) f i (suc g) e q =
+    go false h None f i g e q = none_some e
+    go false h (Some k) f i zero e q = absurd (let z : ◌≡◌ {A = ℕ} (suc k) 0 = some_same e in omega arith)
+    go false h (Some k) f i (suc g) e q =
         let z : k ≡ g = let y : suc k ≡ suc g = some_same e in omega arith in
         rw (clean_kw t (rw h), f g (i ∙ rw z) q)
 
 module _ (l : Line) where
-  pub marked_none : position has_g l.tokens ≡ none → Mark l 0
+  pub marked_none : position has_g l.tokens ≡ None → Mark l 0
   marked_none e =
       let z : mark_of l.tokens ≡ 0 = mark_place l.tokens ∙ rw e in
       record { none = λ _. clean_line l.tokens z; cut = λ _. clean_before l.tokens (rw z); target = λ h. absurd (omega arith) }
@@ -122,14 +123,14 @@ module _ (l : Line) where
   pub marked_unknown : Mark l 2
   marked_unknown = record { none = λ e. absurd (omega arith); cut = λ h. absurd (h refl); target = λ h. absurd (omega arith) }
 
-  module _ (g : ℕ) (e : position has_g l.tokens ≡ some g) (q : ((token l g).text ≟ ascii "goto") ≡ true) where
+  module _ (g : ℕ) (e : position has_g l.tokens ≡ Some g) (q : ((token l g).text ≟ ascii "goto") ≡ true) where
     clean_cut_off : all clean (before l.tokens) ≡ true
     clean_cut_off = let z : mark_of l.tokens ≡ 1 = mark_place l.tokens ∙ rw (e, q) in clean_before l.tokens (rw z)
 
     pub marked_goto : Mark l 1
     marked_goto = record { none = λ e. absurd (omega arith); cut = λ _. clean_cut_off; target = λ h. absurd (omega arith) }
 
-    pub marked_symbol : (j : ℕ) → first_symbol (drop (g + 1) l.tokens) ≡ some (token l j).text → Mark l (j + 3)
+    pub marked_symbol : (j : ℕ) → first_symbol (drop (g + 1) l.tokens) ≡ Some (token l j).text → Mark l (j + 3)
     unfolding goto_target
     marked_symbol j f =
         let z : j + 3 - 3 ≡ j = omega arith in
@@ -201,8 +202,8 @@ pub clean_over : (l : Line) → all clean l.tokens ≡ true → seek looking (or
 clean_over l h = go (leading_test l 0) (clean_test l h)
   where
     go : (o : Option (List Token)) → IfSome silences o → seek looking (or_else o one) ≡ looking
-    go none f = seek_one looking
-    go (some c) f = f c refl
+    go None f = seek_one looking
+    go (Some c) f = f c refl
 
 -- Pieces
 

@@ -6,10 +6,10 @@
 --   goes_marked                                      a line whose mark says where its goto leads
 --   scan_start, scan_next, pass_start, pass_next     words that are passed over
 -- Assumes nothing.
+use Rattle.std.specs.Prelude.{Option, None, Some}
 use mathlib.Core.Path.{◌≡◌, refl, sym, ap, ◌∙◌}
 use mathlib.Core.Bool.{Bool, true, false, cond, ◌&&◌}
 use mathlib.Core.List.{List, ◌∷◌}
-use mathlib.Core.Option.{Option, none, some}
 use Prim.Native.Nat.{ℕ, ◌+◌, ◌-◌, ◌/◌, ◌%◌, ◌≤◌, ◌<◌}
 use native.Mathlib.Nat.{le_refl}
 use native.Mathlib.Decide.{dec_le, dec_lt}
@@ -28,9 +28,7 @@ use Rattle.text.proofs.Parts.{drop_step}
 use Rattle.loop_theory.proofs.Cases.{and_split}
 use Rattle.plan.specs.Plan.{header_at, piece_at, test_at, initialiser_at, step_at, line_of}
 use Rattle.plan.specs.Changes.{is_goto}
-use Rattle.pseudo_opt.specs.Places.{found, text_at}
-use Rattle.pseudo_opt.specs.declared.Found.{Found}
-use Rattle.pseudo_opt.specs.declared.Found.TheVariants.{At, Nothing}
+use Rattle.pseudo_opt.specs.Places.{text_at}
 use Rattle.pieces.specs.Pieces.{piece, origin}
 use Rattle.pieces.proofs.Forms.{kept_piece}
 use Rattle.goto_targets.specs.Seek.{Seek.looking, seek}
@@ -51,22 +49,22 @@ module _ (l : Line) where
   pub mark_other : Mark l 2
   mark_other = marked_unknown l
 
-  module _ (f : Found) (e : found f ≡ position has_g l.tokens) where
-    pub mark_none : f ≡ Nothing → Mark l 0
+  module _ (f : Option ℕ) (e : f ≡ position has_g l.tokens) where
+    pub mark_none : f ≡ None → Mark l 0
     mark_none q = marked_none l (sym e ∙ rw q)
 
-    module _ (g : ℕ) (q : f ≡ At g) (s : List ℕ) (d : s ≡ (token l g).text) (b : Bool) (h : b ≡ (s ≟ ascii "goto")) (y : b ≡ true)
-        (o : Found) (u : text_at l o ≡ first_symbol (drop (g + 1) l.tokens)) where
-      at : position has_g l.tokens ≡ some g
+    module _ (g : ℕ) (q : f ≡ Some g) (s : List ℕ) (d : s ≡ (token l g).text) (b : Bool) (h : b ≡ (s ≟ ascii "goto")) (y : b ≡ true)
+        (o : Option ℕ) (u : text_at l o ≡ first_symbol (drop (g + 1) l.tokens)) where
+      at : position has_g l.tokens ≡ Some g
       at = sym e ∙ rw q
 
       is : ((token l g).text ≟ ascii "goto") ≡ true
       is = rw (← d) (sym h ∙ y)
 
-      pub mark_goto : o ≡ Nothing → Mark l 1
+      pub mark_goto : o ≡ None → Mark l 1
       mark_goto z = marked_goto l g at is
 
-      pub mark_symbol : (j : ℕ) → o ≡ At j → (r : ℕ) → r ≡ place_mark j → Mark l r
+      pub mark_symbol : (j : ℕ) → o ≡ Some j → (r : ℕ) → r ≡ place_mark j → Mark l r
       mark_symbol j z r c = rw c (go (dec_lt j 65533))
         where
           go : Dec (j < 65533) → Mark l (place_mark j)
@@ -169,16 +167,16 @@ module _ (l t x ms : List ℕ) (M : Marked l t x ms) where
   popped_none : (p : ℕ) → quiet ms p ≡ true → looking ≡ seek looking (popped (piece C p).tokens)
   popped_none p e = sym (clean_popped (piece C p).tokens (quiet_clean l t x ms M p e))
 
-  silent_none : (w : ℕ) → is_goto w ≡ true → silent ms w ≡ true → none ≡ goto_target (line_of C w)
+  silent_none : (w : ℕ) → is_goto w ≡ true → silent ms w ≡ true → None ≡ goto_target (line_of C w)
   unfolding silent
   silent_none w g s = go (dec_le (header_at w) 0) (dec_lt (header_at w) 4)
     where
-      lined : (h : header_at w ≡ 0) → quiet ms (piece_at w) ≡ true → none ≡ goto_target (line_of C w)
+      lined : (h : header_at w ≡ 0) → quiet ms (piece_at w) ≡ true → None ≡ goto_target (line_of C w)
       lined h e =
-          line_target C w (header_at w) refl h (piece_at w) refl none
+          line_target C w (header_at w) refl h (piece_at w) refl None
           (sym (target_is (piece C (piece_at w)) ∙ rw (clean_seek (piece C (piece_at w)).tokens (quiet_clean l t x ms M (piece_at w) e))))
 
-      go : Dec (header_at w ≤ 0) → Dec (header_at w < 4) → none ≡ goto_target (line_of C w)
+      go : Dec (header_at w ≤ 0) → Dec (header_at w < 4) → None ≡ goto_target (line_of C w)
       go (yes h) d = let z : header_at w ≡ 0 = omega arith in lined z (rw (eq-eqb (header_at w) 0 z) at s)
       go (no h) (yes f) =
           let n : header_at w ≡ 0 → ⊥ = λ e. h (omega arith) in
@@ -218,15 +216,15 @@ module _ (l t x ms : List ℕ) (M : Marked l t x ms) where
         go true h false i c j e = absurd (omega arith)
         go false h b i c j e = absurd (omega arith)
 
-    target_there : some (token (origin C (piece_at w)) (m - 3)).text ≡ goto_target (line_of C w)
+    target_there : Some (token (origin C (piece_at w)) (m - 3)).text ≡ goto_target (line_of C w)
     target_there =
-        line_target C w (header_at w) refl kept.0 (piece_at w) refl (some (token (origin C (piece_at w)) (m - 3)).text)
+        line_target C w (header_at w) refl kept.0 (piece_at w) refl (Some (token (origin C (piece_at w)) (m - 3)).text)
         (sym (ap goto_target_of (kept_piece C (piece_at w) kept.1.0) ∙ found_there))
       where
         goto_target_of : List Token → Option (List ℕ)
-        goto_target_of ts = goto_target (pseudo_line none 1 ts)
+        goto_target_of ts = goto_target (pseudo_line None 1 ts)
 
-        found_there : goto_target_of (origin C (piece_at w)).tokens ≡ some (token (origin C (piece_at w)) (m - 3)).text
+        found_there : goto_target_of (origin C (piece_at w)).tokens ≡ Some (token (origin C (piece_at w)) (m - 3)).text
         found_there = unfold goto_target in (M.marks (piece_at w / 4) kept.1.1.0).target (rw (← kept.1.1.1) lt) ∙ rw (← kept.1.1.1)
 
     pub goes_marked : (i : ℕ) → i ≡ piece_at w / 4 → (s : List ℕ) → s ≡ (token (line C i) (m - 3)).text → (ls : List ℕ) (r : Bool) → r ≡ any (names C s) ls → r ≡ goes_inside C ls w

@@ -12,8 +12,7 @@
 --   silent ms w        so are those of all pieces that the line of w is made of
 --   Passed ms ws k r   the words of ws from place k up to r are silent: a test that no silent word passes holds of one from k on, if it does of one from r on
 -- Assumes nothing.
-use Rattle.std.specs.Prelude.{if◌then◌else◌, ℕ, ◌+◌, ◌-◌, ◌/◌, ◌%◌, ◌≤◌, ◌<◌, ◌≡◌, Bool, true, false, ◌&&◌, not, List, eqb, ltb, length, get_or, drop}
-use Rattle.std.proofs.Math.Option.{some}
+use Rattle.std.specs.Prelude.{if◌then◌else◌, ℕ, ◌+◌, ◌-◌, ◌/◌, ◌%◌, ◌≤◌, ◌<◌, ◌≡◌, Bool, true, false, ◌&&◌, not, List, eqb, ltb, length, get_or, drop, Some}
 use Rattle.definitions.specs.Lists.{any, all, take_while, contains, ascii}
 use Rattle.definitions.specs.Model.{Token, Line, token, line, Keyword}
 use Rattle.definitions.specs.Columns.{listing}
@@ -35,7 +34,7 @@ before ts = take_while (λ t. not (is_kw (ascii "goto") t)) ts
 pub record Mark (l : Line) (m : ℕ) : Type 0 where
   pub none : m ≡ 0 → all clean l.tokens ≡ true
   pub cut : (m ≡ 2 → ⊥) → all clean (before l.tokens) ≡ true
-  pub target : 2 < m → goto_target l ≡ some (token l (m - 3)).text
+  pub target : 2 < m → goto_target l ≡ Some (token l (m - 3)).text
 
 abbrev pub place_mark : ℕ → ℕ
 place_mark j = if ltb j 65533 then j + 3 else 2

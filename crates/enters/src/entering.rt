@@ -1,8 +1,8 @@
 // The lines that have a goto to one of the labels of a loop.
 ghost use Rattle.std.specs.Prelude.{◌≡◌, true};
 ghost use Rattle.definitions.specs.Lists.{any, all};
-ghost use Rattle.definitions.specs.Columns.{listing};
 ghost use Rattle.definitions.specs.Questions.{question_2};
+ghost use Rattle.model.specs.Listings.{listing_of};
 ghost use Rattle.plan.specs.Changes.{is_goto};
 ghost use Rattle.enters.specs.Inside.{names, goes_inside};
 ghost use Rattle.enters.specs.Marks.{Marked};
@@ -10,38 +10,36 @@ ghost use Rattle.enters.specs.Marks.{Marked};
 use crate::marks::{next_loud, own_mark};
 use goto_targets::headers::word_target;
 use goto_targets::seeking::State;
-use model::columns::text_at;
+use model::listing::Listing;
 use words::wide;
 
 // s is the first token of line i.
-fn names(lines: &[u32], tokens: &[u32], text: &[u8], i: u16, s: &[u8]) -> bool
-    ensures { result ≡ names (listing lines.now tokens.now text.now) s.now i }
+fn names(code: &Listing, i: u16, s: &[u8]) -> bool
+    ensures { result ≡ names (listing_of code.now) s.now i }
 {
-    text::equal(text_at(lines, tokens, text, wide(i), 0), s)
+    text::equal(code.text_at(wide(i), 0), s)
 }
 
 // s is the name of one of the labels.
-fn any_names(lines: &[u32], tokens: &[u32], text: &[u8], labels: &[u16], s: &[u8]) -> bool
-    ensures { let C = listing lines.now tokens.now text.now in
+fn any_names(code: &Listing, labels: &[u16], s: &[u8]) -> bool
+    ensures { let C = listing_of code.now in
         result ≡ any (names C s.now) labels.now }
 {
-    let mut k = 0;
-    while k < labels.len() {
-        if names(lines, tokens, text, labels[k], s) {
+    for k in 0..labels.len() {
+        if names(code, labels[k], s) {
             return true;
         }
-        k += 1;
     }
     false
 }
 
 // The line of w has a goto to one of the labels, by its tokens.
-fn goes_to(lines: &[u32], tokens: &[u32], text: &[u8], labels: &[u16], w: usize) -> bool
-    requires { (question_2 lines.now tokens.now text.now ≡ true) × (is_goto w ≡ true) }
-    ensures { let C = listing lines.now tokens.now text.now in
+fn goes_to(code: &Listing, labels: &[u16], w: usize) -> bool
+    requires { (question_2 code.now.lines.now code.now.tokens.now code.now.text.now ≡ true) × (is_goto w ≡ true) }
+    ensures { let C = listing_of code.now in
         result ≡ goes_inside C labels.now w }
 {
-    match word_target(lines, tokens, text, w) {
+    match word_target(code, w) {
         State::Looking => false,
         State::Waiting => false,
         State::Found {
@@ -50,54 +48,38 @@ fn goes_to(lines: &[u32], tokens: &[u32], text: &[u8], labels: &[u16], w: usize)
             from,
             to,
         } => any_names(
-            lines,
-            tokens,
-            text,
+            code,
             labels,
-            text::part(text_at(lines, tokens, text, line, token), from, to),
+            text::part(code.text_at(line, token), from, to),
         ),
     }
 }
 
 // The line of w has a goto to one of the labels. Where its mark says which symbol the goto leads to, its tokens are not read.
-fn goes_inside(
-    lines: &[u32],
-    tokens: &[u32],
-    text: &[u8],
-    labels: &[u16],
-    w: usize,
-    marks: &[u16],
-) -> bool
-    requires text_value { (question_2 lines.now tokens.now text.now ≡ true) × (is_goto w ≡ true) }
-    requires marked { Marked lines.now tokens.now text.now marks.now }
-    ensures { let C = listing lines.now tokens.now text.now in
+fn goes_inside(code: &Listing, labels: &[u16], w: usize, marks: &[u16]) -> bool
+    requires text_value { (question_2 code.now.lines.now code.now.tokens.now code.now.text.now ≡ true) × (is_goto w ≡ true) }
+    requires marked { Marked code.now.lines.now code.now.tokens.now code.now.text.now marks.now }
+    ensures { let C = listing_of code.now in
         result ≡ goes_inside C labels.now w }
 {
-    let m = own_mark(lines, w, marks);
+    let m = own_mark(code.lines, w, marks);
     if 2 < m {
-        let s = text_at(lines, tokens, text, plan::source(w), m - 3);
-        return any_names(lines, tokens, text, labels, s);
+        let s = code.text_at(plan::source(w), m - 3);
+        return any_names(code, labels, s);
     }
-    goes_to(lines, tokens, text, labels, w)
+    goes_to(code, labels, w)
 }
 
 // So has the line of one of the words. Those that can have no goto are passed over.
-pub fn any_goes_inside(
-    lines: &[u32],
-    tokens: &[u32],
-    text: &[u8],
-    labels: &[u16],
-    words: &[usize],
-    marks: &[u16],
-) -> bool
-    requires text_value { (question_2 lines.now tokens.now text.now ≡ true) × (all is_goto words.now ≡ true) }
-    requires marked { Marked lines.now tokens.now text.now marks.now }
-    ensures { let C = listing lines.now tokens.now text.now in
+pub fn any_goes_inside(code: &Listing, labels: &[u16], words: &[usize], marks: &[u16]) -> bool
+    requires text_value { (question_2 code.now.lines.now code.now.tokens.now code.now.text.now ≡ true) × (all is_goto words.now ≡ true) }
+    requires marked { Marked code.now.lines.now code.now.tokens.now code.now.text.now marks.now }
+    ensures { let C = listing_of code.now in
         result ≡ any (goes_inside C labels.now) words.now }
 {
     let mut k = next_loud(words, 0, marks);
     while k < words.len() {
-        if goes_inside(lines, tokens, text, labels, words[k], marks) {
+        if goes_inside(code, labels, words[k], marks) {
             return true;
         }
         k = next_loud(words, k + 1, marks);

@@ -4,42 +4,35 @@
 ghost use Rattle.std.specs.Prelude.{◌≡◌, true, ◌≤◌, ◌<◌, length, get_or};
 ghost use Rattle.definitions.specs.Lists.{all, position};
 ghost use Rattle.definitions.specs.Model.{line, no_token};
-ghost use Rattle.definitions.specs.Columns.{token_list, listing};
+ghost use Rattle.model.specs.Listings.{listing_of, tokens_of};
 ghost use Rattle.plan.specs.Changes.{is_goto};
-ghost use Rattle.pseudo_opt.specs.Places.{found};
 ghost use Rattle.enters.specs.Marks.{has_g, place_mark, Mark, Marked, quiet, quiet_over, own_mark, silent, Passed};
 
-use model::columns::{text_at, token_kind, token_text};
+use model::listing::Listing;
 use plan::{header, initialiser, piece, step, test};
-use pseudo_opt::Found;
 use pseudo_opt::labels::first_symbol;
 use words::wide;
 
 // Token k of all is a keyword with the letter g.
-fn has_g(tokens: &[u32], text: &[u8], k: usize) -> bool
-    ensures { result ≡ has_g (get_or (token_list tokens.now text.now) k no_token) }
+fn has_g(code: &Listing, k: usize) -> bool
+    ensures { result ≡ has_g (get_or (tokens_of code.now) k no_token) }
 {
-    if token_kind(tokens, text, k) != 3 {
-        return false;
-    }
-    text::contains(token_text(tokens, text, k), b'g')
+    code.token_kind(k) == 3 && text::contains(code.token_text(k), b'g')
 }
 
 // The place of the first such token of line i.
-fn first_g(lines: &[u32], tokens: &[u32], text: &[u8], i: usize) -> Found
-    ensures { let l = line (listing lines.now tokens.now text.now) i in
-        found result ≡ position has_g l.tokens }
+fn first_g(code: &Listing, i: usize) -> Option<usize>
+    ensures { let l = line (listing_of code.now) i in
+        result ≡ position has_g l.tokens }
 {
-    let s = model::columns::line_start(lines, i);
-    let e = model::columns::line_end(lines, tokens, i);
-    let mut k = s;
-    while k < e {
-        if has_g(tokens, text, k) {
-            return Found::At(k - s);
+    let s = code.line_start(i);
+    let e = code.line_end(i);
+    for k in s..e {
+        if has_g(code, k) {
+            return Some(k - s);
         }
-        k += 1;
     }
-    Found::Nothing
+    None
 }
 
 // The mark of a line whose goto leads to the symbol at place j.
@@ -53,14 +46,14 @@ fn place_mark(j: usize) -> u16
 }
 
 // The mark of line i.
-fn mark(lines: &[u32], tokens: &[u32], text: &[u8], i: usize) -> u16
-    ensures { Mark (line (listing lines.now tokens.now text.now) i) result }
+fn mark(code: &Listing, i: usize) -> u16
+    ensures { Mark (line (listing_of code.now) i) result }
 {
-    let Found::At(g) = first_g(lines, tokens, text, i) else {
+    let Some(g) = first_g(code, i) else {
         return 0;
     };
-    if text::equal(text_at(lines, tokens, text, i, g), b"goto") {
-        let Found::At(j) = first_symbol(lines, tokens, text, i, g) else {
+    if text::equal(code.text_at(i, g), b"goto") {
+        let Some(j) = first_symbol(code, i, g) else {
             return 1;
         };
         return place_mark(j);
@@ -69,14 +62,12 @@ fn mark(lines: &[u32], tokens: &[u32], text: &[u8], i: usize) -> u16
 }
 
 // Marks every line.
-pub fn mark_lines(lines: &[u32], tokens: &[u32], text: &[u8], marks: &mut [u16])
-    requires { (length lines.now ≤ 1024) × (length marks.old ≡ 1024) }
-    ensures { Marked lines.now tokens.now text.now marks.new }
+pub fn mark_lines(code: &Listing, marks: &mut [u16])
+    requires { (length code.now.lines.now ≤ 1024) × (length marks.old ≡ 1024) }
+    ensures { Marked code.now.lines.now code.now.tokens.now code.now.text.now marks.new }
 {
-    let mut i = 0;
-    while i < lines.len() {
-        marks[i] = mark(lines, tokens, text, i);
-        i += 1;
+    for i in 0..code.lines.len() {
+        marks[i] = mark(code, i);
     }
 }
 
@@ -86,13 +77,7 @@ fn quiet(marks: &[u16], p: usize) -> bool
     ensures { result ≡ quiet marks.now p }
 {
     let m = marks[p / 4];
-    if m == 0 {
-        return true;
-    }
-    if p % 4 == 0 {
-        return false;
-    }
-    m != 2
+    m == 0 || p % 4 != 0 && m != 2
 }
 
 // The mark of the line that w keeps as it is, else 0.
@@ -138,15 +123,7 @@ fn silent(marks: &[u16], w: usize) -> bool
     if h < 4 {
         return over;
     }
-    if over {
-        if quiet(marks, initialiser(w)) {
-            quiet(marks, step(w))
-        } else {
-            false
-        }
-    } else {
-        false
-    }
+    over && quiet(marks, initialiser(w)) && quiet(marks, step(w))
 }
 
 // The first place from k on of a word that is not silent, or behind the last word.

@@ -9,12 +9,12 @@
 --   family_at                                                             the hash of a family by its first definition
 --   last_inside, found_text                                               a register written as the first definition of the last family of its hash
 -- Assumes nothing.
+use Rattle.std.specs.Prelude.{Option, None, Some}
 use Prim.Native.Nat.{ℕ, zero, suc, ◌+◌, ◌*◌, ◌-◌, ◌<◌, ◌≤◌}
 use mathlib.Core.Path.{◌≡◌, refl, sym, ap, ◌∙◌}
 use mathlib.Core.Logic.{inl, inr}
 use mathlib.Core.Bool.{Bool, true, false, cond, not, false≢true}
 use mathlib.Core.List.{List, [], ◌∷◌}
-use mathlib.Core.Option.{Option, none, some}
 use native.Mathlib.Omega.{arith}
 use lib.Dec.{eqb, ltb}
 use borrow.Author.Tests.{eqb-true, eqb-false, lt-ltb, le-ltb, ltb-true}
@@ -100,19 +100,19 @@ unique_families L = distinct_unique _
 -- The place of a family
 
 position_here : (fs : List (List ℕ)) (f : List ℕ) (k : ℕ) → k < length fs → ((j : ℕ) → j < k → (get_or fs j [] ≟ f) ≡ false) → (get_or fs k [] ≟ f) ≡ true
-    → position (λ g. g ≟ f) fs ≡ some k
+    → position (λ g. g ≟ f) fs ≡ Some k
 unfolding position
 position_here [] f k h n e = absurd (omega arith)
 position_here (g ∷ gs) f zero h n e = rw e
 position_here (g ∷ gs) f (suc k) h n e = rw (n 0 (omega arith), position_here gs f k (omega arith) (λ j l. n (suc j) (omega arith)) e)
 
-position_none : (fs : List (List ℕ)) (f : List ℕ) → ((j : ℕ) → j < length fs → (get_or fs j [] ≟ f) ≡ false) → position (λ g. g ≟ f) fs ≡ none
+position_none : (fs : List (List ℕ)) (f : List ℕ) → ((j : ℕ) → j < length fs → (get_or fs j [] ≟ f) ≡ false) → position (λ g. g ≟ f) fs ≡ None
 unfolding position
 position_none [] f n = refl
 position_none (g ∷ gs) f n = rw (n 0 (omega arith), position_none gs f (λ j l. n (suc j) (omega arith)))
 
 place_at : Option ℕ → ℕ
-place_at o = elim o [ none ↦ 0 | some k ↦ suc k ]
+place_at o = elim o [ None ↦ 0 | Some k ↦ suc k ]
 
 pub place_here : (fs : List (List ℕ)) (f : List ℕ) (k : ℕ) → Unique fs → k < length fs → get_or fs k [] ≡ f → place fs f ≡ suc k
 unfolding place place_at
@@ -158,17 +158,17 @@ latest_above m fs h (suc n) k l g e = go (eqb (hash m (get_or fs n [])) h) refl 
 -- The search
 
 abbrev matches : Option Family → List ℕ → Bool
-matches none g = false
-matches (some f) g = g ≟ f.name
+matches None g = false
+matches (Some f) g = g ≟ f.name
 
 matches_hash : (m : ℕ) (o : Option Family) (g : List ℕ) → matches o g ≡ true → hash m g ≡ hash_of m o
-matches_hash m none g e = absurd (false≢true e)
-matches_hash m (some f) g e = ap (hash m) (≟_true g f.name e)
+matches_hash m None g e = absurd (false≢true e)
+matches_hash m (Some f) g e = ap (hash m) (≟_true g f.name e)
 
-names_matches : (o : Option Family) (l : Line) (g : List ℕ) → defines l ≡ some g → names_family o (token l 0) ≡ matches o g
+names_matches : (o : Option Family) (l : Line) (g : List ℕ) → defines l ≡ Some g → names_family o (token l 0) ≡ matches o g
 unfolding names
-names_matches none l g e = refl
-names_matches (some f) l g e = let w = defines_first l g e in rw (w.1, names, w.2)
+names_matches None l g e = refl
+names_matches (Some f) l g e = let w = defines_first l g e in rw (w.1, names, w.2)
 
 pub record Searching (m : ℕ) (fs : List (List ℕ)) (count : ℕ) (o : Option Family) (c : ℕ) : Type 0 where
   pub bound : c ≤ count
@@ -230,8 +230,8 @@ module _ (L : List Line) (count : ℕ) (t : List ℕ) (T : Table L count t) (o :
     searching_found y q f = go o (sym (at y q) ∙ f)
       where
         go : (o : Option Family) → matches o (get_or (defined_families L) (c - 1) []) ≡ true → c ≡ place_of (take count (defined_families L)) o
-        go none m = absurd (false≢true m)
-        go (some x) m = omega (arith, place_taken L count T.size x.name (c - 1) (omega (arith, s.bound)) (≟_true _ x.name m))
+        go None m = absurd (false≢true m)
+        go (Some x) m = omega (arith, place_taken L count T.size x.name (c - 1) (omega (arith, s.bound)) (≟_true _ x.name m))
 
     pub searching_next : (y : Bool) (next : ℕ) → y ≡ names_family o (token (line L (get_or t (257 + 2 * (c - 1)) 0)) 0) → y ≡ false
         → next ≡ get_or t (256 + 2 * (c - 1)) 0 → Searching (multiplier t) (defined_families L) count o next
@@ -249,8 +249,8 @@ module _ (L : List Line) (count : ℕ) (t : List ℕ) (T : Table L count t) (o :
   searching_end c s h = go o s
     where
       go : (o : Option Family) → Searching (multiplier t) (defined_families L) count o c → 0 ≡ place_of (take count (defined_families L)) o
-      go none s = refl
-      go (some x) s = sym (place_none (take count (defined_families L)) x.name (λ j l.
+      go None s = refl
+      go (Some x) s = sym (place_none (take count (defined_families L)) x.name (λ j l.
           let b : j < count = omega (arith, length-take count (defined_families L)) in
           rw (get_or-take count (defined_families L) j [] b) (s.above j (omega arith) b)))
 
@@ -272,17 +272,17 @@ unfolding row_word
 found_row L count t s r i w c T e q = rw e (go (ltb i 8) refl q)
   where
     go : (b : Bool) → ltb i 8 ≡ b → c ≡ cond b (get_or t (248 + i) 0) 0
-        → c ≡ place_of (take count (defined_families L)) (cond b (some (record { name = row_name i; width = w })) none)
+        → c ≡ place_of (take count (defined_families L)) (cond b (Some (record { name = row_name i; width = w })) None)
     go true f g = g ∙ T.rows i (ltb-true i 8 f)
     go false f g = g
 
 -- The text of the first definition
 
-family_some : (u : Token) (x : Family) → fam_of u ≡ some x → family u.text ≡ some x
+family_some : (u : Token) (x : Family) → fam_of u ≡ Some x → family u.text ≡ Some x
 unfolding fam_of
 family_some u x e = go (eqb u.kind 1) e
   where
-    go : (b : Bool) → cond b (family u.text) none ≡ some x → family u.text ≡ some x
+    go : (b : Bool) → cond b (family u.text) None ≡ Some x → family u.text ≡ Some x
     go true q = q
     go false q = cc
 
@@ -307,7 +307,7 @@ module _ (L : List Line) (count : ℕ) (t s : List ℕ) (r : Register) (T : Tabl
       let l = line L (get_or t (257 + 2 * (c - 1)) 0) in
       let w = defines_first l (get_or (defined_families L) (c - 1) []) (T.first (c - 1) (omega (arith, last_few))) in
       let same : (token l 0).text ≡ s = ≟_true (token l 0).text s (sym e ∙ f) in
-      let is : family_of s r ≡ some w.0 = answer ∙ ap family (sym same) ∙ family_some (token l 0) w.0 w.1 in
+      let is : family_of s r ≡ Some w.0 = answer ∙ ap family (sym same) ∙ family_some (token l 0) w.0 w.1 in
       rw is (omega (arith, place_taken L count T.size w.0.name (c - 1) (omega (arith, last_few)) (sym w.2)))
 
 pub ruleset row_rules = (last_inside, found_text, row_of, row_behind, found_row)

@@ -6,11 +6,11 @@
 --   text_same                           `has_text`
 --   family_hash                         `family_hash`
 -- Assumes nothing.
+use Rattle.std.specs.Prelude.{Option, None, Some}
 use Prim.Native.Nat.{ℕ, zero, suc, ◌+◌, ◌*◌, ◌%◌, ◌<◌, ◌≤◌}
 use mathlib.Core.Path.{◌≡◌, refl, ap, ◌∙◌}
 use mathlib.Core.Bool.{Bool, true, false, cond}
 use mathlib.Core.List.{List, [], ◌∷◌}
-use mathlib.Core.Option.{Option, none, some}
 use native.Mathlib.Omega.{arith}
 use lib.Dec.{ltb}
 use borrow.Author.Tests.{lt-ltb, le-ltb}
@@ -67,7 +67,7 @@ module _ (s : List ℕ) (r : Register) where
   pub some_row : (i w : ℕ) → r ≡ Legacy i w → ltb i 8 ≡ is_some (family_of s r)
   some_row i w e = rw e (go (ltb i 8))
     where
-      go : (b : Bool) → b ≡ is_some {A = Family} (cond b (some (record { name = row_name i; width = w })) none)
+      go : (b : Bool) → b ≡ is_some {A = Family} (cond b (Some (record { name = row_name i; width = w })) None)
       go true = refl
       go false = refl
 

@@ -13,13 +13,13 @@
 --   placed_none, placed_by, placed_other, placed_known, placed_new, placed_table, placed_again    rules for `place_register` and `place_line`
 --   ready, defs_inside, place_fits, numbered_next, numbered_start, numbered_end     rules for `number_line` and `families`
 -- Assumes nothing.
+use Rattle.std.specs.Prelude.{Option, None, Some}
+use Rattle.std.specs.Option.{option_map}
 use Prim.Native.Nat.{ℕ, zero, suc, ◌+◌, ◌*◌, ◌-◌, ◌<◌, ◌≤◌, max}
 use mathlib.Core.Path.{◌≡◌, refl, sym, ap, ◌∙◌}
 use mathlib.Core.Logic.{◌⊎◌, inl, inr}
 use mathlib.Core.Bool.{Bool, true, false, cond, ◌||◌, not, and-true}
 use mathlib.Core.List.{List, [], ◌∷◌, ◌++◌, map, append-nil, append_assoc, map-append}
-use mathlib.Core.Option
-use mathlib.Core.Option.{Option, none, some}
 use native.Mathlib.Omega.{arith}
 use native.Mathlib.Nat.{add-zero}
 use native.Mathlib.Numerals.{add-one}
@@ -40,8 +40,6 @@ use Rattle.model.proofs.Decode.{length_listing}
 use Rattle.family.specs.declared.Register.{Register}
 use Rattle.legacy.specs.Table.{row_name}
 use Rattle.family.specs.Register.{family_of, named}
-use Rattle.assignment.specs.declared.definition.Defined.{Defined}
-use Rattle.assignment.specs.declared.definition.Defined.TheVariants.{Family as Of, Nothing}
 use Rattle.assignment.specs.Definitions.{defined}
 use Rattle.families.specs.Families.{hash, hash_of, latest, place, place_of, multiplier, Linked, Table, families_before, kept, linked, added, emptied, of_register, Ready, Added, Placed, place_defined, defined_at, Numbered}
 use Rattle.families.proofs.Lists.{any_snoc, range_snoc}
@@ -102,12 +100,12 @@ concat_append (ys ∷ xss) xs = ap (ys ++◌) (concat_append xss xs) ∙ sym (ap
 
 -- with the family o of one line more
 abbrev more : List (List ℕ) → Option (List ℕ) → List (List ℕ)
-more fs none = fs
-more fs (some f) = cond (any (is f) fs) fs (fs ++ (f ∷ []))
+more fs None = fs
+more fs (Some f) = cond (any (is f) fs) fs (fs ++ (f ∷ []))
 
 more_front : (fs : List (List ℕ)) (o : Option (List ℕ)) → (ts : List (List ℕ)) × (more fs o ≡ fs ++ ts) × (length ts ≤ 1)
-more_front fs none = ([], sym (append-nil fs), omega arith)
-more_front fs (some f) = pick (any (is f) fs)
+more_front fs None = ([], sym (append-nil fs), omega arith)
+more_front fs (Some f) = pick (any (is f) fs)
   where
     pick : (b : Bool) → (ts : List (List ℕ)) × (cond b fs (fs ++ (f ∷ [])) ≡ fs ++ ts) × (length ts ≤ 1)
     pick true = ([], sym (append-nil fs), omega arith)
@@ -132,8 +130,8 @@ module _ (L : List Line) where
       ∙ ap (λ (j : ℕ). distinct (names_in (i - 1) ++ to_list (defines (line L j)))) b ∙ go (defines (line L i))
     where
       go : (o : Option (List ℕ)) → distinct (names_in (i - 1) ++ to_list o) ≡ more (distinct (names_in (i - 1))) o
-      go none = ap distinct (append-nil (names_in (i - 1)))
-      go (some f) = distinct_snoc (names_in (i - 1)) f
+      go None = ap distinct (append-nil (names_in (i - 1)))
+      go (Some f) = distinct_snoc (names_in (i - 1)) f
           ∙ ap (λ (b : Bool). cond b (distinct (names_in (i - 1))) (distinct (names_in (i - 1)) ++ (f ∷ []))) (sym (any_distinct f (names_in (i - 1))))
 
   grows : (i : ℕ) → 0 < i → (k : ℕ) → (ts : List (List ℕ)) × (families_before L (i + k) ≡ families_before L i ++ ts)
@@ -180,17 +178,17 @@ place_cases [] f = inl (refl, refl)
 place_cases (g ∷ gs) f = go (g ≟ f) refl (position (λ g. g ≟ f) gs) (place_cases gs f)
   where
     at : Option ℕ → ℕ
-    at o = elim o [ none ↦ 0 | some k ↦ suc k ]
+    at o = elim o [ None ↦ 0 | Some k ↦ suc k ]
 
     go : (b : Bool) → (g ≟ f) ≡ b → (o : Option ℕ)
         → ((at o ≡ 0) × (any (is f) gs ≡ false)) ⊎ ((k : ℕ) × (at o ≡ suc k) × (k < length gs) × (get_or gs k [] ≡ f) × (any (is f) gs ≡ true))
-        → ((at (cond b (some 0) (Option.map suc o)) ≡ 0) × ((b || any (is f) gs) ≡ false))
-        ⊎ ((k : ℕ) × (at (cond b (some 0) (Option.map suc o)) ≡ suc k) × (k < suc (length gs)) × (get_or (g ∷ gs) k [] ≡ f) × ((b || any (is f) gs) ≡ true))
+        → ((at (cond b (Some 0) (option_map suc o)) ≡ 0) × ((b || any (is f) gs) ≡ false))
+        ⊎ ((k : ℕ) × (at (cond b (Some 0) (option_map suc o)) ≡ suc k) × (k < suc (length gs)) × (get_or (g ∷ gs) k [] ≡ f) × ((b || any (is f) gs) ≡ true))
     go true e o r = inr (0, refl, omega arith, ≟_true g f e, refl)
-    go false e none (inl r) = inl (refl, r.1)
-    go false e (some k) (inl r) = absurd (omega (arith, r.0))
-    go false e none (inr r) = absurd (omega (arith, r.1))
-    go false e (some k) (inr r) = let z : k ≡ r.0 = omega (arith, r.1) in inr (suc r.0, ap (λ (j : ℕ). suc (suc j)) z, omega (arith, r.2), r.3, r.4)
+    go false e None (inl r) = inl (refl, r.1)
+    go false e (Some k) (inl r) = absurd (omega (arith, r.0))
+    go false e None (inr r) = absurd (omega (arith, r.1))
+    go false e (Some k) (inr r) = let z : k ≡ r.0 = omega (arith, r.1) in inr (suc r.0, ap (λ (j : ℕ). suc (suc j)) z, omega (arith, r.2), r.3, r.4)
 
 any_front : (p : List ℕ → Bool) (fs gs : List (List ℕ)) → any p fs ≡ true → any p (fs ++ gs) ≡ true
 unfolding any
@@ -201,7 +199,7 @@ any_front p (f ∷ fs) gs e = go (p f) e (any_front p fs gs)
     go true e r = refl
     go false e r = r e
 
-more_has : (fs : List (List ℕ)) (f : List ℕ) → any (is f) (more fs (some f)) ≡ true
+more_has : (fs : List (List ℕ)) (f : List ℕ) → any (is f) (more fs (Some f)) ≡ true
 more_has fs f = go (any (is f) fs) refl
   where
     go : (b : Bool) → any (is f) fs ≡ b → any (is f) (cond b fs (fs ++ (f ∷ []))) ≡ true
@@ -209,7 +207,7 @@ more_has fs f = go (any (is f) fs) refl
     go false e = any_snoc (is f) fs f ∙ rw (e, ≟_self f)
 
 -- the family that a line defines is among all
-pub defined_known : (L : List Line) (i : ℕ) → 0 < i → i < length L → (f : List ℕ) → defines (line L i) ≡ some f → place (defined_families L) f ≡ 0 → ⊥
+pub defined_known : (L : List Line) (i : ℕ) → 0 < i → i < length L → (f : List ℕ) → defines (line L i) ≡ Some f → place (defined_families L) f ≡ 0 → ⊥
 defined_known L i p h f e z =
     let r = rest L (i + 1) (omega arith) (omega arith) in
     let before : any (is f) (families_before L (i + 1)) ≡ true =
@@ -285,7 +283,7 @@ module _ (t : List ℕ) (k c : ℕ) where
 
 -- the row and the line of one family more are written
 module _ (L : List Line) (count : ℕ) (t : List ℕ) (T : Table L count t) (f : List ℕ) (i row : ℕ) (room : 256 + 2 * suc count ≤ length t)
-    (at_count : get_or (defined_families L) count [] ≡ f) (inside : count < length (defined_families L)) (defines_f : defines (line L i) ≡ some f)
+    (at_count : get_or (defined_families L) count [] ≡ f) (inside : count < length (defined_families L)) (defines_f : defines (line L i) ≡ Some f)
     (row_is : (j : ℕ) → j < 8 → (f ≟ row_name j) ≡ eqb row j) where
   abbrev with_row : List ℕ
   with_row = kept t row (count + 1)
@@ -296,8 +294,8 @@ module _ (L : List Line) (count : ℕ) (t : List ℕ) (T : Table L count t) (f :
   beside : (j : ℕ) → (row < 8 → j ≡ 248 + row → ⊥) → (j ≡ 257 + 2 * count → ⊥) → get_or with_line j 0 ≡ get_or t j 0
   beside j m n = get_or-set_other with_row (257 + 2 * count) j i 0 n ∙ kept_other t row (count + 1) j m
 
-  first_at : (j : ℕ) → j ≡ count → defines (line L (get_or with_line (257 + 2 * j) 0)) ≡ some (get_or (defined_families L) j [])
-  first_at j e = rw (e, get_or-set_same with_row (257 + 2 * count) i 0 (rw (length_kept t row (count + 1)) (omega arith))) (defines_f ∙ ap some (sym at_count))
+  first_at : (j : ℕ) → j ≡ count → defines (line L (get_or with_line (257 + 2 * j) 0)) ≡ Some (get_or (defined_families L) j [])
+  first_at j e = rw (e, get_or-set_same with_row (257 + 2 * count) i 0 (rw (length_kept t row (count + 1)) (omega arith))) (defines_f ∙ ap Some (sym at_count))
 
   row_at : (j : ℕ) → j < 8 → (b : Bool) → eqb row j ≡ b → get_or with_row (248 + j) 0 ≡ place (take (suc count) (defined_families L)) (row_name j)
   row_at j l true e =
@@ -370,43 +368,43 @@ module _ (L : List Line) (i count : ℕ) (t : List ℕ) (R : Ready L i count t) 
   front : take count (defined_families L) ≡ families_before L i
   front = rw R.known (families_front L i R.above (omega (arith, R.inside)))
 
-  nothing : defines (line L i) ≡ none → Placed L i count 0 t
+  nothing : defines (line L i) ≡ None → Placed L i count 0 t
   nothing n =
       let z : max count 0 ≡ count = omega arith in
       let same : families_before L (i + 1) ≡ families_before L i = families_next L i R.above ∙ ap (more (families_before L i)) n in
       record { place = rw n; families = z ∙ R.known ∙ sym (ap length same); table = rw z R.table; small = omega arith }
 
-  module _ (d : Defined) (e : defined (line L i) d ≡ defines (line L i)) where
-    pub placed_none : d ≡ Nothing → Placed L i count 0 t
+  module _ (d : Option Register) (e : defined (line L i) d ≡ defines (line L i)) where
+    pub placed_none : d ≡ None → Placed L i count 0 t
     placed_none q = nothing (sym e ∙ rw q)
 
-    pub placed_by : (r : Register) → d ≡ Of r → of_register (line L i) r ≡ defines (line L i)
+    pub placed_by : (r : Register) → d ≡ Some r → of_register (line L i) r ≡ defines (line L i)
     placed_by r q = ap (defined (line L i)) (sym q) ∙ e
 
   module _ (r : Register) (e : of_register (line L i) r ≡ defines (line L i)) where
     abbrev found : Option Family
     found = family_of (token (line L i) 0).text r
 
-    name : (o : Option Family) → found ≡ o → defines (line L i) ≡ Option.map (λ (f : Family). f.name) o
-    name o f = sym e ∙ ap (Option.map (λ (f : Family). f.name)) f
+    name : (o : Option Family) → found ≡ o → defines (line L i) ≡ option_map (λ (f : Family). f.name) o
+    name o f = sym e ∙ ap (option_map (λ (f : Family). f.name)) f
 
     pub placed_other : (y : Bool) → ((s : List ℕ) → y ≡ is_some (family_of s r)) → y ≡ false → Placed L i count 0 t
     placed_other y g f = go found refl (sym (g (token (line L i) 0).text) ∙ f)
       where
         go : (o : Option Family) → found ≡ o → is_some o ≡ false → Placed L i count 0 t
-        go none k n = nothing (name none k)
-        go (some x) k n = clash refl n
+        go None k n = nothing (name None k)
+        go (Some x) k n = clash refl n
 
     module _ (c : ℕ) (m : c ≡ place_of (take count (defined_families L)) found) where
       pub placed_known : (c ≡ 0 → ⊥) → Placed L i count c t
       placed_known z = go found refl (m ∙ ap (λ (fs : List (List ℕ)). place_of fs found) front)
         where
           go : (o : Option Family) → found ≡ o → c ≡ place_of (families_before L i) o → Placed L i count c t
-          go none k b = absurd (z b)
-          go (some x) k b = elim (place_cases (families_before L i) x.name) [
+          go None k b = absurd (z b)
+          go (Some x) k b = elim (place_cases (families_before L i) x.name) [
             | inl g ↦ absurd (z (b ∙ g.0))
             | inr g ↦ (
-                let n = name (some x) k in
+                let n = name (Some x) k in
                 let v : max count c ≡ count = omega (arith, b, g.1, g.2, R.known) in
                 let same : families_before L (i + 1) ≡ families_before L i = families_next L i R.above ∙ ap (more (families_before L i)) n
                 ∙ ap (λ (b : Bool). cond b (families_before L i) (families_before L i ++ (x.name ∷ []))) g.4 in
@@ -424,11 +422,11 @@ module _ (L : List Line) (i count : ℕ) (t : List ℕ) (R : Ready L i count t) 
       placed_new y a b z t' A = go found refl (sym (a (token (line L i) 0).text) ∙ b) (sym z ∙ m ∙ ap (λ (fs : List (List ℕ)). place_of fs found) front) A.hash_is
         where
           go : (o : Option Family) → found ≡ o → is_some o ≡ true → 0 ≡ place_of (families_before L i) o → A.hash ≡ hash_of (multiplier t) o → Placed L i count (count + 1) t'
-          go none k n b vh = clash n refl
-          go (some x) k n b vh = elim (place_cases (families_before L i) x.name) [
+          go None k n b vh = clash n refl
+          go (Some x) k n b vh = elim (place_cases (families_before L i) x.name) [
             | inr g ↦ absurd (omega (arith, b, g.1))
             | inl g ↦ (
-                let n = name (some x) k in
+                let n = name (Some x) k in
                 let more_families : families_before L (i + 1) ≡ families_before L i ++ (x.name ∷ []) = families_next L i R.above ∙ ap (more (families_before L i)) n
                 ∙ ap (λ (b : Bool). cond b (families_before L i) (families_before L i ++ (x.name ∷ []))) g.1 in
                 let size : length (families_before L (i + 1)) ≡ suc count = ap length more_families ∙ length-append (families_before L i) (x.name ∷ []) ∙ omega (arith, R.known) in

@@ -2,12 +2,12 @@
 --   map_places       a map over the places of a list
 --   found_few        the place that is found is small
 -- Assumes nothing.
+use Rattle.std.specs.Prelude.{Option, None, Some}
+use Rattle.std.specs.Option.{option_map}
 use Prim.Native.Nat.{ℕ, suc, ◌+◌, ◌≤◌}
 use mathlib.Core.Path.{◌≡◌, refl, sym, ap, ap₂, ◌∙◌}
 use mathlib.Core.Bool.{Bool, true, false, cond}
 use mathlib.Core.List.{List, [], ◌∷◌, map}
-use mathlib.Core.Option
-use mathlib.Core.Option.{Option, none, some}
 use native.Mathlib.Omega.{arith}
 use native.Mathlib.Nat.{zero-add, add-zero}
 use lib.ListN.{length, get_or, take, length-take}
@@ -31,22 +31,22 @@ map_places g d xs = go xs xs 0 (λ k. ap (λ (i : ℕ). get_or xs i d) (sym (zer
         (go all xs (suc a) (λ k. h (suc k) ∙ ap (λ (i : ℕ). get_or all i d) (omega arith)))
 
 place_at : Option ℕ → ℕ
-place_at o = elim o [ none ↦ 0 | some k ↦ suc k ]
+place_at o = elim o [ None ↦ 0 | Some k ↦ suc k ]
 
 position_most : (f : List ℕ) (fs : List (List ℕ)) → place_at (position (λ g. g ≟ f) fs) ≤ length fs
 unfolding place_at position
 position_most f [] = omega arith
 position_most f (g ∷ gs) = go (g ≟ f) (position (λ g. g ≟ f) gs) (position_most f gs)
   where
-    go : (b : Bool) (o : Option ℕ) → place_at o ≤ length gs → place_at (cond b (some 0) (Option.map suc o)) ≤ suc (length gs)
+    go : (b : Bool) (o : Option ℕ) → place_at o ≤ length gs → place_at (cond b (Some 0) (option_map suc o)) ≤ suc (length gs)
     go true o h = omega arith
-    go false none h = omega arith
-    go false (some k) h = omega arith
+    go false None h = omega arith
+    go false (Some k) h = omega arith
 
 place_most : (fs : List (List ℕ)) (o : Option Family) → place_of fs o ≤ length fs
 unfolding place place_at
-place_most fs none = omega arith
-place_most fs (some f) = position_most f.name fs
+place_most fs None = omega arith
+place_most fs (Some f) = position_most f.name fs
 
 pub found_few : (L : List Line) (count : ℕ) (t : List ℕ) → Finds L count t → (s : List ℕ) (r : Register) (c : ℕ)
     → c ≡ place_of (take count (defined_families L)) (family_of s r) → c ≤ 1024

@@ -26,9 +26,8 @@
 --   Ready L i count t   line i is next, `count` families being in the table t
 --   Placed L i count c t    line i is done: c is the place of the family that it defines
 -- Assumes nothing.
-use Rattle.std.specs.Prelude.{if◌then◌else◌, ℕ, zero, suc, ◌+◌, ◌*◌, ◌-◌, ◌%◌, ◌<◌, ◌≤◌, max, ◌≡◌, List, [], ◌++◌, map, eqb, ltb, length, get_or, set, take, drop, replicate}
-use Rattle.std.proofs.Math.Option
-use Rattle.std.proofs.Math.Option.{Option, none, some}
+use Rattle.std.specs.Option.{option_map}
+use Rattle.std.specs.Prelude.{if◌then◌else◌, ℕ, zero, suc, ◌+◌, ◌*◌, ◌-◌, ◌%◌, ◌<◌, ◌≤◌, max, ◌≡◌, List, [], ◌++◌, map, eqb, ltb, length, get_or, set, take, drop, replicate, Option, None, Some}
 use Rattle.definitions.specs.Lists.{position, concat, range, to_list, ◌≟◌}
 use Rattle.definitions.specs.Model.{Line, token, line}
 use Rattle.definitions.specs.Family.{Family}
@@ -43,19 +42,19 @@ unfoldable pub hash : ℕ → List ℕ → ℕ
 hash m s = names.hash m s % 247
 
 abbrev pub hash_of : ℕ → Option Family → ℕ
-hash_of m none = 0
-hash_of m (some f) = hash m f.name
+hash_of m None = 0
+hash_of m (Some f) = hash m f.name
 
 unfoldable pub latest : ℕ → List (List ℕ) → ℕ → ℕ → ℕ
 latest m fs h zero = 0
 latest m fs h (suc k) = if eqb (hash m (get_or fs k [])) h then suc k else latest m fs h k
 
 unfoldable pub place : List (List ℕ) → List ℕ → ℕ
-place fs f = elim (position (λ g. g ≟ f) fs) [ none ↦ 0 | some k ↦ suc k ]
+place fs f = elim (position (λ g. g ≟ f) fs) [ None ↦ 0 | Some k ↦ suc k ]
 
 abbrev pub place_of : List (List ℕ) → Option Family → ℕ
-place_of fs none = 0
-place_of fs (some f) = place fs f.name
+place_of fs None = 0
+place_of fs (Some f) = place fs f.name
 
 abbrev pub multiplier : List ℕ → ℕ
 multiplier t = get_or t 247 0
@@ -65,18 +64,18 @@ pub record Linked (L : List Line) (count k : ℕ) (t : List ℕ) : Type 0 where
   pub heads : (h : ℕ) → h < 247 → get_or t h 0 ≡ latest (multiplier t) (defined_families L) h k
   pub rows : (i : ℕ) → i < 8 → get_or t (248 + i) 0 ≡ place (take count (defined_families L)) (row_name i)
   pub next : (j : ℕ) → j < k → get_or t (256 + 2 * j) 0 ≡ latest (multiplier t) (defined_families L) (hash (multiplier t) (get_or (defined_families L) j [])) j
-  pub first : (j : ℕ) → j < count → defines (line L (get_or t (257 + 2 * j) 0)) ≡ some (get_or (defined_families L) j [])
+  pub first : (j : ℕ) → j < count → defines (line L (get_or t (257 + 2 * j) 0)) ≡ Some (get_or (defined_families L) j [])
 
 abbrev pub Table : List Line → ℕ → List ℕ → Type 0
 Table L count t = Linked L count count t
 
 unfoldable pub defined_at : List Line → ℕ → Option (List ℕ)
-defined_at L zero = none
+defined_at L zero = None
 defined_at L (suc i) = defines (line L (suc i))
 
 abbrev pub place_defined : List (List ℕ) → Option (List ℕ) → ℕ
-place_defined fs none = 0
-place_defined fs (some f) = place fs f
+place_defined fs None = 0
+place_defined fs (Some f) = place fs f
 
 unfoldable pub families_before : List Line → ℕ → List (List ℕ)
 families_before L i = distinct (concat (map (λ j. to_list (defines (line L j))) (range 1 (i - 1))))
@@ -110,7 +109,7 @@ pub record Added (l : Line) (count i : ℕ) (r : Register) (t₀ t : List ℕ) :
 
 -- the name of the family that line l defines if its token 0 is the register r
 abbrev pub of_register : Line → Register → Option (List ℕ)
-of_register l r = Option.map (λ (f : Family). f.name) (family_of (token l 0).text r)
+of_register l r = option_map (λ (f : Family). f.name) (family_of (token l 0).text r)
 
 -- line i is next, `count` families being known before it
 pub record Ready (L : List Line) (i count : ℕ) (t : List ℕ) : Type 0 where

@@ -21,16 +21,15 @@ ghost use Rattle.definitions.specs.Lists.{is_some, ◌≟◌};
 ghost use Rattle.definitions.specs.Family.{family};
 ghost use Rattle.definitions.specs.Model.{token, line};
 ghost use Rattle.definitions.specs.Statements.{defines};
-ghost use Rattle.definitions.specs.Columns.{listing};
 ghost use Rattle.definitions.specs.Recover.{defined_families};
+ghost use Rattle.model.specs.Listings.{listing_of};
 ghost use Rattle.legacy.specs.Table.{row_name};
 ghost use Rattle.family.specs.Register.{family_of, names_family};
 ghost use Rattle.families.specs.Families.{hash, hash_of, place_of, multiplier, row_word, kept, linked, added, emptied, of_register, Table, Ready, Added, Placed, Numbered};
 
-use assignment::definition::Defined;
 use family::Register;
-use model::columns::text_at;
-use words::{greater, narrow, number, wide, word, zero};
+use model::listing::Listing;
+use words::{narrow, number, word};
 
 // The first multiplier.
 const FIRST: u16 = 4339;
@@ -75,19 +74,11 @@ pub fn is_some(r: Register) -> bool
 }
 
 // Line i's first token names the family that the answer r of the text s is.
-fn is_family(
-    lines: &[u32],
-    tokens: &[u32],
-    text: &[u8],
-    table: &[u16],
-    k: usize,
-    s: &[u8],
-    r: Register,
-) -> bool
+fn is_family(code: &Listing, table: &[u16], k: usize, s: &[u8], r: Register) -> bool
     requires { k < 1024 }
-    ensures { result ≡ names_family (family_of s.now r) (token (line (listing lines.now tokens.now text.now) (get_or table.now (257 + 2 * k) 0)) 0) }
+    ensures { result ≡ names_family (family_of s.now r) (token (line (listing_of code.now) (get_or table.now (257 + 2 * k) 0)) 0) }
 {
-    pseudo_opt::registers::token_names(lines, tokens, text, number(table, 257 + 2 * k), 0, s, r)
+    pseudo_opt::registers::token_names(code, number(table, 257 + 2 * k), 0, s, r)
 }
 
 // What the table has for row i, 0 where that is no row.
@@ -99,22 +90,20 @@ fn row_word(table: &[u16], i: usize) -> usize
 
 // The same as `search`, by the chain of the hash h.
 fn search_chain(
-    lines: &[u32],
-    tokens: &[u32],
-    text: &[u8],
+    code: &Listing,
     table: &[u16],
     count: usize,
     h: usize,
     s: &[u8],
     r: Register,
 ) -> usize
-    requires table { Table (listing lines.now tokens.now text.now) count table.now × (count ≤ 1024) }
+    requires table { Table (listing_of code.now) count table.now × (count ≤ 1024) }
     requires h_value { (h ≡ hash_of (multiplier table.now) (family_of s.now r)) × (h < 247) }
-    ensures { result ≡ place_of (take count (defined_families (listing lines.now tokens.now text.now))) (family_of s.now r) }
+    ensures { result ≡ place_of (take count (defined_families (listing_of code.now))) (family_of s.now r) }
 {
     let mut c = number(table, h);
     while 0 < c {
-        if is_family(lines, tokens, text, table, c - 1, s, r) {
+        if is_family(code, table, c - 1, s, r) {
             return c;
         }
         c = number(table, 256 + 2 * (c - 1));
@@ -123,53 +112,37 @@ fn search_chain(
 }
 
 // The first definition of family k writes its register as s.
-fn has_text(lines: &[u32], tokens: &[u32], text: &[u8], table: &[u16], k: usize, s: &[u8]) -> bool
+fn has_text(code: &Listing, table: &[u16], k: usize, s: &[u8]) -> bool
     requires { k < 1024 }
-    ensures { result ≡ ((token (line (listing lines.now tokens.now text.now) (get_or table.now (257 + 2 * k) 0)) 0).text ≟ s.now) }
+    ensures { result ≡ ((token (line (listing_of code.now) (get_or table.now (257 + 2 * k) 0)) 0).text ≟ s.now) }
 {
     let i = number(table, 257 + 2 * k);
-    text::equal(text_at(lines, tokens, text, i, 0), s)
+    text::equal(code.text_at(i, 0), s)
 }
 
 // The same as `search`, by the hash. A text that is written as where its family is first defined is looked up no second time.
-fn search_text(
-    lines: &[u32],
-    tokens: &[u32],
-    text: &[u8],
-    table: &[u16],
-    count: usize,
-    s: &[u8],
-    r: Register,
-) -> usize
-    requires { Table (listing lines.now tokens.now text.now) count table.now × (count ≤ 1024) × (family_of s.now r ≡ family s.now) }
-    ensures { result ≡ place_of (take count (defined_families (listing lines.now tokens.now text.now))) (family_of s.now r) }
+fn search_text(code: &Listing, table: &[u16], count: usize, s: &[u8], r: Register) -> usize
+    requires { Table (listing_of code.now) count table.now × (count ≤ 1024) × (family_of s.now r ≡ family s.now) }
+    ensures { result ≡ place_of (take count (defined_families (listing_of code.now))) (family_of s.now r) }
 {
     let h = hash_of(table, s, r);
     let last = number(table, h);
     if 0 < last {
-        if has_text(lines, tokens, text, table, last - 1, s) {
+        if has_text(code, table, last - 1, s) {
             return last;
         }
     }
-    search_chain(lines, tokens, text, table, count, h, s, r)
+    search_chain(code, table, count, h, s, r)
 }
 
 // 1 + the place among the first `count` families of the one that the answer r of the register s is, 0 where it is none of them. For a legacy
 // name that is the word of its row.
-pub fn search(
-    lines: &[u32],
-    tokens: &[u32],
-    text: &[u8],
-    table: &[u16],
-    count: usize,
-    s: &[u8],
-    r: Register,
-) -> usize
-    requires { Table (listing lines.now tokens.now text.now) count table.now × (count ≤ 1024) × (family_of s.now r ≡ family s.now) }
-    ensures { result ≡ place_of (take count (defined_families (listing lines.now tokens.now text.now))) (family_of s.now r) }
+pub fn search(code: &Listing, table: &[u16], count: usize, s: &[u8], r: Register) -> usize
+    requires { Table (listing_of code.now) count table.now × (count ≤ 1024) × (family_of s.now r ≡ family s.now) }
+    ensures { result ≡ place_of (take count (defined_families (listing_of code.now))) (family_of s.now r) }
 {
     let Register::Legacy(i, _) = r else {
-        return search_text(lines, tokens, text, table, count, s, r);
+        return search_text(code, table, count, s, r);
     };
     row_word(table, i)
 }
@@ -207,55 +180,36 @@ fn keep_row(table: &mut [u16], i: usize, c: usize)
 }
 
 // The same as `search`, of token 0 of line i, whose answer is r: the text of a legacy name is not read.
-fn search_line(
-    lines: &[u32],
-    tokens: &[u32],
-    text: &[u8],
-    table: &[u16],
-    i: usize,
-    count: usize,
-    r: Register,
-) -> usize
-    requires { Ready (listing lines.now tokens.now text.now) i count table.now }
-    ensures { let L = listing lines.now tokens.now text.now in result ≡ place_of (take count (defined_families L)) (family_of (token (line L i) 0).text r) }
+fn search_line(code: &Listing, table: &[u16], i: usize, count: usize, r: Register) -> usize
+    requires { Ready (listing_of code.now) i count table.now }
+    ensures { let L = listing_of code.now in result ≡ place_of (take count (defined_families L)) (family_of (token (line L i) 0).text r) }
 {
     let Register::Legacy(row, _) = r else {
-        let s = text_at(lines, tokens, text, i, 0);
+        let s = code.text_at(i, 0);
         let h = hash_of(table, s, r);
-        return search_chain(lines, tokens, text, table, count, h, s, r);
+        return search_chain(code, table, count, h, s, r);
     };
     row_word(table, row)
 }
 
 // The family of token 0 of line i, whose answer is r, put into the table. Its row is that of its name, whatever the kind of the answer.
-fn add_line(
-    lines: &[u32],
-    tokens: &[u32],
-    text: &[u8],
-    table: &mut [u16],
-    i: usize,
-    count: usize,
-    r: Register,
-)
-    requires { Ready (listing lines.now tokens.now text.now) i count table.old }
-    ensures { Added (line (listing lines.now tokens.now text.now) i) count i r table.old table.new }
+fn add_line(code: &Listing, table: &mut [u16], i: usize, count: usize, r: Register)
+    requires { Ready (listing_of code.now) i count table.old }
+    ensures { Added (line (listing_of code.now) i) count i r table.old table.new }
 {
-    let s = text_at(lines, tokens, text, i, 0);
+    let s = code.text_at(i, 0);
     let h = hash_of(table, s, r);
     keep_row(table, family::row_of(s, r), count + 1);
     add(table, count, i, h);
 }
 
 // The chain has more than 16 families from family c - 1 on. No contract depends on the answer.
-fn is_long(table: &[u16], c: u16) -> bool {
-    let mut c = c;
-    let mut n: usize = 0;
-    while n < 16 {
+fn is_long(table: &[u16], mut c: u16) -> bool {
+    'links: for _ in 0..16 {
         if c == 0 {
             return false;
         }
-        c = word(table, 254 + 2 * wide(c));
-        n += 1;
+        c = word(table, 254 + 2 * usize::from(c));
     }
     c != 0
 }
@@ -265,63 +219,53 @@ fn empty(table: &mut [u16], m: u16)
     requires { 248 ≤ length table.old }
     ensures { table.new ≡ emptied table.old m }
 {
-    zero(&mut table[..247]);
+    text::zero(&mut table[..247], 0);
     table[247] = m;
 }
 
 // The hash of family k, by its first definition.
-fn family_hash(lines: &[u32], tokens: &[u32], text: &[u8], table: &[u16], k: usize) -> usize
+fn family_hash(code: &Listing, table: &[u16], k: usize) -> usize
     requires { k < 1024 }
-    ensures { let L = listing lines.now tokens.now text.now in let t = table.now in (result ≡ hash_of (multiplier t) (family (token (line L (get_or t (257 + 2 * k) 0)) 0).text)) × (result < 247) }
+    ensures { let L = listing_of code.now in let t = table.now in (result ≡ hash_of (multiplier t) (family (token (line L (get_or t (257 + 2 * k) 0)) 0).text)) × (result < 247) }
 {
-    let s = text_at(lines, tokens, text, number(table, 257 + 2 * k), 0);
+    let s = code.text_at(number(table, 257 + 2 * k), 0);
     let r = family::family(s);
     hash_of(table, s, r)
 }
 
 // The chains by the multiplier m.
-fn rehash(lines: &[u32], tokens: &[u32], text: &[u8], table: &mut [u16], count: usize, m: u16)
-    requires { Table (listing lines.now tokens.now text.now) count table.old × (count ≤ 1024) × (256 + 2 * count ≤ length table.old) }
-    ensures { Table (listing lines.now tokens.now text.now) count table.new }
+fn rehash(code: &Listing, table: &mut [u16], count: usize, m: u16)
+    requires { Table (listing_of code.now) count table.old × (count ≤ 1024) × (256 + 2 * count ≤ length table.old) }
+    ensures { Table (listing_of code.now) count table.new }
 {
     empty(table, m);
-    let mut k = 0;
-    while k < count {
-        let h = family_hash(lines, tokens, text, table, k);
+    for k in 0..count {
+        let h = family_hash(code, table, k);
         link(table, k, h);
-        k += 1;
     }
 }
 
 // Where the last family is in a long chain, the table goes on with another multiplier.
-fn shorten(lines: &[u32], tokens: &[u32], text: &[u8], table: &mut [u16], count: usize)
-    requires { Table (listing lines.now tokens.now text.now) count table.old × (count ≤ 1024) × (256 + 2 * count ≤ length table.old) }
-    ensures { Table (listing lines.now tokens.now text.now) count table.new }
+fn shorten(code: &Listing, table: &mut [u16], count: usize)
+    requires { Table (listing_of code.now) count table.old × (count ≤ 1024) × (256 + 2 * count ≤ length table.old) }
+    ensures { Table (listing_of code.now) count table.new }
 {
     if is_long(table, narrow(count)) {
-        let m = names::next(word(table, 247), text);
-        rehash(lines, tokens, text, table, count, m);
+        let m = names::next(word(table, 247), code.text);
+        rehash(code, table, count, m);
     }
 }
 
 // 1 + the number of the family that line i defines by the register r; a family that is not in the table yet is added.
-fn place_register(
-    lines: &[u32],
-    tokens: &[u32],
-    text: &[u8],
-    table: &mut [u16],
-    i: usize,
-    count: usize,
-    r: Register,
-) -> usize
-    requires ready { Ready (listing lines.now tokens.now text.now) i count table.old }
-    requires r_value { let L = listing lines.now tokens.now text.now in of_register (line L i) r ≡ defines (line L i) }
-    ensures { Placed (listing lines.now tokens.now text.now) i count result table.new }
+fn place_register(code: &Listing, table: &mut [u16], i: usize, count: usize, r: Register) -> usize
+    requires ready { Ready (listing_of code.now) i count table.old }
+    requires r_value { let L = listing_of code.now in of_register (line L i) r ≡ defines (line L i) }
+    ensures { Placed (listing_of code.now) i count result table.new }
 {
     if is_some(r) {
-        let c = search_line(lines, tokens, text, table, i, count, r);
+        let c = search_line(code, table, i, count, r);
         if c == 0 {
-            add_line(lines, tokens, text, table, i, count, r);
+            add_line(code, table, i, count, r);
             return count + 1;
         }
         return c;
@@ -330,66 +274,43 @@ fn place_register(
 }
 
 // 1 + the number of the family that line i defines, 0 where it defines none; where that is a new one, its chain is kept short.
-fn place_line(
-    lines: &[u32],
-    tokens: &[u32],
-    text: &[u8],
-    table: &mut [u16],
-    i: usize,
-    count: usize,
-) -> usize
-    requires { Ready (listing lines.now tokens.now text.now) i count table.old }
-    ensures { Placed (listing lines.now tokens.now text.now) i count result table.new }
+fn place_line(code: &Listing, table: &mut [u16], i: usize, count: usize) -> usize
+    requires { Ready (listing_of code.now) i count table.old }
+    ensures { Placed (listing_of code.now) i count result table.new }
 {
-    let Defined::Family(r) = assignment::definition::defines(lines, tokens, text, i) else {
+    let Some(r) = assignment::definition::defines(code, i) else {
         return 0;
     };
-    let c = place_register(lines, tokens, text, table, i, count, r);
+    let c = place_register(code, table, i, count, r);
     if count < c {
-        shorten(lines, tokens, text, table, c);
+        shorten(code, table, c);
         return c;
     }
     c
 }
 
 // Line i is done; answers how many families there are now.
-fn number_line(
-    lines: &[u32],
-    tokens: &[u32],
-    text: &[u8],
-    table: &mut [u16],
-    defs: &mut [u16],
-    i: usize,
-    count: usize,
-) -> usize
-    requires { Numbered (listing lines.now tokens.now text.now) i count table.old defs.old × (i < length lines.now) }
-    ensures { Numbered (listing lines.now tokens.now text.now) (i + 1) result table.new defs.new }
+fn number_line(code: &Listing, table: &mut [u16], defs: &mut [u16], i: usize, count: usize) -> usize
+    requires { Numbered (listing_of code.now) i count table.old defs.old × (i < length code.now.lines.now) }
+    ensures { Numbered (listing_of code.now) (i + 1) result table.new defs.new }
 {
-    let c = place_line(lines, tokens, text, table, i, count);
+    let c = place_line(code, table, i, count);
     let v = narrow(c);
     defs[i] = v;
-    greater(count, c)
+    count.max(c)
 }
 
 // Numbers the families of all lines; answers how many there are.
-pub fn families(
-    lines: &[u32],
-    tokens: &[u32],
-    text: &[u8],
-    table: &mut [u16],
-    defs: &mut [u16],
-) -> usize
-    requires { (0 < length lines.now) × (length lines.now ≤ 1024) × (256 + 2 * length lines.now ≤ length table.old) × (length lines.now ≤ length defs.old) }
-    ensures { Numbered (listing lines.now tokens.now text.now) (length lines.now) result table.new defs.new }
+pub fn families(code: &Listing, table: &mut [u16], defs: &mut [u16]) -> usize
+    requires { (0 < length code.now.lines.now) × (length code.now.lines.now ≤ 1024) × (256 + 2 * length code.now.lines.now ≤ length table.old) × (length code.now.lines.now ≤ length defs.old) }
+    ensures { Numbered (listing_of code.now) (length code.now.lines.now) result table.new defs.new }
 {
-    zero(&mut table[..256]);
+    text::zero(&mut table[..256], 0);
     table[247] = FIRST;
     defs[0] = 0;
     let mut count = 0;
-    let mut i = 1;
-    while i < lines.len() {
-        count = number_line(lines, tokens, text, table, defs, i, count);
-        i += 1;
+    for i in 1..code.lines.len() {
+        count = number_line(code, table, defs, i, count);
     }
     count
 }

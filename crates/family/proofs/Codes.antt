@@ -5,10 +5,10 @@
 --   code_length                                                      the name of a numbered register is as long as its width says
 --   numbered_coded, legacy_coded                                     the family that a number says
 -- Assumes nothing.
+use Rattle.std.specs.Prelude.{Option, None, Some}
 use mathlib.Core.Path.{◌≡◌, refl, sym, ap, ◌∙◌}
 use mathlib.Core.Bool.{Bool, true, false, ◌||◌, cond}
 use mathlib.Core.List.{List, []}
-use mathlib.Core.Option.{Option, none, some}
 use Prim.Native.Nat.{ℕ, ◌+◌, ◌*◌, ◌-◌, ◌/◌, ◌%◌, ◌≤◌, ◌<◌}
 use native.Mathlib.Omega.{arith}
 use borrow.Author.Tests.{ne_eqb}
@@ -71,11 +71,11 @@ suffix_length : (x : List ℕ) (w : ℕ) → above_zero w ≡ suffix_width x →
 unfolding suffix_width
 suffix_length x w q f = go (x ≟ []) refl (x ≟ ascii "d") refl (x ≟ ascii "w") refl (x ≟ ascii "b") refl (x ≟ ascii "l") refl (rw (ne_eqb w 0 f) at q)
   where
-    is : (v : ℕ) → some w ≡ some v → w ≡ v
+    is : (v : ℕ) → Some w ≡ Some v → w ≡ v
     is v e = cc
 
     go : (a : Bool) → (x ≟ []) ≡ a → (b : Bool) → (x ≟ ascii "d") ≡ b → (c : Bool) → (x ≟ ascii "w") ≡ c → (d : Bool) → (x ≟ ascii "b") ≡ d → (e : Bool) → (x ≟ ascii "l") ≡ e
-        → some w ≡ cond a (some 64) (cond b (some 32) (cond c (some 16) (cond (d || e) (some 8) none))) → length x ≡ cond (eqb w 64) 0 1
+        → Some w ≡ cond a (Some 64) (cond b (Some 32) (cond c (Some 16) (cond (d || e) (Some 8) None))) → length x ≡ cond (eqb w 64) 0 1
     go true p b _ c _ d _ e _ z = rw (is 64 z) (ap length (≟_eq x [] p))
     go false _ true p c _ d _ e _ z = rw (is 32 z) (ap length (≟_eq x (ascii "d") p))
     go false _ false _ true p d _ e _ z = rw (is 16 z) (ap length (≟_eq x (ascii "w") p))

@@ -4,10 +4,10 @@
 --   numbered_some, numbered_none    the family, by the width that the suffix says
 --   other_numbered, other_var, other_none    a name that is not in the table
 -- Assumes nothing.
+use Rattle.std.specs.Prelude.{None, Some}
 use mathlib.Core.Path.{◌≡◌, refl, sym, ap, ◌∙◌}
 use mathlib.Core.Bool.{Bool, true, false, ◌&&◌, not, cond, and-false}
 use mathlib.Core.List.{List, [], ◌∷◌, ◌++◌}
-use mathlib.Core.Option.{none, some}
 use Prim.Native.Nat.{ℕ, suc, ◌+◌, ◌≤◌, ◌<◌}
 use native.Mathlib.Nat.{sub-zero}
 use native.Mathlib.Numerals.{one-add}
@@ -129,7 +129,7 @@ module _ (s : List ℕ) (n : ℕ) (e : n ≡ number_end s) where
       unfolding digit_count
       numbered_some f = rw (suffix, ne_eqb w 0 f, ends, numbered_part s starts)
 
-      pub numbered_none : w ≡ 0 → none ≡ numbered_family s
+      pub numbered_none : w ≡ 0 → None ≡ numbered_family s
       unfolding digit_count
       numbered_none f = rw (suffix, f)
 
@@ -140,10 +140,10 @@ module _ (s : List ℕ) (n : ℕ) (e : n ≡ number_end s) where
   no_flag h = sym is_numbered_by ∙ le-ltb 1 n h
 
 module _ (s : List ℕ) (f : is_numbered s ≡ false) (v : Bool) (p : v ≡ starts_with (ascii "var_") s) where
-  pub other_var : v ≡ true → some (record { name = s; width = 64 }) ≡ rest_family s
+  pub other_var : v ≡ true → Some (record { name = s; width = 64 }) ≡ rest_family s
   other_var g = rw (f, ← p, g)
 
-  pub other_none : v ≡ false → none ≡ rest_family s
+  pub other_none : v ≡ false → None ≡ rest_family s
   other_none g = rw (f, ← p, g)
 
 pub ruleset digit_rules = (digits_low, digits_high, digits_next, digits_end, numbered_some, numbered_none, no_flag, other_var, other_none)

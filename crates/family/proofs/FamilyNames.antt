@@ -9,10 +9,10 @@
 --   names_same                             a token names a family
 --   var_text, var_not, wide_table, wide_behind, wide_numbered   tests on one family
 -- Assumes nothing.
+use Rattle.std.specs.Prelude.{Option, None, Some}
 use mathlib.Core.Path.{◌≡◌, refl, sym, ap, ◌∙◌}
 use mathlib.Core.Bool.{Bool, true, false, not, cond}
 use mathlib.Core.List.{List}
-use mathlib.Core.Option.{Option, none, some}
 use Prim.Native.Nat.{ℕ, ◌+◌, ◌≤◌, ◌<◌}
 use native.Mathlib.Decide.{dec_lt}
 use native.Mathlib.Omega.{arith}
@@ -54,33 +54,33 @@ module _ (r : Register) (n w : ℕ) (e : r ≡ Numbered n w) (s : List ℕ) wher
 -- The name, by its row
 
 abbrev name_of : Option Family → Option (List ℕ)
-name_of none = none
-name_of (some f) = some f.name
+name_of None = None
+name_of (Some f) = Some f.name
 
 row_limit : (i : ℕ) (b : Bool) → ltb i 8 ≡ b → (cond b i 9 ≡ 8 → ⊥)
 row_limit i true e q = omega (arith, ltb-true i 8 e)
 row_limit i false e q = omega arith
 
-in_table : (s : List ℕ) (r : Register) → row r < 8 → name_of (family_of s r) ≡ some (row_name (row r))
+in_table : (s : List ℕ) (r : Register) → row r < 8 → name_of (family_of s r) ≡ Some (row_name (row r))
 in_table s (Legacy i w) h = go (ltb i 8) h
   where
-    go : (b : Bool) → cond b i 9 < 8 → name_of (cond b (some (record { name = row_name i; width = w })) none) ≡ some (row_name (cond b i 9))
+    go : (b : Bool) → cond b i 9 < 8 → name_of (cond b (Some (record { name = row_name i; width = w })) None) ≡ Some (row_name (cond b i 9))
     go true g = refl
     go false g = absurd (omega arith)
 in_table s (Numbered n w) h = absurd (omega arith)
 in_table s Var h = absurd (omega arith)
 in_table s Nothing h = absurd (omega arith)
 
-in_text : (s : List ℕ) (r : Register) → row r ≡ 8 → name_of (family_of s r) ≡ some (own_name s r)
+in_text : (s : List ℕ) (r : Register) → row r ≡ 8 → name_of (family_of s r) ≡ Some (own_name s r)
 in_text s (Legacy i w) h = absurd (row_limit i (ltb i 8) refl h)
 in_text s (Numbered n w) h = refl
 in_text s Var h = refl
 in_text s Nothing h = absurd (omega arith)
 
-nowhere : (s : List ℕ) (r : Register) → 8 < row r → family_of s r ≡ none
+nowhere : (s : List ℕ) (r : Register) → 8 < row r → family_of s r ≡ None
 nowhere s (Legacy i w) h = go (ltb i 8) refl h
   where
-    go : (b : Bool) → ltb i 8 ≡ b → 8 < cond b i 9 → ◌≡◌ {A = Option Family} (cond b (some (record { name = row_name i; width = w })) none) none
+    go : (b : Bool) → ltb i 8 ≡ b → 8 < cond b i 9 → ◌≡◌ {A = Option Family} (cond b (Some (record { name = row_name i; width = w })) None) None
     go true e g = absurd (omega (arith, ltb-true i 8 e))
     go false e g = refl
 nowhere s (Numbered n w) h = absurd (omega arith)
@@ -88,13 +88,13 @@ nowhere s Var h = absurd (omega arith)
 nowhere s Nothing h = refl
 
 module _ (s : List ℕ) (r : Register) (k : ℕ) (e : k ≡ row r) where
-  at_row : k < 8 → name_of (family_of s r) ≡ some (row_name k)
+  at_row : k < 8 → name_of (family_of s r) ≡ Some (row_name k)
   at_row h = rw e (in_table s r (rw e at h))
 
-  at_text : (x : List ℕ) → k ≡ 8 → x ≡ own_name s r → name_of (family_of s r) ≡ some x
+  at_text : (x : List ℕ) → k ≡ 8 → x ≡ own_name s r → name_of (family_of s r) ≡ Some x
   at_text x h q = rw q (in_text s r (sym e ∙ h))
 
-  at_none : 8 ≤ k → (k ≡ 8 → ⊥) → family_of s r ≡ none
+  at_none : 8 ≤ k → (k ≡ 8 → ⊥) → family_of s r ≡ None
   at_none h g = nowhere s r (omega arith)
 
 -- `fam_of`
@@ -104,11 +104,11 @@ module _ (s : List ℕ) (kind : ℕ) where
   unfolding fam_of
   register_token r h g = rw (eq-eqb kind 1 h) g
 
-  pub kind_token : (k : ℕ) → kind ≡ k → eqb k 1 ≡ false → none ≡ fam_of (tok s kind)
+  pub kind_token : (k : ℕ) → kind ≡ k → eqb k 1 ≡ false → None ≡ fam_of (tok s kind)
   unfolding fam_of
   kind_token k h g = rw (h, g)
 
-  pub other_token : (kind ≡ 1 → ⊥) → none ≡ fam_of (tok s kind)
+  pub other_token : (kind ≡ 1 → ⊥) → None ≡ fam_of (tok s kind)
   unfolding fam_of
   other_token h = rw (ne_eqb kind 1 h)
 
@@ -138,22 +138,22 @@ module _ (i : ℕ) (h : i < 8) where
 -- Two families
 
 equal_names : Option (List ℕ) → Option (List ℕ) → Bool
-equal_names none q = false
-equal_names (some x) none = false
-equal_names (some x) (some y) = x ≟ y
+equal_names None q = false
+equal_names (Some x) None = false
+equal_names (Some x) (Some y) = x ≟ y
 
 same_by : (o p : Option Family) → same_name o p ≡ equal_names (name_of o) (name_of p)
 unfolding equal_names
-same_by none p = refl
-same_by (some f) none = refl
-same_by (some f) (some g) = refl
+same_by None p = refl
+same_by (Some f) None = refl
+same_by (Some f) (Some g) = refl
 
-none_right : (o : Option Family) → same_name o none ≡ false
-none_right none = refl
-none_right (some f) = refl
+none_right : (o : Option Family) → same_name o None ≡ false
+none_right None = refl
+none_right (Some f) = refl
 
 module _ (a b : List ℕ) (ra rb : Register) (i j : ℕ) (p : i ≡ row ra) (q : j ≡ row rb) where
-  same_named : (x y : List ℕ) → name_of (family_of a ra) ≡ some x → name_of (family_of b rb) ≡ some y → same_name (family_of a ra) (family_of b rb) ≡ (x ≟ y)
+  same_named : (x y : List ℕ) → name_of (family_of a ra) ≡ Some x → name_of (family_of b rb) ≡ Some y → same_name (family_of a ra) (family_of b rb) ≡ (x ≟ y)
   unfolding equal_names
   same_named x y e f = same_by (family_of a ra) (family_of b rb) ∙ rw (e, f)
 
@@ -179,16 +179,16 @@ module _ (a b : List ℕ) (ra rb : Register) (k : ℕ) where
 
 -- A token names a family
 
-same_names : (o p : Option Family) → same_name o p ≡ elim p [ none ↦ false | some f ↦ elim o [ none ↦ false | some x ↦ x.name ≟ f.name ] ]
-same_names none none = refl
-same_names none (some f) = refl
-same_names (some x) none = refl
-same_names (some x) (some f) = refl
+same_names : (o p : Option Family) → same_name o p ≡ elim p [ None ↦ false | Some f ↦ elim o [ None ↦ false | Some x ↦ x.name ≟ f.name ] ]
+same_names None None = refl
+same_names None (Some f) = refl
+same_names (Some x) None = refl
+same_names (Some x) (Some f) = refl
 
 names_by : (o : Option Family) (t : Token) → same_name (fam_of t) o ≡ names_family o t
 unfolding names
-names_by none t = none_right (fam_of t)
-names_by (some f) t = same_names (fam_of t) (some f)
+names_by None t = none_right (fam_of t)
+names_by (Some f) t = same_names (fam_of t) (Some f)
 
 pub names_same : (s : List ℕ) (kind : ℕ) (q : Register) (o : Option Family) (y : Bool)
     → family_of s q ≡ fam_of (tok s kind) → y ≡ same_name (family_of s q) o → y ≡ names_family o (tok s kind)
@@ -196,9 +196,9 @@ names_same s kind q o y e f = f ∙ rw e (names_by o (tok s kind))
 
 -- Tests on one family
 
-named_by : (p : List ℕ → Bool) (o : Option Family) (x : List ℕ) → name_of o ≡ some x → named p o ≡ p x
-named_by p none x q = cc
-named_by p (some f) x q = let e : f.name ≡ x = cc in ap p e
+named_by : (p : List ℕ → Bool) (o : Option Family) (x : List ℕ) → name_of o ≡ Some x → named p o ≡ p x
+named_by p None x q = cc
+named_by p (Some f) x q = let e : f.name ≡ x = cc in ap p e
 
 -- `row_named`
 

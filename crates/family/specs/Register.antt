@@ -13,8 +13,7 @@
 --   named p o            o is a family, and p holds of its name
 --   is_var_family o, is_wide o    o is a `var_`; a family, of width 32 or more
 -- Assumes nothing.
-use Rattle.std.specs.Prelude.{if◌then◌else◌, ℕ, ◌+◌, ◌-◌, ◌/◌, ◌%◌, Bool, false, List, [], eqb, leb, ltb, length, drop}
-use Rattle.std.proofs.Math.Option.{Option, none, some}
+use Rattle.std.specs.Prelude.{if◌then◌else◌, ℕ, ◌+◌, ◌-◌, ◌/◌, ◌%◌, Bool, false, List, [], eqb, leb, ltb, length, drop, Option, None, Some}
 use Rattle.definitions.specs.Lists.{part, ◌≟◌, starts_with, ascii}
 use Rattle.definitions.specs.Model.{Token}
 use Rattle.definitions.specs.Family.{Family, digits, is_numbered, numbered_family, names}
@@ -30,19 +29,19 @@ abbrev pub number_end : List ℕ → ℕ
 number_end s = if starts_with (ascii "r") s then 1 + digit_count (drop 1 s) else 0
 
 abbrev pub above_zero : ℕ → Option ℕ
-above_zero w = if eqb w 0 then none else some w
+above_zero w = if eqb w 0 then None else Some w
 
 abbrev pub family_of : List ℕ → Register → Option Family
-family_of s (Legacy i w) = if ltb i 8 then some (record { name = row_name i; width = w }) else none
-family_of s (Numbered n w) = some (record { name = part 0 n s; width = w })
-family_of s Var = some (record { name = s; width = 64 })
-family_of s Nothing = none
+family_of s (Legacy i w) = if ltb i 8 then Some (record { name = row_name i; width = w }) else None
+family_of s (Numbered n w) = Some (record { name = part 0 n s; width = w })
+family_of s Var = Some (record { name = s; width = 64 })
+family_of s Nothing = None
 
 abbrev pub rest_family : List ℕ → Option Family
 rest_family s =
     if is_numbered s then numbered_family s
-    else if starts_with (ascii "var_") s then some (record { name = s; width = 64 })
-    else none
+    else if starts_with (ascii "var_") s then Some (record { name = s; width = 64 })
+    else None
 
 abbrev pub number_length : ℕ → ℕ → ℕ
 number_length n w = if eqb w 64 then n else n - 1
@@ -67,21 +66,21 @@ own_name s Var = s
 own_name s Nothing = []
 
 abbrev pub same_name : Option Family → Option Family → Bool
-same_name none p = false
-same_name (some f) none = false
-same_name (some f) (some g) = f.name ≟ g.name
+same_name None p = false
+same_name (Some f) None = false
+same_name (Some f) (Some g) = f.name ≟ g.name
 
 abbrev pub names_family : Option Family → Token → Bool
-names_family none t = false
-names_family (some f) t = names f.name t
+names_family None t = false
+names_family (Some f) t = names f.name t
 
 abbrev pub named : (List ℕ → Bool) → Option Family → Bool
-named p none = false
-named p (some f) = p f.name
+named p None = false
+named p (Some f) = p f.name
 
 abbrev pub is_var_family : Option Family → Bool
 is_var_family o = named is_var o
 
 abbrev pub is_wide : Option Family → Bool
-is_wide none = false
-is_wide (some f) = leb 32 f.width
+is_wide None = false
+is_wide (Some f) = leb 32 f.width

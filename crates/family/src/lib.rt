@@ -109,15 +109,14 @@ fn named(s: &[u8]) -> usize
     requires { is_numbered s.now ≡ false }
     ensures { family_of s.now (decoded (length s.now) result) ≡ family s.now }
 {
-    let p = place(s);
+    let Some(p) = place(s) else {
+        return other(s);
+    };
     if p < 32 {
         let w = wide_byte(WIDTHS[p % 4]);
         return 2 + 4 * w + 1024 * (p / 4);
     }
-    if p < 36 {
-        return 2 + 4 * 8 + 1024 * (p - 32);
-    }
-    other(s)
+    2 + 4 * 8 + 1024 * (p - 32)
 }
 
 // The family and the width of the register named s, as a number. No name of the table has a digit behind an `r`, so digits are looked for
@@ -237,12 +236,10 @@ pub fn names(kind: usize, s: &[u8], a: &[u8], r: Register) -> bool
 fn row_named(name: &[u8]) -> usize
     ensures { (i : ℕ) → i < 8 → (name.now ≟ row_name i) ≡ eqb result i }
 {
-    let mut i = 0;
-    while i < 8 {
+    for i in 0..8 {
         if is_row(i, name) {
             return i;
         }
-        i += 1;
     }
     8
 }
@@ -266,10 +263,7 @@ pub fn is_var(s: &[u8], r: Register) -> bool
     ensures { result ≡ is_var_family (family_of s.now r) }
 {
     let i = row(r);
-    if i == 8 {
-        return text::starts_with(own_name(s, r), b"var_");
-    }
-    false
+    i == 8 && text::starts_with(own_name(s, r), b"var_")
 }
 
 // The register is 32 bits wide or more.
@@ -277,7 +271,7 @@ pub fn is_wide(s: &[u8], r: Register) -> bool
     ensures { result ≡ is_wide (family_of s.now r) }
 {
     match r {
-        Register::Legacy(i, w) => if i < 8 { 32 <= w } else { false },
+        Register::Legacy(i, w) => i < 8 && 32 <= w,
         Register::Numbered(_, w) => 32 <= w,
         Register::Var => true,
         Register::Nothing => false,

@@ -3,15 +3,13 @@
 --   lines_start, lines_next, lines_fail, lines_end    whether the gotos of all lines lead to labels: line by line
 --   graph_drawn                      the matrices have the flow graph
 --   graph_predecessors               and stand for its predecessor lists
---   refused_brace, refused_label, not_refused    the answers
---   some_none                        a refusal is an answer
 --   webs_refusal_flow                questions 8 and 9 within `webs_refusal`
 -- Assumes nothing.
+use Rattle.std.specs.Prelude.{Option, None, Some}
 use Prim.Native.Nat.{ℕ, ◌+◌, ◌<◌, ◌≤◌}
 use mathlib.Core.Path.{◌≡◌, refl, sym, ap, ap₂, ◌∙◌}
 use mathlib.Core.Bool.{Bool, true, false, cond, ◌&&◌, ◌||◌, or-true, or-false, and-true, and-or_distrib_right}
 use mathlib.Core.List.{List, [], ◌∷◌, ◌++◌, map}
-use mathlib.Core.Option.{Option, none, some}
 use native.Mathlib.Nat.{zero-add}
 use native.Mathlib.Decide.{ℕ_discrete, dec_le}
 use native.Mathlib.Omega.{arith}
@@ -133,9 +131,9 @@ module _ (L : List Line) (n r : ℕ) (l₀ l₁ l₂ : List ℕ) (en : length L 
     kept = λ v h. D.kept v h ∙ N.kept v h;
   }
     where
-      flow : (o : Option Blocks) → blocks L ≡ o → true ≡ is_some o → flow_graph L ≡ some (map (successors L (blocks_of L)) (up_to (length L)))
-      flow none e h = let y : ◌≡◌ {A = ℕ} 0 1 = cc in absurd (omega arith)
-      flow (some b) e h = rw (e, ← x, y)
+      flow : (o : Option Blocks) → blocks L ≡ o → true ≡ is_some o → flow_graph L ≡ Some (map (successors L (blocks_of L)) (up_to (length L)))
+      flow None e h = let y : ◌≡◌ {A = ℕ} 0 1 = cc in absurd (omega arith)
+      flow (Some b) e h = rw (e, ← x, y)
 
 -- the predecessor lists that the sweeps are over
 
@@ -163,23 +161,6 @@ graph_predecessors L n r l₀ l G e =
 
 -- The answers
 
-module _ (L : List Line) (t : Bool) (u : t ≡ is_some (blocks L)) where
-  pub refused_brace : t ≡ false → some 8 ≡ flow_refusal L
-  unfolding flow_refusal
-  refused_brace v = rw (← u, v)
-
-  module _ (v : t ≡ true) (k : Bool) (x : k ≡ gotos_lead L) where
-    pub refused_label : k ≡ false → some 9 ≡ flow_refusal L
-    unfolding flow_refusal
-    refused_label y = rw (← u, v, ← x, y)
-
-    pub not_refused : k ≡ true → none ≡ flow_refusal L
-    unfolding flow_refusal
-    not_refused y = rw (← u, v, ← x, y)
-
 pub webs_refusal_flow : (L : List Line) → 2 ≤ length L → webs_refusal L ≡ flow_refusal L
 unfolding webs_refusal flow_refusal
 webs_refusal_flow L h = rw (le-leb 2 (length L) h)
-
-pub some_none : {A : Type 0} (k : ℕ) → some k ≡ none → A
-some_none k e = let z : ◌≡◌ {A = ℕ} 0 1 = cc in absurd (omega arith)

@@ -6,11 +6,11 @@
 --   head_test_same   its condition
 --   head_filled      no token of which is empty
 -- Assumes nothing.
+use Rattle.std.specs.Prelude.{Option, None, Some}
 use Prim.Native.Nat.{ℕ, ◌/◌, ◌%◌, ◌≤◌}
 use mathlib.Core.Path.{◌≡◌, refl, ap, subst, ◌∙◌}
 use mathlib.Core.Bool.{Bool, true, false, cond}
 use mathlib.Core.List.{List, [], ◌∷◌}
-use mathlib.Core.Option.{Option, none, some}
 use native.Mathlib.Decide.{dec_le}
 use native.Mathlib.Omega.{arith}
 use lib.Dec.{eqb}
@@ -66,7 +66,7 @@ module _ (v : ℕ) (h : header_at v / 2 ≡ 1) where
       where
         go : (b : Bool) → test_tokens S (piece_of (piece_at v)) (cond b (leading (piece_of (test_at v))) always)
             ≡ cond b (or_else (leading_test (piece (listing l t x) (test_at v)) 0) one) one
-        go true = ap (λ ts. or_else (leading_test (pseudo_line none 1 ts) 0) one) (piece_source S l t x R (test_at v))
+        go true = ap (λ ts. or_else (leading_test (pseudo_line None 1 ts) 0) one) (piece_source S l t x R (test_at v))
         go false = refl
 
     merged : while_tokens S (piece_of (piece_at v)) (head_kind v) ≡ merge (while_head (test_tokens S (piece_of (piece_at v)) (head_kind v)))
@@ -115,6 +115,6 @@ unfolding head_test all ◌≟◌
 head_filled C v = go (eqb (header_at v) 3) (leading_test (piece C (test_at v)) 0) (test_filled (piece C (test_at v)) 0)
   where
     go : (b : Bool) (o : Option (List Token)) → IfSome (λ c. all filled c ≡ true) o → all filled (cond b (or_else o one) one) ≡ true
-    go true none f = refl
-    go true (some c) f = f c refl
+    go true None f = refl
+    go true (Some c) f = f c refl
     go false o f = refl

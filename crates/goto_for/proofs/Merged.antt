@@ -5,11 +5,11 @@
 --   all_merge             merging makes no token empty
 --   condition_merged      the condition of a merged while header is the merged condition
 -- Assumes nothing.
+use Rattle.std.specs.Prelude.{Option, Some}
 use Prim.Native.Nat.{ℕ, ◌+◌, ◌-◌, ◌≤◌}
 use mathlib.Core.Path.{◌≡◌, refl, sym, ap, ◌∙◌}
 use mathlib.Core.Bool.{Bool, true, false, cond, ◌&&◌, ◌||◌, not}
 use mathlib.Core.List.{List, [], ◌∷◌, ◌++◌, append-nil, append_assoc}
-use mathlib.Core.Option.{Option, some}
 use mathlib.Core.Logic.{◌⊎◌, inl, inr, ⊎_elim}
 use native.Mathlib.Omega.{arith}
 use borrow.Author.Tests.{eqb-true, le-leb}
@@ -237,19 +237,19 @@ module _ (c : List Token) (h : all filled c ≡ true) where
 
 -- The first token opens the bracket, the last one closes it.
 
-opens : (M : List Token) → (t : Token) × (first (glue (bracket (ascii " (")) M) ≡ some t) × (starts_with (ascii " (") t.text ≡ true)
+opens : (M : List Token) → (t : Token) × (first (glue (bracket (ascii " (")) M) ≡ Some t) × (starts_with (ascii " (") t.text ≡ true)
 unfolding glue starts_with
 opens [] = (bracket (ascii " ("), refl, refl)
 opens (u ∷ us) = go (joins (bracket (ascii " (")) u)
   where
-    go : (b : Bool) → (t : Token) × (first (cond b (tok (ascii " (" ++ u.text) Punct ∷ us) (bracket (ascii " (") ∷ (u ∷ us))) ≡ some t) × (starts_with (ascii " (") t.text ≡ true)
+    go : (b : Bool) → (t : Token) × (first (cond b (tok (ascii " (" ++ u.text) Punct ∷ us) (bracket (ascii " (") ∷ (u ∷ us))) ≡ Some t) × (starts_with (ascii " (") t.text ≡ true)
     go true = (tok (ascii " (" ++ u.text) Punct, refl, refl)
     go false = (bracket (ascii " ("), refl, refl)
 
 record Closes (ts : List Token) : Type 0 where
   end : Token
   front : List ℕ
-  at : last ts ≡ some end
+  at : last ts ≡ Some end
   is : end.text ≡ front ++ ascii ") {"
 
 closes_glue : (t : Token) (us : List Token) → Closes us → Closes (glue t us)
@@ -275,7 +275,7 @@ unfolding merge
 closes_merge [] = record { end = bracket (ascii ") {"); front = []; at = unfold glue last in refl; is = refl }
 closes_merge (t ∷ c) = closes_glue t (merge (c ++ (bracket (ascii ") {") ∷ []))) (closes_merge c)
 
-closing_brace : (x : List ℕ) → closing (x ++ ascii ") {") ≡ some 3
+closing_brace : (x : List ℕ) → closing (x ++ ascii ") {") ≡ Some 3
 unfolding closing
 closing_brace x =
     let n : length (x ++ ascii ") {") ≡ length x + 3 = length-append x (ascii ") {") in
@@ -294,18 +294,18 @@ glue_keyword s (u ∷ us) = rw (apart u.kind)
         go true e = let z : k ≡ 3 = sym (eqb-true Keyword k e) in rw z
         go false e = refl
 
-last_cons : (t : Token) (ts : List Token) (u : Token) → last ts ≡ some u → last (t ∷ ts) ≡ some u
+last_cons : (t : Token) (ts : List Token) (u : Token) → last ts ≡ Some u → last (t ∷ ts) ≡ Some u
 unfolding last
 last_cons t [] u e = none_some e
 last_cons t (v ∷ ts) u e = e
 
 pub condition_merged : (a : Option ℕ) (i : ℕ) (c : List Token) → all filled c ≡ true
-    → condition (pseudo_line a i (merge (while_head c))) (ascii "while") ≡ some (merge c)
+    → condition (pseudo_line a i (merge (while_head c))) (ascii "while") ≡ Some (merge c)
 unfolding condition position ◌≟◌ merge
 condition_merged a i c h =
     let M = merge (c ++ (bracket (ascii ") {") ∷ [])) in
     let N = glue (bracket (ascii " (")) M in
     let o = opens M in
     let e = closes_glue (bracket (ascii " (")) M (closes_merge c) in
-    let z : closing e.end.text ≡ some 3 = ap closing e.is ∙ closing_brace e.front in
-    rw (glue_keyword (ascii "while") N, o.1, o.2, last_cons (tok (ascii "while") Keyword) N e.end e.at, z) (ap some (cut_merged c h))
+    let z : closing e.end.text ≡ Some 3 = ap closing e.is ∙ closing_brace e.front in
+    rw (glue_keyword (ascii "while") N, o.1, o.2, last_cons (tok (ascii "while") Keyword) N e.end e.at, z) (ap Some (cut_merged c h))

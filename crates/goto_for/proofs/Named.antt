@@ -4,11 +4,11 @@
 --   any_negated       so after negating
 --   negated_filled    no token of a negated condition is empty
 -- Assumes nothing.
+use Rattle.std.specs.Prelude.{Option, None, Some}
 use Prim.Native.Nat.{ℕ, zero, suc, ◌+◌, ◌-◌, ◌≤◌}
 use mathlib.Core.Path.{◌≡◌, refl, sym, ap, subst, ◌∙◌}
 use mathlib.Core.Bool.{Bool, true, false, cond, ◌&&◌, ◌||◌, not, or-false}
 use mathlib.Core.List.{List, [], ◌∷◌, ◌++◌}
-use mathlib.Core.Option.{Option, none, some}
 use native.Mathlib.Nat.{add-zero}
 use native.Mathlib.Numerals.{add-one}
 use native.Mathlib.Omega.{arith}
@@ -31,8 +31,8 @@ use Rattle.goto_for.proofs.Merged.{joins_kind, filled, all_merge}
 
 pub names_other : (o : Option Family) (t : Token) → eqb t.kind Register ≡ false → names_family o t ≡ false
 unfolding names fam_of
-names_other none t e = refl
-names_other (some f) t e = rw (e, names)
+names_other None t e = refl
+names_other (Some f) t e = rw (e, names)
 
 -- The comparison that is flipped stands in a punct token.
 
@@ -151,11 +151,11 @@ module _ (p : Token → Bool) (own : (t : Token) → eqb t.kind Register ≡ fal
     where
       go : (o : Option Found) → IfSome (λ f. is_punct c f.place) o
           → any p (elim o [
-            | some f ↦ on_part f.place (f.place + 1) (flip f) c
-            | none ↦ merge (tok (ascii "!(") Punct ∷ (c ++ (tok (ascii ")") Punct ∷ [])))
+            | Some f ↦ on_part f.place (f.place + 1) (flip f) c
+            | None ↦ merge (tok (ascii "!(") Punct ∷ (c ++ (tok (ascii ")") Punct ∷ [])))
           ]) ≡ any p c
-      go (some f) h = flipped_same c f (h f refl)
-      go none h = bracketed_same c
+      go (Some f) h = flipped_same c f (h f refl)
+      go None h = bracketed_same c
 
 -- Empty tokens
 
@@ -181,13 +181,13 @@ negated_filled c h = go (only_comparison (scan 0 c nothing_seen)) (comparison_st
   where
     go : (o : Option Found) → IfSome (Stands c) o
         → all filled (elim o [
-          | some f ↦ on_part f.place (f.place + 1) (flip f) c
-          | none ↦ merge (tok (ascii "!(") Punct ∷ (c ++ (tok (ascii ")") Punct ∷ [])))
+          | Some f ↦ on_part f.place (f.place + 1) (flip f) c
+          | None ↦ merge (tok (ascii "!(") Punct ∷ (c ++ (tok (ascii ")") Punct ∷ [])))
         ]) ≡ true
-    go (some f) s =
+    go (Some f) s =
         let halves = all_halves filled f.place c h in
         rw on_part_one (all_append filled (take f.place c) _ halves.0 (first_filled (flip f) (flipped_filled c f (s f refl)) (drop f.place c) halves.1))
-    go none s = all_merge (tok (ascii "!(") Punct ∷ (c ++ (tok (ascii ")") Punct ∷ []))) (bracketed_filled c h)
+    go None s = all_merge (tok (ascii "!(") Punct ∷ (c ++ (tok (ascii ")") Punct ∷ []))) (bracketed_filled c h)
       where
         bracketed_filled : (c : List Token) → all filled c ≡ true → all filled (tok (ascii "!(") Punct ∷ (c ++ (tok (ascii ")") Punct ∷ []))) ≡ true
         bracketed_filled c h = unfold all ◌≟◌ in all_append filled c (tok (ascii ")") Punct ∷ []) h refl

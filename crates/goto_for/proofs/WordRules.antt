@@ -6,10 +6,10 @@
 --   head_words       the condition of a header, by its leading test
 --   for_words        the tests of a for header
 -- Assumes nothing.
+use Rattle.std.specs.Prelude.{Option, None, Some}
 use mathlib.Core.Path.{◌≡◌, refl, sym, ap, ◌∙◌}
 use mathlib.Core.Bool.{Bool, true, false, ◌&&◌, ◌||◌, cond}
 use mathlib.Core.List.{List}
-use mathlib.Core.Option.{Option, none, some}
 use Prim.Native.Nat.{ℕ, suc, ◌+◌, ◌-◌, ◌≤◌, ◌<◌}
 use native.Mathlib.Omega.{arith}
 use borrow.Author.Tests.{le-leb, lt-leb, eq-eqb, ne_eqb}
@@ -23,8 +23,6 @@ use Rattle.definitions.specs.Passes.{lone_brace}
 use Rattle.definitions.specs.RecoverGotoLoops.{leading_test, one}
 use Rattle.family.specs.Register.{family_of, names_family}
 use Rattle.family.specs.declared.Register.{Register}
-use Rattle.pseudo_opt.specs.declared.Found.{Found}
-use Rattle.pseudo_opt.specs.declared.Found.TheVariants.{At, Nothing}
 use Rattle.pseudo_types.proofs.CutRuns.{filter_any, empty_names}
 use Rattle.plan.specs.Plan.{indent_at, header_at, piece_at, test_at}
 use Rattle.plan.specs.ForLoop.{inits, passes, has_continue}
@@ -81,30 +79,30 @@ module _ (C : List Line) (p : Token → Bool) (ind w : ℕ) (b : Bool) (e : b �
     passes_there g = g ∙ rw (← e, f, q)
 
 module _ (C : List Line) (p : Token → Bool) (ws : List ℕ) (ind n k : ℕ) (r : Option ℕ) (inv : r ≡ init_words C p ws ind n k) where
-  pub init_over : n ≤ 0 → none ≡ r
+  pub init_over : n ≤ 0 → None ≡ r
   unfolding init_words
   init_over h = let z : n ≡ 0 = omega arith in sym (inv ∙ rw z)
 
-  pub init_top : 0 < n → k ≡ 0 → none ≡ r
+  pub init_top : 0 < n → k ≡ 0 → None ≡ r
   unfolding init_words
   init_top h e = let z : n ≡ suc (n - 1) = omega arith in sym (inv ∙ rw (z, e))
 
   module _ (h : 0 < n) (g : k ≡ 0 → ⊥) (b : Bool) (e : b ≡ (at_indent ind (get_or ws (k - 1) 0) && inits p (word_line C (get_or ws (k - 1) 0)))) where
-    look : r ≡ cond b (some (k - 1)) (cond (at_indent ind (get_or ws (k - 1) 0) && passes p (word_line C (get_or ws (k - 1) 0))) (init_words C p ws ind (n - 1) (k - 1)) none)
+    look : r ≡ cond b (Some (k - 1)) (cond (at_indent ind (get_or ws (k - 1) 0) && passes p (word_line C (get_or ws (k - 1) 0))) (init_words C p ws ind (n - 1) (k - 1)) None)
     unfolding init_words
     look =
         let y : n ≡ suc (n - 1) = omega arith in
         let z : k ≡ suc (k - 1) = omega arith in
         inv ∙ ap (λ m. init_words C p ws ind m k) y ∙ ap (init_words C p ws ind (suc (n - 1))) z ∙ rw (← e)
 
-    pub init_here : b ≡ true → some (k - 1) ≡ r
+    pub init_here : b ≡ true → Some (k - 1) ≡ r
     init_here f = sym (look ∙ rw f)
 
     module _ (f : b ≡ false) (c : Bool) (q : c ≡ (at_indent ind (get_or ws (k - 1) 0) && passes p (word_line C (get_or ws (k - 1) 0)))) where
       pub init_next : c ≡ true → r ≡ init_words C p ws ind (n - 1) (k - 1)
       init_next u = look ∙ rw (f, ← q, u)
 
-      pub init_stop : c ≡ false → none ≡ r
+      pub init_stop : c ≡ false → None ≡ r
       init_stop u = sym (look ∙ rw (f, ← q, u))
 
 pub ruleset init_places = (inits_away, passes_away, inits_there, passes_there, init_over, init_top, init_here, init_next, init_stop)
@@ -145,15 +143,15 @@ module _ (C : List Line) (v : ℕ) (o : Option Family) (h : ℕ) (q : h ≡ head
   unfolding head_test
   head_always n = rw (← q, ne_eqb h 3 n) (sym (one_names o))
 
-  module _ (e : h ≡ 3) (p : ℕ) (t : p ≡ test_at v) (f : Found) (u : leading (origin C p) f ≡ leading_test (piece C p) 0) where
+  module _ (e : h ≡ 3) (p : ℕ) (t : p ≡ test_at v) (f : Option ℕ) (u : leading (origin C p) f ≡ leading_test (piece C p) 0) where
     head_is : head_test C v ≡ or_else (leading (origin C p) f) one
     unfolding head_test
     head_is = rw (← q, eq-eqb h 3 e, ← t, ← u)
 
-    pub head_nothing : f ≡ Nothing → false ≡ any (names_family o) (head_test C v)
+    pub head_nothing : f ≡ None → false ≡ any (names_family o) (head_test C v)
     head_nothing n = sym (ap (any (names_family o)) head_is ∙ rw n (one_names o))
 
-    pub head_tested : (g : ℕ) → f ≡ At g → (m : ℕ) → m ≡ test_count (origin C p) g → (y : Bool) → y ≡ any (names_family o) (test_tokens (origin C p) m)
+    pub head_tested : (g : ℕ) → f ≡ Some g → (m : ℕ) → m ≡ test_count (origin C p) g → (y : Bool) → y ≡ any (names_family o) (test_tokens (origin C p) m)
         → y ≡ any (names_family o) (head_test C v)
     head_tested g n m c y d =
         d
@@ -208,7 +206,7 @@ module _ (C : List Line) (ws : List ℕ) (w e p : ℕ) (r : Register) (g : famil
   same_family : family_of s r ≡ fam_of (token (piece C p) 0)
   same_family = ap (λ s. family_of s r) q ∙ g
 
-  pub counted_no : b ≡ false → none ≡ counted_words C ws w e (names_family (fam_of (token (piece C p) 0)))
+  pub counted_no : b ≡ false → None ≡ counted_words C ws w e (names_family (fam_of (token (piece C p) 0)))
   counted_no f = rw (← same_family, ← u, f)
 
   pub counted_is : b ≡ true → (i : ℕ) → i ≡ indent_at (get_or ws w 0) → (o : Option ℕ) → o ≡ init_words C (names_family (family_of s r)) ws i 4 w
@@ -216,12 +214,12 @@ module _ (C : List Line) (ws : List ℕ) (w e p : ℕ) (r : Register) (g : famil
   counted_is f i d o v = v ∙ rw (← same_family, ← u, f, d)
 
 module _ (C : List Line) (ws : List ℕ) (w e : ℕ) (b : Bool) (u : b ≡ closed_words C ws w e) where
-  pub place_open : b ≡ false → none ≡ place_words C ws w e
+  pub place_open : b ≡ false → None ≡ place_words C ws w e
   unfolding place_words
   place_open f = rw (← u, f)
 
   module _ (f : b ≡ true) (c : Bool) (v : c ≡ steps_words C (get_or ws w 0) (get_or ws (e - 1) 0)) where
-    pub place_still : c ≡ false → none ≡ place_words C ws w e
+    pub place_still : c ≡ false → None ≡ place_words C ws w e
     unfolding place_words
     place_still g = rw (← u, f, ← v, g)
 

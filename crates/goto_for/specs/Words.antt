@@ -8,8 +8,7 @@
 --   counted_words C ws w e p   the same, where the header at w counts p
 --   place_words C ws w e       the place of the initialiser, where the header at w becomes a for header
 -- Assumes nothing.
-use Rattle.std.specs.Prelude.{if◌then◌else◌, ℕ, zero, suc, ◌+◌, ◌-◌, Bool, ◌&&◌, not, List, eqb, leb, get_or}
-use Rattle.std.proofs.Math.Option.{Option, none, some}
+use Rattle.std.specs.Prelude.{if◌then◌else◌, ℕ, zero, suc, ◌+◌, ◌-◌, Bool, ◌&&◌, not, List, eqb, leb, get_or, Option, None, Some}
 use Rattle.definitions.specs.Lists.{or_else, any, part}
 use Rattle.definitions.specs.Model.{Token, Line, token}
 use Rattle.definitions.specs.Family.{fam_of}
@@ -47,16 +46,16 @@ unfoldable pub counts_words : List Line → List ℕ → ℕ → ℕ → (Token 
 counts_words C ws w e p = any p (head_test C (get_or ws w 0)) && not (any (continue_word C) (part (w + 1) e ws))
 
 unfoldable pub init_words : List Line → (Token → Bool) → List ℕ → ℕ → ℕ → ℕ → Option ℕ
-init_words C p ws ind zero k = none
-init_words C p ws ind (suc n) zero = none
+init_words C p ws ind zero k = None
+init_words C p ws ind (suc n) zero = None
 init_words C p ws ind (suc n) (suc k) =
     let earlier = init_words C p ws ind n k in
-    if at_indent ind (get_or ws k 0) && inits p (word_line C (get_or ws k 0)) then some k
+    if at_indent ind (get_or ws k 0) && inits p (word_line C (get_or ws k 0)) then Some k
     else if at_indent ind (get_or ws k 0) && passes p (word_line C (get_or ws k 0)) then earlier
-    else none
+    else None
 
 abbrev pub counted_words : List Line → List ℕ → ℕ → ℕ → (Token → Bool) → Option ℕ
-counted_words C ws w e p = if counts_words C ws w e p then init_words C p ws (indent_at (get_or ws w 0)) 4 w else none
+counted_words C ws w e p = if counts_words C ws w e p then init_words C p ws (indent_at (get_or ws w 0)) 4 w else None
 
 unfoldable pub place_words : List Line → List ℕ → ℕ → ℕ → Option ℕ
 place_words C ws w e =
@@ -64,4 +63,4 @@ place_words C ws w e =
     let z = get_or ws (e - 1) 0 in
     let p = names_family (fam_of (token (word_line C z) 0)) in
     let found = init_words C p ws (indent_at h) 4 w in
-    if closed_words C ws w e && (steps_words C h z && counts_words C ws w e p) then found else none
+    if closed_words C ws w e && (steps_words C h z && counts_words C ws w e p) then found else None

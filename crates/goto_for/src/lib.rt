@@ -17,31 +17,24 @@ ghost use Rattle.goto_for.specs.Answer.{ToFor};
 
 use crate::counted::for_place;
 use crate::ends::first_end;
+use model::listing::Listing;
 use plan::{indent, make_for};
-use pseudo_opt::Found;
 
 // The while header at place w becomes a for header, where its conditions hold; answers how many lines there are then.
-pub fn to_for(
-    lines: &[u32],
-    tokens: &[u32],
-    text: &[u8],
-    plan: &mut [usize],
-    n: usize,
-    w: usize,
-) -> usize
-    requires w_lt_n { (w < n) × (n ≤ length plan.old) × (question_2 lines.now tokens.now text.now ≡ true) }
+pub fn to_for(code: &Listing, plan: &mut [usize], n: usize, w: usize) -> usize
+    requires w_lt_n { (w < n) × (n ≤ length plan.old) × (question_2 code.now.lines.now code.now.tokens.now code.now.text.now ≡ true) }
     requires ahead { Ahead (w + 1) (take n plan.old) }
     requires w_value { header_at (get_or plan.old w 0) / 2 ≡ 1 }
-    ensures { ToFor lines.now tokens.now text.now w n plan.old result plan.new }
+    ensures { ToFor code.now.lines.now code.now.tokens.now code.now.text.now w n plan.old result plan.new }
 {
     if w == 0 {
         return n;
     }
     let h = plan[w];
-    let Found::At(e) = first_end(lines, tokens, text, plan, n, w + 1, indent(h)) else {
+    let Some(e) = first_end(code, plan, n, w + 1, indent(h)) else {
         return n;
     };
-    let Found::At(k) = for_place(lines, tokens, text, plan, w, e) else {
+    let Some(k) = for_place(code, plan, w, e) else {
         return n;
     };
     make_for(plan, n, w, e, k);

@@ -6,10 +6,10 @@
 --   piece_none, piece_some                   the target of a piece
 --   line_target, header_kind                 the line of a word
 -- Assumes nothing.
+use Rattle.std.specs.Prelude.{Option, None, Some}
 use mathlib.Core.Path.{◌≡◌, refl, sym, ap, ◌∙◌}
 use mathlib.Core.Bool.{true}
 use mathlib.Core.List.{List}
-use mathlib.Core.Option.{Option, none, some}
 use Prim.Native.Nat.{ℕ, ◌%◌, ◌≤◌, ◌<◌}
 use native.Mathlib.Nat.{sub-zero}
 use native.Mathlib.Decide.{dec_le}
@@ -26,8 +26,6 @@ use Rattle.plan.specs.Plan.{piece_of, test_tokens, while_tokens, header_tokens, 
 use Rattle.plan.specs.Changes.{is_goto}
 use Rattle.negate.specs.Tests.{test}
 use Rattle.pseudo_opt.specs.Places.{text_at}
-use Rattle.pseudo_opt.specs.declared.Found.{Found}
-use Rattle.pseudo_opt.specs.declared.Found.TheVariants.{At, Nothing}
 use Rattle.pieces.specs.Pieces.{piece, origin, cut_place}
 use Rattle.pieces.specs.Leading.{leading}
 use Rattle.pieces.proofs.Forms.{kept_piece, continued_piece, broken_piece, closed_piece, place_within}
@@ -62,11 +60,11 @@ pub ruleset pops = (cut_fits, popped_kept, popped_continued, popped_broken, popp
 
 -- Conditions
 
-module _ (C : List Line) (p : ℕ) (s : Seek) (f : Found) (e : leading (origin C p) f ≡ leading_test (piece C p) 0) where
-  pub condition_none : f ≡ Nothing → s ≡ seek s (or_else (leading_test (piece C p) 0) one)
+module _ (C : List Line) (p : ℕ) (s : Seek) (f : Option ℕ) (e : leading (origin C p) f ≡ leading_test (piece C p) 0) where
+  pub condition_none : f ≡ None → s ≡ seek s (or_else (leading_test (piece C p) 0) one)
   condition_none q = sym (rw (← e, q) (seek_one s))
 
-  pub condition_some : (g : ℕ) → f ≡ At g → (r : Seek) → r ≡ seek s (test (origin C p) g) → r ≡ seek s (or_else (leading_test (piece C p) 0) one)
+  pub condition_some : (g : ℕ) → f ≡ Some g → (r : Seek) → r ≡ seek s (test (origin C p) g) → r ≡ seek s (or_else (leading_test (piece C p) 0) one)
   condition_some g q r x = x ∙ sym (rw (← e, q) (seek_negate s (test (origin C p) g)))
 
 module _ (C : List Line) (k t : ℕ) (s : Seek) where
@@ -121,11 +119,11 @@ pub ruleset headers = (while_target, for_target)
 
 -- Pieces
 
-module _ (C : List Line) (p : ℕ) (f : Found) (e : text_at (origin C p) f ≡ goto_target (piece C p)) where
-  pub piece_none : f ≡ Nothing → none ≡ goto_target (piece C p)
+module _ (C : List Line) (p : ℕ) (f : Option ℕ) (e : text_at (origin C p) f ≡ goto_target (piece C p)) where
+  pub piece_none : f ≡ None → None ≡ goto_target (piece C p)
   piece_none q = rw (← e, q)
 
-  pub piece_some : (j : ℕ) → f ≡ At j → (x : List ℕ) → x ≡ (token (origin C p) j).text → some (part 0 (length x) (token (origin C p) j).text) ≡ goto_target (piece C p)
-  piece_some j q x y = rw (← e, q, y) (ap some (part_tail (token (origin C p) j).text 0))
+  pub piece_some : (j : ℕ) → f ≡ Some j → (x : List ℕ) → x ≡ (token (origin C p) j).text → Some (part 0 (length x) (token (origin C p) j).text) ≡ goto_target (piece C p)
+  piece_some j q x y = rw (← e, q, y) (ap Some (part_tail (token (origin C p) j).text 0))
 
 pub ruleset targets = (piece_none, piece_some, line_target)

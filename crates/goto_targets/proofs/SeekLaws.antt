@@ -7,10 +7,11 @@
 --   seek_while, seek_for         a header: its initialiser, its condition and its step
 --   popped_end, popped_jumped, popped_closed    a run whose last token has lost its last code point: a line's, a cut line's, a closing brace's
 -- Assumes nothing.
+use Rattle.std.specs.Prelude.{Option, None, Some}
+use Rattle.std.specs.Option.{option_map}
 use mathlib.Core.Path.{◌≡◌, refl, sym, ap, ◌∙◌}
 use mathlib.Core.Bool.{Bool, true, false, cond, ◌&&◌, ◌||◌}
 use mathlib.Core.List.{List, [], ◌∷◌, ◌++◌}
-use mathlib.Core.Option.{Option, none, some, map}
 use Prim.Native.Nat.{ℕ, zero, suc, ◌+◌, ◌-◌}
 use native.Mathlib.Nat.{add-zero, zero-add, add-suc, suc-add}
 use native.Mathlib.Omega.{arith}
@@ -40,8 +41,8 @@ unfolding seek step first_symbol find
 behind [] = refl
 behind (t ∷ ts) = go (eqb t.kind Symbol) (behind ts)
   where
-    go : (b : Bool) → target (seek waiting ts) ≡ (find (λ (t : Token). eqb t.kind Symbol) ts >>= λ (t : Token). some t.text)
-        → target (seek (cond b (found t.text) waiting) ts) ≡ (cond b (some t) (find (λ (t : Token). eqb t.kind Symbol) ts) >>= λ (t : Token). some t.text)
+    go : (b : Bool) → target (seek waiting ts) ≡ (find (λ (t : Token). eqb t.kind Symbol) ts >>= λ (t : Token). Some t.text)
+        → target (seek (cond b (found t.text) waiting) ts) ≡ (cond b (Some t) (find (λ (t : Token). eqb t.kind Symbol) ts) >>= λ (t : Token). Some t.text)
     go true e = ap target (found_stays t.text ts)
     go false e = e
 
@@ -51,10 +52,10 @@ from_goto [] = refl
 from_goto (t ∷ ts) = go (is_kw (ascii "goto") t) (position (is_kw (ascii "goto")) ts) (from_goto ts)
   where
     go : (b : Bool) (o : Option ℕ) → target (seek looking ts) ≡ (o >>= λ g. first_symbol (drop (g + 1) ts))
-        → target (seek (cond b waiting looking) ts) ≡ (cond b (some 0) (map suc o) >>= λ g. first_symbol (drop (g + 1) (t ∷ ts)))
+        → target (seek (cond b waiting looking) ts) ≡ (cond b (Some 0) (option_map suc o) >>= λ g. first_symbol (drop (g + 1) (t ∷ ts)))
     go true o e = behind ts
-    go false none e = e
-    go false (some k) e = e ∙ ap (λ n. first_symbol (drop n (t ∷ ts))) (sym (suc-add k 1))
+    go false None e = e
+    go false (Some k) e = e ∙ ap (λ n. first_symbol (drop n (t ∷ ts))) (sym (suc-add k 1))
 
 pub target_is : (l : Line) → goto_target l ≡ target (seek looking l.tokens)
 unfolding goto_target

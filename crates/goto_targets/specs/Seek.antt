@@ -5,8 +5,7 @@
 --   target s         the target that was found
 --   told C s         what the code's answer s says of the listing C
 -- Assumes nothing.
-use Rattle.std.specs.Prelude.{if◌then◌else◌, ℕ, List, [], ◌∷◌, eqb}
-use Rattle.std.proofs.Math.Option.{Option, none, some}
+use Rattle.std.specs.Prelude.{if◌then◌else◌, ℕ, List, [], ◌∷◌, eqb, Option, None, Some}
 use Rattle.definitions.specs.Lists.{part, ascii}
 use Rattle.definitions.specs.Model.{Token, Line, token, line, Symbol}
 use Rattle.definitions.specs.Statements.{is_kw}
@@ -28,9 +27,9 @@ seek s [] = s
 seek s (t ∷ ts) = seek (step s t) ts
 
 abbrev pub target : Seek → Option (List ℕ)
-target looking = none
-target waiting = none
-target (found s) = some s
+target looking = None
+target waiting = None
+target (found s) = Some s
 
 abbrev pub told : List Line → State → Seek
 told C Looking = looking

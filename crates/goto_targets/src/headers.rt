@@ -1,11 +1,11 @@
 // The goto target of the line of a word. A header can hold a goto too, where its initialiser, its test or its step does.
 ghost use Rattle.std.specs.Prelude.{◌≡◌, true, ◌<◌};
 ghost use Rattle.definitions.specs.Lists.{or_else};
-ghost use Rattle.definitions.specs.Columns.{listing};
 ghost use Rattle.definitions.specs.Questions.{question_2};
 ghost use Rattle.definitions.specs.Statements.{goto_target};
 ghost use Rattle.definitions.specs.ToFor.{popped};
 ghost use Rattle.definitions.specs.RecoverGotoLoops.{leading_test, one};
+ghost use Rattle.model.specs.Listings.{listing_of};
 ghost use Rattle.plan.specs.Plan.{header_at, line_of};
 ghost use Rattle.plan.specs.Changes.{is_goto};
 ghost use Rattle.pieces.specs.Pieces.{piece};
@@ -13,102 +13,87 @@ ghost use Rattle.goto_targets.specs.Seek.{seek, target, told};
 ghost use Rattle.goto_targets.specs.Conditions.{over};
 
 use crate::seeking::{State, seek_line, seek_test, seek_tokens};
-use model::columns::text_at;
+use model::listing::Listing;
 use pieces::reading::cut_place;
 use plan::{header, initialiser, piece, step, test};
-use pseudo_opt::Found;
 
 // The piece p without its last code point.
-fn seek_popped(lines: &[u32], tokens: &[u32], text: &[u8], p: usize, s: State) -> State
-    ensures { let C = listing lines.now tokens.now text.now in
+fn seek_popped(code: &Listing, p: usize, s: State) -> State
+    ensures { let C = listing_of code.now in
         told C result ≡ seek (told C s) (popped (piece C p).tokens) }
 {
     match p % 4 {
-        0 => seek_line(lines, tokens, text, p / 4, s),
-        1 => seek_tokens(
-            lines,
-            tokens,
-            text,
-            p / 4,
-            cut_place(lines, tokens, text, p / 4),
-            s,
-        ),
-        2 => seek_tokens(
-            lines,
-            tokens,
-            text,
-            p / 4,
-            cut_place(lines, tokens, text, p / 4),
-            s,
-        ),
+        0 => seek_line(code, p / 4, s),
+        1 => seek_tokens(code, p / 4, cut_place(code, p / 4), s),
+        2 => seek_tokens(code, p / 4, cut_place(code, p / 4), s),
         _ => s,
     }
 }
 
 // The condition that the leading test of the piece p gives a header, or 1 where it is none.
-fn seek_condition(lines: &[u32], tokens: &[u32], text: &[u8], p: usize, s: State) -> State
-    requires { question_2 lines.now tokens.now text.now ≡ true }
-    ensures { let C = listing lines.now tokens.now text.now in
+fn seek_condition(code: &Listing, p: usize, s: State) -> State
+    requires { question_2 code.now.lines.now code.now.tokens.now code.now.text.now ≡ true }
+    ensures { let C = listing_of code.now in
         told C result ≡ seek (told C s) (or_else (leading_test (piece C p) 0) one) }
 {
-    let Found::At(g) = pieces::leading::leading_test(lines, tokens, text, p) else {
+    let Some(g) = pieces::leading::leading_test(code, p) else {
         return s;
     };
-    seek_test(lines, tokens, text, p / 4, g, s)
+    seek_test(code, p / 4, g, s)
 }
 
 // The condition of a header of kind h: the leading test of the piece t, or 1.
-fn seek_over(lines: &[u32], tokens: &[u32], text: &[u8], h: usize, t: usize, s: State) -> State
-    requires { question_2 lines.now tokens.now text.now ≡ true }
-    ensures { let C = listing lines.now tokens.now text.now in
+fn seek_over(code: &Listing, h: usize, t: usize, s: State) -> State
+    requires { question_2 code.now.lines.now code.now.tokens.now code.now.text.now ≡ true }
+    ensures { let C = listing_of code.now in
         told C result ≡ seek (told C s) (over C h t) }
 {
     if h % 2 == 1 {
-        return seek_condition(lines, tokens, text, t, s);
+        return seek_condition(code, t, s);
     }
     s
 }
 
 // The target of the line of w, which is a header.
-fn header_target(lines: &[u32], tokens: &[u32], text: &[u8], w: usize) -> State
-    requires { (question_2 lines.now tokens.now text.now ≡ true) × (is_goto w ≡ true) × (header_at w ≡ 0 → ⊥) }
-    ensures { let C = listing lines.now tokens.now text.now in
+fn header_target(code: &Listing, w: usize) -> State
+    requires { (question_2 code.now.lines.now code.now.tokens.now code.now.text.now ≡ true) × (is_goto w ≡ true) × (header_at w ≡ 0 → ⊥) }
+    ensures { let C = listing_of code.now in
         target (told C result) ≡ goto_target (line_of C w) }
 {
     let h = header(w);
     if h < 4 {
-        return seek_over(lines, tokens, text, h, test(w), State::Looking);
+        return seek_over(code, h, test(w), State::Looking);
     }
-    let a = seek_popped(lines, tokens, text, initialiser(w), State::Looking);
-    let c = seek_over(lines, tokens, text, h, test(w), a);
-    seek_popped(lines, tokens, text, step(w), c)
+    let a = seek_popped(code, initialiser(w), State::Looking);
+    let c = seek_over(code, h, test(w), a);
+    seek_popped(code, step(w), c)
 }
 
 // The target of the piece p.
-fn piece_target(lines: &[u32], tokens: &[u32], text: &[u8], p: usize) -> State
-    ensures { let C = listing lines.now tokens.now text.now in
+fn piece_target(code: &Listing, p: usize) -> State
+    ensures { let C = listing_of code.now in
         target (told C result) ≡ goto_target (piece C p) }
 {
-    let Found::At(j) = pieces::reading::goto_symbol(lines, tokens, text, p) else {
+    let Some(j) = pieces::reading::goto_symbol(code, p) else {
         return State::Looking;
     };
     State::Found {
         line: p / 4,
         token: j,
         from: 0,
-        to: text_at(lines, tokens, text, p / 4, j).len(),
+        to: code.text_at(p / 4, j).len(),
     }
 }
 
 // The target of the line of w.
-pub fn word_target(lines: &[u32], tokens: &[u32], text: &[u8], w: usize) -> State
-    requires { (question_2 lines.now tokens.now text.now ≡ true) × (is_goto w ≡ true) }
-    ensures { let C = listing lines.now tokens.now text.now in
+pub fn word_target(code: &Listing, w: usize) -> State
+    requires { (question_2 code.now.lines.now code.now.tokens.now code.now.text.now ≡ true) × (is_goto w ≡ true) }
+    ensures { let C = listing_of code.now in
         target (told C result) ≡ goto_target (line_of C w) }
 {
     if header(w) == 0 {
-        piece_target(lines, tokens, text, piece(w))
+        piece_target(code, piece(w))
     } else {
-        header_target(lines, tokens, text, w)
+        header_target(code, w)
     }
 }

@@ -5,13 +5,13 @@
 --   back_bare, enters_bare, head_bare, exit_bare    what is asked of two listings that are the same but for addresses
 --   label_bare, leading_bare                        what is asked of two such lines
 -- Assumes nothing.
+use Rattle.std.specs.Prelude.{Option, None, Some, slice_get}
+use Rattle.std.specs.Option.{option_map}
 use Prim.Native.Nat.{ℕ, zero, suc, ◌+◌}
 use mathlib.Core.Path.{◌≡◌, refl, sym, ap, ap₂, ◌∙◌}
 use mathlib.Core.Bool.{Bool, true, false, cond, ◌||◌}
 use mathlib.Core.List.{List, [], ◌∷◌, ◌++◌, map}
-use mathlib.Core.Option
-use mathlib.Core.Option.{Option, none, some}
-use lib.ListN.{take, drop, get_elem?}
+use lib.ListN.{take, drop}
 use Rattle.definitions.specs.Lists.{◌>>=◌, require, any, filter, part, take_while, last_position, ◌≟◌}
 use Rattle.definitions.specs.Model.{Line, pseudo_line, line}
 use Rattle.definitions.specs.Columns.{listing}
@@ -24,7 +24,7 @@ use Rattle.plan.proofs.Maps.{map_take, map_drop, map_part, map_append}
 use Rattle.gotos.specs.Edges.{back_from}
 
 abbrev pub bare : Line → Line
-bare l = pseudo_line none l.indent l.tokens
+bare l = pseudo_line None l.indent l.tokens
 
 -- Words
 
@@ -62,7 +62,7 @@ module _ (S : List Line) (l t x : List ℕ) (R : Source S l t x) where
 
   pub bare_line : (w : ℕ) → bare (line_of S w) ≡ bare (line_of C w)
   unfolding planned
-  bare_line w = ap (λ ts. pseudo_line none (plan_of w).indent ts) (header_same (plan_of w).piece (plan_of w).header)
+  bare_line w = ap (λ ts. pseudo_line None (plan_of w).indent ts) (header_same (plan_of w).piece (plan_of w).header)
 
   pub bare_render : (ws : List ℕ) → map bare (render S ws) ≡ map bare (render C ws)
   bare_render [] = refl
@@ -85,7 +85,7 @@ goes_test p m = refl
 
 -- a place behind, or the first
 abbrev later : Option ℕ → Bool → Option ℕ
-later o b = elim o [ some k ↦ some (suc k) | none ↦ cond b (some 0) none ]
+later o b = elim o [ Some k ↦ Some (suc k) | None ↦ cond b (Some 0) None ]
 
 module _ (p : Line → Bool) (same : (m : Line) → p (bare m) ≡ p m) where
   any_test : (L : List Line) → any p (map bare L) ≡ any p L
@@ -123,7 +123,7 @@ block_test ind m = refl
 back_without : (L : List Line) (g : List ℕ) (ind d j : ℕ) → back_from (map bare L) g ind d j ≡ back_from L g ind d j
 unfolding back_from
 back_without L g ind d j =
-    ap (Option.map (j +◌))
+    ap (option_map (j +◌))
     (ap (λ M. last_position (is_back g d) (take_while (in_block ind) M)) (sym (map_drop bare j L))
     ∙ (ap (last_position (is_back g d)) (while_test (in_block ind) (block_test ind) (drop j L))
     ∙ last_test (is_back g d) (λ m. refl) (take_while (in_block ind) (drop j L))))
@@ -143,9 +143,9 @@ goes_other : (p q : List ℕ → Bool) → ((t : List ℕ) → p t ≡ q t) → 
 unfolding goes_to
 goes_other p q e m = go (goto_target m)
   where
-    go : (o : Option (List ℕ)) → ◌≡◌ {A = Bool} (elim o [ none ↦ false | some t ↦ p t ]) (elim o [ none ↦ false | some t ↦ q t ])
-    go none = refl
-    go (some t) = e t
+    go : (o : Option (List ℕ)) → ◌≡◌ {A = Bool} (elim o [ None ↦ false | Some t ↦ p t ]) (elim o [ None ↦ false | Some t ↦ q t ])
+    go None = refl
+    go (Some t) = e t
 
 any_other : (p q : Line → Bool) → ((m : Line) → p m ≡ q m) → (L : List Line) → any p L ≡ any q L
 unfolding any
@@ -160,19 +160,19 @@ enters_without L h b =
     ∙ any_test (goes_to (inner L h b)) (goes_test (inner L h b)) (take h L ++ drop (b + 1) L))
 
 exit_without : (L : List Line) (b : ℕ) → exit_label (map bare L) b ≡ exit_label L b
-exit_without L b = ap ask (there L (b + 1)) ∙ go (get_elem? L (b + 1))
+exit_without L b = ap ask (there L (b + 1)) ∙ go (slice_get L (b + 1))
   where
     ask : Option Line → Option (List ℕ)
-    ask o = o >>= λ m. require (is_label m) >>= λ _. some (label m)
+    ask o = o >>= λ m. require (is_label m) >>= λ _. Some (label m)
 
-    there : (K : List Line) (i : ℕ) → get_elem? (map bare K) i ≡ Option.map bare (get_elem? K i)
+    there : (K : List Line) (i : ℕ) → slice_get (map bare K) i ≡ option_map bare (slice_get K i)
     there [] i = refl
     there (m ∷ K) zero = refl
     there (m ∷ K) (suc i) = there K i
 
-    go : (o : Option Line) → ask (Option.map bare o) ≡ ask o
-    go none = refl
-    go (some m) = ap (λ c. require c >>= λ _. some (label m)) (label_test m)
+    go : (o : Option Line) → ask (option_map bare o) ≡ ask o
+    go None = refl
+    go (Some m) = ap (λ c. require c >>= λ _. Some (label m)) (label_test m)
 
 -- Two listings that are the same but for addresses
 

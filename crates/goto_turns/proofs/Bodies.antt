@@ -7,17 +7,17 @@
 --   body_ahead           no header stands from the label on
 --   body_lines           the words stand for `with_body` of the lines
 -- Assumes nothing.
+use Rattle.std.specs.Prelude.{Option, None, Some, slice_get}
 use Prim.Native.Nat.{ℕ, zero, suc, ◌+◌, ◌-◌, ◌*◌, ◌/◌, ◌%◌, ◌≤◌, ◌<◌}
 use mathlib.Core.Path.{◌≡◌, refl, sym, ap, ap₂, ◌∙◌}
 use mathlib.Core.List.{List, [], ◌∷◌, ◌++◌, map}
 use mathlib.Core.Bool.{Bool, true, false, ◌&&◌}
-use mathlib.Core.Option.{Option, none, some}
 use native.Mathlib.Decide.{dec_le}
 use native.Mathlib.Omega.{arith}
 use native.Mathlib.Numerals.{add-one}
 use borrow.Author.Tests.{eqb-true, ltb-true}
 use lib.Dec.{ltb}
-use lib.ListN.{length, take, drop, get_or, set, get_elem?, length-take, length-map, get_or-append}
+use lib.ListN.{length, take, drop, get_or, set, length-take, length-map, get_or-append}
 use lib.Seq.{get_or-take, get_or-set_other, length-take-le}
 use Rattle.definitions.specs.Lists.{◌>>=◌, require, all, part, on_part}
 use Rattle.definitions.specs.Model.{Line, no_token, token, line, no_line}
@@ -64,35 +64,35 @@ module _ (C : List Line) (w : ℕ) (is : is_label (line_of C w) ≡ true) where
 
 -- The exit
 
-exit_by : (L : List Line) (b : ℕ) (o : Option Line) → get_elem? L (b + 1) ≡ o → exit_label L b ≡ (o >>= λ l. require (is_label l) >>= λ _. some (label l))
-exit_by L b o e = ap (λ o. o >>= λ l. require (is_label l) >>= λ _. some (label l)) e
+exit_by : (L : List Line) (b : ℕ) (o : Option Line) → slice_get L (b + 1) ≡ o → exit_label L b ≡ (o >>= λ l. require (is_label l) >>= λ _. Some (label l))
+exit_by L b o e = ap (λ o. o >>= λ l. require (is_label l) >>= λ _. Some (label l)) e
 
-some_at : (S : List Line) (ws : List ℕ) (i : ℕ) → i < length ws → get_elem? (render S ws) i ≡ some (line_of S (get_or ws i 0))
+some_at : (S : List Line) (ws : List ℕ) (i : ℕ) → i < length ws → slice_get (render S ws) i ≡ Some (line_of S (get_or ws i 0))
 some_at S [] i h = absurd (omega arith)
 some_at S (w ∷ ws) zero h = refl
 some_at S (w ∷ ws) (suc i) h = some_at S ws i (omega arith)
 
-none_at : (L : List Line) (i : ℕ) → length L ≤ i → get_elem? L i ≡ none
+none_at : (L : List Line) (i : ℕ) → length L ≤ i → slice_get L i ≡ None
 none_at [] i h = refl
 none_at (m ∷ L) zero h = absurd (omega arith)
 none_at (m ∷ L) (suc i) h = none_at L i (omega arith)
 
 module _ (C : List Line) (ws : List ℕ) (n b : ℕ) (le : n ≤ length ws) where
-  pub exit_past : n ≤ b + 1 → none ≡ exit_label (render C (take n ws)) b
+  pub exit_past : n ≤ b + 1 → None ≡ exit_label (render C (take n ws)) b
   exit_past h =
-      sym (exit_by (render C (take n ws)) b none (none_at (render C (take n ws)) (b + 1) (omega (arith, length_render C (take n ws), length-take-le n ws le))))
+      sym (exit_by (render C (take n ws)) b None (none_at (render C (take n ws)) (b + 1) (omega (arith, length_render C (take n ws), length-take-le n ws le))))
 
   pub exit_here : b + 1 < n → (y : Bool) → y ≡ is_label (line_of C (get_or ws (b + 1) 0)) → (s : ℕ) → s ≡ piece_at (get_or ws (b + 1) 0) / 4
       → (x : List ℕ) → x ≡ (token (line C s) 0).text → exit y x ≡ exit_label (render C (take n ws)) b
   exit_here h y e s d x f =
       go y e
-      ∙ sym (exit_by (render C (take n ws)) b (some (line_of C (get_or ws (b + 1) 0)))
-      (some_at C (take n ws) (b + 1) (omega (arith, length-take-le n ws le)) ∙ ap (λ w. some (line_of C w)) (get_or-take n ws (b + 1) 0 h)))
+      ∙ sym (exit_by (render C (take n ws)) b (Some (line_of C (get_or ws (b + 1) 0)))
+      (some_at C (take n ws) (b + 1) (omega (arith, length-take-le n ws le)) ∙ ap (λ w. Some (line_of C w)) (get_or-take n ws (b + 1) 0 h)))
     where
       go : (y : Bool) → y ≡ is_label (line_of C (get_or ws (b + 1) 0))
-          → exit y x ≡ (require (is_label (line_of C (get_or ws (b + 1) 0))) >>= λ _. some (label (line_of C (get_or ws (b + 1) 0))))
+          → exit y x ≡ (require (is_label (line_of C (get_or ws (b + 1) 0))) >>= λ _. Some (label (line_of C (get_or ws (b + 1) 0))))
       go false e = rw (← e)
-      go true e = rw (← e) (ap some (f ∙ label_text C (get_or ws (b + 1) 0) (sym e) s d))
+      go true e = rw (← e) (ap Some (f ∙ label_text C (get_or ws (b + 1) 0) (sym e) s d))
 
 -- Words
 

@@ -4,11 +4,11 @@
 --   headed_ahead         no other header stands from it on
 --   headed_lines         the words stand for `with_header` of the lines
 -- Assumes nothing.
+use Rattle.std.specs.Prelude.{Option, None, Some}
 use Prim.Native.Nat.{ℕ, zero, suc, ◌+◌, ◌*◌, ◌/◌, ◌%◌, ◌≤◌, ◌<◌}
 use mathlib.Core.Path.{◌≡◌, refl, sym, ap, ap₂, ◌∙◌}
 use mathlib.Core.List.{List, [], ◌∷◌, ◌++◌}
 use mathlib.Core.Bool.{Bool, true, false, cond, ◌||◌}
-use mathlib.Core.Option.{Option, none, some}
 use native.Mathlib.Omega.{arith}
 use native.Mathlib.Numerals.{add-one}
 use borrow.Author.Tests.{eqb-true}
@@ -138,7 +138,7 @@ module _ (ws : List ℕ) (h : ℕ) (lt : h + 1 < length ws) (ahead : Ahead h ws)
     test_piece : (o : Option (List Token)) → leading_test (line M (h + 1)) d ≡ o → is_some o ≡ true → leading_test (piece S (piece_at u)) 0 ≡ o
     test_piece o e is = go (eqb (indent_at u) (d + 1)) (sym e ∙ (test_word ∙ leads_by S u d (indent_at u) (kept_at (h + 1) (omega arith) lt) refl))
       where
-        go : (b : Bool) → o ≡ cond b (leading_test (piece S (piece_at u)) 0) none → leading_test (piece S (piece_at u)) 0 ≡ o
+        go : (b : Bool) → o ≡ cond b (leading_test (piece S (piece_at u)) 0) None → leading_test (piece S (piece_at u)) 0 ≡ o
         go true q = sym q
         go false q = true_false is (ap is_some q)
 
@@ -163,5 +163,5 @@ module _ (ws : List ℕ) (h : ℕ) (lt : h + 1 < length ws) (ahead : Ahead h ws)
         go : (o : Option (List Token)) → is_some o ≡ false
             → set M h (pseudo_line (line M h).address d (merge (while_head one)))
             ≡ set (cond (is_some o) (remove (h + 1) M) M) h (pseudo_line (line M h).address d (merge (while_head (or_else o one))))
-        go none q = refl
-        go (some c) q = true_false refl q
+        go None q = refl
+        go (Some c) q = true_false refl q

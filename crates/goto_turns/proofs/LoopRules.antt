@@ -5,11 +5,11 @@
 --   header_calls, header_made                    the header made, then `to_for`
 --   rebuild_calls, rebuilt_go, rebuilt_beyond, rebuilt_deep    the whole loop
 -- Assumes nothing.
+use Rattle.std.specs.Prelude.{Option, None}
 use Prim.Native.Nat.{ℕ, ◌+◌, ◌-◌, ◌/◌, ◌≤◌, ◌<◌}
 use mathlib.Core.Path.{◌≡◌, refl, sym, ap, ap₂, subst, ◌∙◌}
 use mathlib.Core.List.{List}
 use mathlib.Core.Bool.{Bool, true, false, cond, ◌&&◌, and-false}
-use mathlib.Core.Option.{Option, none}
 use native.Mathlib.Omega.{arith}
 use borrow.Author.Tests.{eqb-true, lt-ltb, le-ltb}
 use lib.Dec.{ltb}
@@ -59,9 +59,9 @@ module _ (l t x ws : List ℕ) (n h b : ℕ) (p : Loop l t x n h b ws) where
         → r ≡ true → take n vs ≡ jumped_words C (take n ws) h b
     jumped_here lt y u k i a f = jumped_by (exit y a) (exit_here C ws n b p.labelled.fits lt y u k i a f)
 
-    pub jumped_past : n ≤ b + 1 → (r ≡ true → take n vs ≡ on_part (h + 1) b (body_word C g none) (take n ws))
+    pub jumped_past : n ≤ b + 1 → (r ≡ true → take n vs ≡ on_part (h + 1) b (body_word C g None) (take n ws))
         → r ≡ true → take n vs ≡ jumped_words C (take n ws) h b
-    jumped_past ge = jumped_by none (exit_past C ws n b p.labelled.fits ge)
+    jumped_past ge = jumped_by None (exit_past C ws n b p.labelled.fits ge)
 
   pub rewritten_words : (i : ℕ) → i ≡ indent_at (get_or ws h 0) → (w : ℕ) → w ≡ close_word (get_or ws b 0) (i + 1) → (r : Bool) (vs : List ℕ)
       → (r ≡ true → take n vs ≡ jumped_words C (take n ws) h b) → r ≡ true → take n (set vs b w) ≡ body_words C (take n ws) h b

@@ -3,6 +3,7 @@
 --   find_inside, find_none, find_at                       the back edge is looked for
 --   turn_plain, turn_beyond, turn_calls, turn_loop        a turn
 -- Assumes nothing.
+use Rattle.std.specs.Prelude.{Option, Some, None}
 use Prim.Native.Nat.{ℕ, ◌+◌, ◌/◌, ◌≤◌, ◌<◌}
 use mathlib.Core.Path.{◌≡◌, refl, sym, ap, ap₂, ◌∙◌}
 use mathlib.Core.List.{List}
@@ -23,9 +24,6 @@ use Rattle.plan.specs.Plan.{indent_at, piece_at, line_of, render}
 use Rattle.plan.specs.Changes.{is_line, Ahead}
 use Rattle.plan.specs.Source.{Source}
 use Rattle.plan.proofs.Rendered.{length_render, indent_line}
-use Rattle.pseudo_opt.specs.Places.{found}
-use Rattle.pseudo_opt.specs.declared.Found.{Found}
-use Rattle.pseudo_opt.specs.declared.Found.TheVariants.{At, Nothing}
 use Rattle.loops.proofs.Lists.{all_from}
 use Rattle.gotos.specs.Edges.{back_from}
 use Rattle.gotos.proofs.EdgeRules.{back_edge_is, line_at}
@@ -69,8 +67,8 @@ module _ (l t x ws : List ℕ) (n h b : ℕ) (p : Labelled l t x n h ws) where
 -- The back edge is looked for
 
 module _ (l t x ws : List ℕ) (n h : ℕ) (p : Labelled l t x n h ws) (s : ℕ) (d : s ≡ piece_at (get_or ws h 0) / 4) (g : List ℕ)
-    (e : g ≡ (token (line (listing l t x) s) 0).text) (i : ℕ) (u : i ≡ indent_at (get_or ws h 0)) (r : Found)
-    (f : found r ≡ back_from (render (listing l t x) (take n ws)) g i (i + 1) (h + 1)) where
+    (e : g ≡ (token (line (listing l t x) s) 0).text) (i : ℕ) (u : i ≡ indent_at (get_or ws h 0)) (r : Option ℕ)
+    (f : r ≡ back_from (render (listing l t x) (take n ws)) g i (i + 1) (h + 1)) where
   abbrev K : List Line
   K = render (listing l t x) (take n ws)
 
@@ -84,26 +82,26 @@ module _ (l t x ws : List ℕ) (n h : ℕ) (p : Labelled l t x n h ws) (s : ℕ)
   name_of = ap label (head_at (listing l t x)) ∙ sym (e ∙ label_text (listing l t x) (get_or ws h 0) p.label s d)
 
   edge_of : (M : List Line) → label (line M h) ≡ g → (line M h).indent ≡ i
-      → ((j : ℕ) → back_from M g i (i + 1) j ≡ back_from K g i (i + 1) j) → back_edge M h ≡ found r
+      → ((j : ℕ) → back_from M g i (i + 1) j ≡ back_from K g i (i + 1) j) → back_edge M h ≡ r
   edge_of M a c q =
       back_edge_is M h ∙ (ap₂ (λ z k. back_from M z k (k + 1) (h + 1)) a c ∙ (q (h + 1) ∙ sym f))
 
-  edge_lines : (S : List Line) → Source S l t x → back_edge (render S (take n ws)) h ≡ found r
+  edge_lines : (S : List Line) → Source S l t x → back_edge (render S (take n ws)) h ≡ r
   edge_lines S R =
       let M = render S (take n ws) in
       let same = bare_render S l t x R (take n ws) in
       edge_of M (head_bare M K same h ∙ name_of) (indent_of S) (back_bare M K same g i (i + 1))
 
-  pub find_inside : (b : ℕ) → r ≡ At b → (h < b) × (b < n)
+  pub find_inside : (b : ℕ) → r ≡ Some b → (h < b) × (b < n)
   find_inside b q =
       let z = back_edge_inside K h b (edge_of K name_of (indent_of (listing l t x)) (λ j. refl) ∙ rw q) in
       (z.0, omega (arith, z.1, length_render (listing l t x) (take n ws), length-take-le n ws p.fits))
 
-  pub find_none : r ≡ Nothing → TurnOf l t x (λ M. looped M h) n h ws (Go n) ws
+  pub find_none : r ≡ None → TurnOf l t x (λ M. looped M h) n h ws (Go n) ws
   unfolding looped
   find_none q = record { after = stays n h ws p.ahead; turn = λ S R. rw (edge_lines S R, q, looped) }
 
-  pub find_at : (b : ℕ) → r ≡ At b → (a : Answer) (vs : List ℕ) → TurnOf l t x (λ M. loop_at M h b) n h ws a vs
+  pub find_at : (b : ℕ) → r ≡ Some b → (a : Answer) (vs : List ℕ) → TurnOf l t x (λ M. loop_at M h b) n h ws a vs
       → TurnOf l t x (λ M. looped M h) n h ws a vs
   unfolding looped loop_at
   find_at b q a vs z = record { after = z.after; turn = λ S R. z.turn S R ∙ rw (edge_lines S R, q, looped) }

@@ -10,30 +10,21 @@ use crate::rewriting::{make_loop, rewrite};
 use crate::turns::Turn;
 use enters::enters;
 use gotos::edges::back_edge;
-use model::columns::text_at;
+use model::listing::Listing;
 use plan::{indent, source};
-use pseudo_opt::Found;
 
 // The loop from the label at place h to its back edge at place b is made. The header stands one deeper than the label, and its leading test is looked
 // for one deeper still.
-fn rebuild(
-    lines: &[u32],
-    tokens: &[u32],
-    text: &[u8],
-    plan: &mut [usize],
-    n: usize,
-    h: usize,
-    b: usize,
-) -> Turn
-    requires { Loop lines.now tokens.now text.now n h b plan.old }
-    ensures { TurnOf lines.now tokens.now text.now (λ M. rewritten M h b) n h plan.old result plan.new }
+fn rebuild(code: &Listing, plan: &mut [usize], n: usize, h: usize, b: usize) -> Turn
+    requires { Loop code.now.lines.now code.now.tokens.now code.now.text.now n h b plan.old }
+    ensures { TurnOf code.now.lines.now code.now.tokens.now code.now.text.now (λ M. rewritten M h b) n h plan.old result plan.new }
 {
     let v = plan[h];
     if indent(v) == 254 {
         return Turn::Beyond;
     }
-    if rewrite(lines, tokens, text, plan, n, h, b) {
-        let m = make_loop(lines, tokens, text, plan, n, h);
+    if rewrite(code, plan, n, h, b) {
+        let m = make_loop(code, plan, n, h);
         Turn::Go(m)
     } else {
         Turn::Beyond
@@ -41,26 +32,17 @@ fn rebuild(
 }
 
 // The back edge of the label at place h is at b: the loop is made where it has a body and no goto from outside leads in.
-fn loop_at(
-    lines: &[u32],
-    tokens: &[u32],
-    text: &[u8],
-    plan: &mut [usize],
-    n: usize,
-    h: usize,
-    b: usize,
-    marks: &[u16],
-) -> Turn
-    requires labelled { Labelled lines.now tokens.now text.now n h plan.old }
+fn loop_at(code: &Listing, plan: &mut [usize], n: usize, h: usize, b: usize, marks: &[u16]) -> Turn
+    requires labelled { Labelled code.now.lines.now code.now.tokens.now code.now.text.now n h plan.old }
     requires h_lt_b { (h < b) × (b < n) × (indent_at (get_or plan.old h 0) < 255) }
-    requires marked { Marked lines.now tokens.now text.now marks.now }
-    ensures { TurnOf lines.now tokens.now text.now (λ M. loop_at M h b) n h plan.old result plan.new }
+    requires marked { Marked code.now.lines.now code.now.tokens.now code.now.text.now marks.now }
+    ensures { TurnOf code.now.lines.now code.now.tokens.now code.now.text.now (λ M. loop_at M h b) n h plan.old result plan.new }
 {
     if h + 1 < b {
-        if enters(lines, tokens, text, plan, n, h, b, marks) {
+        if enters(code, plan, n, h, b, marks) {
             Turn::Go(n)
         } else {
-            rebuild(lines, tokens, text, plan, n, h, b)
+            rebuild(code, plan, n, h, b)
         }
     } else {
         Turn::Go(n)
@@ -68,25 +50,17 @@ fn loop_at(
 }
 
 // The label at place h: its back edge is looked for.
-pub fn find_loop(
-    lines: &[u32],
-    tokens: &[u32],
-    text: &[u8],
-    plan: &mut [usize],
-    n: usize,
-    h: usize,
-    marks: &[u16],
-) -> Turn
-    requires labelled { Labelled lines.now tokens.now text.now n h plan.old }
+pub fn find_loop(code: &Listing, plan: &mut [usize], n: usize, h: usize, marks: &[u16]) -> Turn
+    requires labelled { Labelled code.now.lines.now code.now.tokens.now code.now.text.now n h plan.old }
     requires h_bound { indent_at (get_or plan.old h 0) < 255 }
-    requires marked { Marked lines.now tokens.now text.now marks.now }
-    ensures { TurnOf lines.now tokens.now text.now (λ M. looped M h) n h plan.old result plan.new }
+    requires marked { Marked code.now.lines.now code.now.tokens.now code.now.text.now marks.now }
+    ensures { TurnOf code.now.lines.now code.now.tokens.now code.now.text.now (λ M. looped M h) n h plan.old result plan.new }
 {
     let v = plan[h];
-    let head = text_at(lines, tokens, text, source(v), 0);
+    let head = code.text_at(source(v), 0);
     let ind = indent(v);
-    let Found::At(b) = back_edge(lines, tokens, text, plan, n, h + 1, head, ind, ind + 1) else {
+    let Some(b) = back_edge(code, plan, n, h + 1, head, ind, ind + 1) else {
         return Turn::Go(n);
     };
-    loop_at(lines, tokens, text, plan, n, h, b, marks)
+    loop_at(code, plan, n, h, b, marks)
 }

@@ -1,8 +1,8 @@
 // The lines of a loop rewritten: its body, its back edge and its label.
 ghost use Rattle.std.specs.Prelude.{◌≡◌, true, ◌+◌, ◌≤◌, ◌<◌, length, get_or, take};
 ghost use Rattle.definitions.specs.Lists.{all, part};
-ghost use Rattle.definitions.specs.Columns.{listing};
 ghost use Rattle.definitions.specs.Questions.{question_2};
+ghost use Rattle.model.specs.Listings.{listing_of};
 ghost use Rattle.plan.specs.Plan.{indent_at};
 ghost use Rattle.plan.specs.Changes.{Ahead};
 ghost use Rattle.gotos.specs.Body.{moves_in};
@@ -12,7 +12,7 @@ use goto_for::to_for;
 use gotos::body::rewrite_body;
 use gotos::headers::{leads, make_header};
 use gotos::words::label_word;
-use model::columns::text_at;
+use model::listing::Listing;
 use plan::{indent, source};
 
 // The word of a closing brace at indent d in place of the line of w.
@@ -25,70 +25,47 @@ fn close_word(w: usize, d: usize) -> usize
 
 // The body of the loop from the label at place h to its back edge at place b: gotos to the label become `continue;`, gotos to a label right
 // behind the loop `break;`, and every line moves in one. False where one of them has indent 255.
-fn rewrite_jumps(
-    lines: &[u32],
-    tokens: &[u32],
-    text: &[u8],
-    plan: &mut [usize],
-    n: usize,
-    h: usize,
-    b: usize,
-) -> bool
-    requires { Loop lines.now tokens.now text.now n h b plan.old }
+fn rewrite_jumps(code: &Listing, plan: &mut [usize], n: usize, h: usize, b: usize) -> bool
+    requires { Loop code.now.lines.now code.now.tokens.now code.now.text.now n h b plan.old }
     ensures value { result ≡ all moves_in (part (h + 1) b (take n plan.old)) }
-    ensures plan_after { let C = listing lines.now tokens.now text.now in
+    ensures plan_after { let C = listing_of code.now in
         result ≡ true → take n plan.new ≡ jumped_words C (take n plan.old) h b }
 {
     let v = plan[h];
-    let head = text_at(lines, tokens, text, source(v), 0);
+    let head = code.text_at(source(v), 0);
     if b + 1 < n {
         let w = plan[b + 1];
-        let leaves = label_word(lines, tokens, text, w);
-        let exit = text_at(lines, tokens, text, source(w), 0);
-        rewrite_body(lines, tokens, text, plan, n, h + 1, b, head, exit, leaves)
+        let leaves = label_word(code, w);
+        let exit = code.text_at(source(w), 0);
+        rewrite_body(code, plan, n, h + 1, b, head, exit, leaves)
     } else {
-        rewrite_body(lines, tokens, text, plan, n, h + 1, b, head, head, false)
+        rewrite_body(code, plan, n, h + 1, b, head, head, false)
     }
 }
 
 // The same, and the back edge becomes a closing brace.
-pub fn rewrite(
-    lines: &[u32],
-    tokens: &[u32],
-    text: &[u8],
-    plan: &mut [usize],
-    n: usize,
-    h: usize,
-    b: usize,
-) -> bool
-    requires { Loop lines.now tokens.now text.now n h b plan.old }
+pub fn rewrite(code: &Listing, plan: &mut [usize], n: usize, h: usize, b: usize) -> bool
+    requires { Loop code.now.lines.now code.now.tokens.now code.now.text.now n h b plan.old }
     ensures value { result ≡ all moves_in (part (h + 1) b (take n plan.old)) }
-    ensures plan_after { let C = listing lines.now tokens.now text.now in
+    ensures plan_after { let C = listing_of code.now in
         result ≡ true → take n plan.new ≡ body_words C (take n plan.old) h b }
 {
     let v = plan[h];
     let w = plan[b];
-    let moved = rewrite_jumps(lines, tokens, text, plan, n, h, b);
+    let moved = rewrite_jumps(code, plan, n, h, b);
     plan[b] = close_word(w, indent(v) + 1);
     moved
 }
 
 // The label at place h becomes a while header, over the leading test behind it where there is one, and a for header where it can.
-pub fn make_loop(
-    lines: &[u32],
-    tokens: &[u32],
-    text: &[u8],
-    plan: &mut [usize],
-    n: usize,
-    h: usize,
-) -> usize
-    requires h_bound { (h + 1 < n) × (n ≤ length plan.old) × (question_2 lines.now tokens.now text.now ≡ true) × (indent_at (get_or plan.old h 0) < 255) }
+pub fn make_loop(code: &Listing, plan: &mut [usize], n: usize, h: usize) -> usize
+    requires h_bound { (h + 1 < n) × (n ≤ length plan.old) × (question_2 code.now.lines.now code.now.tokens.now code.now.text.now ≡ true) × (indent_at (get_or plan.old h 0) < 255) }
     requires ahead { Ahead h (take n plan.old) }
-    ensures { Headed lines.now tokens.now text.now n h plan.old result plan.new }
+    ensures { Headed code.now.lines.now code.now.tokens.now code.now.text.now n h plan.old result plan.new }
 {
     let v = plan[h];
     let t = plan[h + 1];
-    let tested = leads(lines, tokens, text, t, indent(v) + 1);
+    let tested = leads(code, t, indent(v) + 1);
     let m = make_header(plan, n, h, tested);
-    to_for(lines, tokens, text, plan, m, h)
+    to_for(code, plan, m, h)
 }

@@ -13,6 +13,7 @@ use crate::labels::find_loop;
 use enters::marks::mark_lines;
 use gotos::words::label_word;
 use loops::turns::Planned;
+use model::listing::Listing;
 use plan::indent;
 
 // What one turn does: go on at the next line with so many lines, or work out an indent beyond 0 to 255.
@@ -23,42 +24,34 @@ pub enum Turn {
 }
 
 // One turn at place h.
-fn goto_turn(
-    lines: &[u32],
-    tokens: &[u32],
-    text: &[u8],
-    plan: &mut [usize],
-    n: usize,
-    h: usize,
-    marks: &[u16],
-) -> Turn
-    requires h_lt_n { (h < n) × (n ≤ 1024) × (n ≤ length plan.old) × (question_2 lines.now tokens.now text.now ≡ true) }
+fn goto_turn(code: &Listing, plan: &mut [usize], n: usize, h: usize, marks: &[u16]) -> Turn
+    requires h_lt_n { (h < n) × (n ≤ 1024) × (n ≤ length plan.old) × (question_2 code.now.lines.now code.now.tokens.now code.now.text.now ≡ true) }
     requires ahead { Ahead h (take n plan.old) }
-    requires marked { Marked lines.now tokens.now text.now marks.now }
-    ensures { TurnOf lines.now tokens.now text.now (λ M. goto_turn M h) n h plan.old result plan.new }
+    requires marked { Marked code.now.lines.now code.now.tokens.now code.now.text.now marks.now }
+    ensures { TurnOf code.now.lines.now code.now.tokens.now code.now.text.now (λ M. goto_turn M h) n h plan.old result plan.new }
 {
     let v = plan[h];
-    if label_word(lines, tokens, text, v) {
+    if label_word(code, v) {
         if indent(v) == 255 {
             return Turn::Beyond;
         }
-        return find_loop(lines, tokens, text, plan, n, h, marks);
+        return find_loop(code, plan, n, h, marks);
     }
     Turn::Go(n)
 }
 
 // The pass, turn by turn, while two lines stand behind the line.
-fn run(lines: &[u32], tokens: &[u32], text: &[u8], plan: &mut [usize], marks: &[u16]) -> Planned
-    requires lines_len_bound { (length lines.now ≤ 1024) × (length lines.now ≤ length plan.old) × (question_2 lines.now tokens.now text.now ≡ true) }
-    requires marked { Marked lines.now tokens.now text.now marks.now }
-    ensures result_after { (S : List Line) → Source S lines.now tokens.now text.now → planned S plan.new result ≡ recover_goto_loops S }
-    ensures emitted { Emitted (length lines.now) plan.new result }
+fn run(code: &Listing, plan: &mut [usize], marks: &[u16]) -> Planned
+    requires lines_len_bound { (length code.now.lines.now ≤ 1024) × (length code.now.lines.now ≤ length plan.old) × (question_2 code.now.lines.now code.now.tokens.now code.now.text.now ≡ true) }
+    requires marked { Marked code.now.lines.now code.now.tokens.now code.now.text.now marks.now }
+    ensures result_after { (S : List Line) → Source S code.now.lines.now code.now.tokens.now code.now.text.now → planned S plan.new result ≡ recover_goto_loops S }
+    ensures emitted { Emitted (length code.now.lines.now) plan.new result }
 {
-    plan::start(lines, plan);
-    let mut n = lines.len();
+    plan::start(code.lines, plan);
+    let mut n = code.lines.len();
     let mut h = 0;
     while h + 2 < n {
-        match goto_turn(lines, tokens, text, plan, n, h, marks) {
+        match goto_turn(code, plan, n, h, marks) {
             Turn::Go(m) => {
                 n = m;
             }
@@ -70,12 +63,12 @@ fn run(lines: &[u32], tokens: &[u32], text: &[u8], plan: &mut [usize], marks: &[
 }
 
 // The pass: a mark for each line, by which the turns pass over those without a goto, then the turns.
-pub fn plan_goto_loops(lines: &[u32], tokens: &[u32], text: &[u8], plan: &mut [usize]) -> Planned
-    requires { (length lines.now ≤ 1024) × (length lines.now ≤ length plan.old) × (question_2 lines.now tokens.now text.now ≡ true) }
-    ensures result_after { (S : List Line) → Source S lines.now tokens.now text.now → planned S plan.new result ≡ recover_goto_loops S }
-    ensures emitted { Emitted (length lines.now) plan.new result }
+pub fn plan_goto_loops(code: &Listing, plan: &mut [usize]) -> Planned
+    requires { (length code.now.lines.now ≤ 1024) × (length code.now.lines.now ≤ length plan.old) × (question_2 code.now.lines.now code.now.tokens.now code.now.text.now ≡ true) }
+    ensures result_after { (S : List Line) → Source S code.now.lines.now code.now.tokens.now code.now.text.now → planned S plan.new result ≡ recover_goto_loops S }
+    ensures emitted { Emitted (length code.now.lines.now) plan.new result }
 {
     let mut marks = [0u16; 1024];
-    mark_lines(lines, tokens, text, &mut marks);
-    run(lines, tokens, text, plan, &marks)
+    mark_lines(code, &mut marks);
+    run(code, plan, &marks)
 }

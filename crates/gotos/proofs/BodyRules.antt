@@ -5,11 +5,11 @@
 --   word_parts                  the parts of the word of a line without a header
 --   body_line                   the word stands for the line that `jump` gives, moved in by one
 -- Assumes nothing.
+use Rattle.std.specs.Prelude.{Option, None, Some}
 use Prim.Native.Nat.{ℕ, ◌+◌, ◌-◌, ◌*◌, ◌/◌, ◌%◌, ◌≤◌, ◌<◌}
 use mathlib.Core.Path.{◌≡◌, refl, sym, ap, ◌∙◌}
 use mathlib.Core.Bool.{Bool, true, false, cond}
 use mathlib.Core.List.{List}
-use mathlib.Core.Option.{Option, none, some}
 use native.Mathlib.Omega.{arith}
 use native.Mathlib.Numerals.{add-one}
 use native.Mathlib.Decide.{dec_le}
@@ -27,35 +27,33 @@ use Rattle.plan.specs.Source.{Source}
 use Rattle.plan.proofs.Loops.{on_step, on_none, all_step, no_exit}
 use Rattle.plan.proofs.Rendered.{kept_line}
 use Rattle.pseudo_opt.specs.Places.{text_at}
-use Rattle.pseudo_opt.specs.declared.Found.{Found}
-use Rattle.pseudo_opt.specs.declared.Found.TheVariants.{At, Nothing}
 use Rattle.pieces.specs.Pieces.{piece, origin}
 use Rattle.pieces.proofs.Forms.{target_other}
 use Rattle.gotos.specs.Body.{exit, leaves, jump_form, moves_in, body_word}
 
 -- What a piece becomes
 
-goes_by : (p : List ℕ → Bool) (l : Line) (o : Option (List ℕ)) → goto_target l ≡ o → goes_to p l ≡ (elim o [ none ↦ false | some t ↦ p t ])
+goes_by : (p : List ℕ → Bool) (l : Line) (o : Option (List ℕ)) → goto_target l ≡ o → goes_to p l ≡ (elim o [ None ↦ false | Some t ↦ p t ])
 unfolding goes_to
 goes_by p l o e = rw (e, goes_to)
 
-module _ (C : List Line) (p : ℕ) (h x : List ℕ) (b : Bool) (f : Found) (e : text_at (origin C p) f ≡ goto_target (piece C p)) where
-  pub form_none : f ≡ Nothing → 0 ≡ jump_form h (exit b x) (piece C p)
+module _ (C : List Line) (p : ℕ) (h x : List ℕ) (b : Bool) (f : Option ℕ) (e : text_at (origin C p) f ≡ goto_target (piece C p)) where
+  pub form_none : f ≡ None → 0 ≡ jump_form h (exit b x) (piece C p)
   unfolding jump_form
-  form_none q = let g : goto_target (piece C p) ≡ none = sym e ∙ rw q in rw (goes_by (λ t. t ≟ h) (piece C p) none g, goes_by (leaves (exit b x)) (piece C p) none g)
+  form_none q = let g : goto_target (piece C p) ≡ None = sym e ∙ rw q in rw (goes_by (λ t. t ≟ h) (piece C p) None g, goes_by (leaves (exit b x)) (piece C p) None g)
 
-  module _ (j : ℕ) (q : f ≡ At j) (s : List ℕ) (t : s ≡ (token (origin C p) j).text) (y : Bool) (z : y ≡ (s ≟ h)) where
-    target : goto_target (piece C p) ≡ some s
+  module _ (j : ℕ) (q : f ≡ Some j) (s : List ℕ) (t : s ≡ (token (origin C p) j).text) (y : Bool) (z : y ≡ (s ≟ h)) where
+    target : goto_target (piece C p) ≡ Some s
     target = sym e ∙ rw (q, t)
 
     pub form_continue : y ≡ true → 1 ≡ jump_form h (exit b x) (piece C p)
     unfolding jump_form
-    form_continue g = rw (goes_by (λ t. t ≟ h) (piece C p) (some s) target, ← z, g)
+    form_continue g = rw (goes_by (λ t. t ≟ h) (piece C p) (Some s) target, ← z, g)
 
     module _ (g : y ≡ false) where
       pub form_stays : b ≡ false → 0 ≡ jump_form h (exit b x) (piece C p)
       unfolding jump_form
-      form_stays k = rw (goes_by (λ t. t ≟ h) (piece C p) (some s) target, ← z, g, goes_by (leaves (exit b x)) (piece C p) (some s) target, k)
+      form_stays k = rw (goes_by (λ t. t ≟ h) (piece C p) (Some s) target, ← z, g, goes_by (leaves (exit b x)) (piece C p) (Some s) target, k)
 
       module _ (k : b ≡ true) (u : List ℕ) (v : u ≡ (token (origin C p) j).text) (m : Bool) (w : m ≡ (u ≟ x)) where
         same : m ≡ (s ≟ x)
@@ -63,11 +61,11 @@ module _ (C : List Line) (p : ℕ) (h x : List ℕ) (b : Bool) (f : Found) (e : 
 
         pub form_break : m ≡ true → 2 ≡ jump_form h (exit b x) (piece C p)
         unfolding jump_form
-        form_break n = rw (goes_by (λ t. t ≟ h) (piece C p) (some s) target, ← z, g, goes_by (leaves (exit b x)) (piece C p) (some s) target, k, ← same, n)
+        form_break n = rw (goes_by (λ t. t ≟ h) (piece C p) (Some s) target, ← z, g, goes_by (leaves (exit b x)) (piece C p) (Some s) target, k, ← same, n)
 
         pub form_other : m ≡ false → 0 ≡ jump_form h (exit b x) (piece C p)
         unfolding jump_form
-        form_other n = rw (goes_by (λ t. t ≟ h) (piece C p) (some s) target, ← z, g, goes_by (leaves (exit b x)) (piece C p) (some s) target, k, ← same, n)
+        form_other n = rw (goes_by (λ t. t ≟ h) (piece C p) (Some s) target, ← z, g, goes_by (leaves (exit b x)) (piece C p) (Some s) target, k, ← same, n)
 
 pub ruleset forms = (form_none, form_continue, form_stays, form_break, form_other)
 
@@ -138,9 +136,9 @@ goes_same : (q : List ℕ → Bool) (l m : Line) → l.tokens ≡ m.tokens → g
 unfolding goes_to goto_target
 goes_same q l m e = rw (e, goes_to, goto_target)
 
-exits : (o : Option (List ℕ)) (l : Line) → goes_to (λ t. elim o [ none ↦ false | some e ↦ t ≟ e ]) l ≡ goes_to (leaves o) l
-exits none l = refl
-exits (some e) l = refl
+exits : (o : Option (List ℕ)) (l : Line) → goes_to (λ t. elim o [ None ↦ false | Some e ↦ t ≟ e ]) l ≡ goes_to (leaves o) l
+exits None l = refl
+exits (Some e) l = refl
 
 module _ (l t x : List ℕ) (S : List Line) (R : Source S l t x) where
   piece_source : (p : ℕ) → piece_tokens S (piece_of p) ≡ (piece (listing l t x) p).tokens
@@ -166,7 +164,7 @@ module _ (l t x : List ℕ) (S : List Line) (R : Source S l t x) where
       where
         go : Dec (piece_at w % 4 ≤ 0) → piece_at w % 4 ≡ 0
         go (yes z) = omega arith
-        go (no z) = true_false {b = false} (sym (goes_by q (piece (listing l t x) (piece_at w)) none (sym (target_other (listing l t x) (piece_at w) (λ y. omega arith)))) ∙ e) refl
+        go (no z) = true_false {b = false} (sym (goes_by q (piece (listing l t x) (piece_at w)) None (sym (target_other (listing l t x) (piece_at w) (λ y. omega arith)))) ∙ e) refl
 
     -- the line of the new word, by its form
     new : (f : ℕ) → piece_at w + f < 4096 → line_of S (indent_at w + 1 + 2048 * (piece_at w + f))

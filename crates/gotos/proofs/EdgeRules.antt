@@ -4,10 +4,11 @@
 --   back_edge_is             the search behind a label is `back_edge`
 --   edge_start, edge_next, edge_left, edge_end    the loop: what is left to look at, or the place so far where that gives none
 -- Assumes nothing.
+use Rattle.std.specs.Prelude.{Option, None, Some}
+use Rattle.std.specs.Option.{option_map}
 use mathlib.Core.Path.{◌≡◌, refl, sym, ap, ◌∙◌}
 use mathlib.Core.Bool.{Bool, true, false, cond}
 use mathlib.Core.List.{List}
-use mathlib.Core.Option.{Option, none, some, map}
 use Prim.Native.Nat.{ℕ, suc, ◌+◌, ◌≤◌, ◌<◌}
 use native.Mathlib.Nat.{add-zero}
 use native.Mathlib.Omega.{arith}
@@ -27,7 +28,7 @@ unfolding back_from
 back_edge_is L h = refl
 
 module _ (o : Option ℕ) (b : Bool) (j : ℕ) where
-  pub later_yes : b ≡ true → some j ≡ later o b j
+  pub later_yes : b ≡ true → Some j ≡ later o b j
   later_yes e = rw e
 
   pub later_no : b ≡ false → o ≡ later o b j
@@ -49,24 +50,24 @@ module _ (C : List Line) (ws : List ℕ) (n j : ℕ) (h : j < n) (le : n ≤ len
 -- the last behind, or the one at hand
 module _ (Q P : Line → Bool) where
   seek : List Line → ℕ → Option ℕ
-  seek L j = map (j +◌) (last_position P (take_while Q (drop j L)))
+  seek L j = option_map (j +◌) (last_position P (take_while Q (drop j L)))
 
   seek_next : (L : List Line) (j : ℕ) → j < length L → Q (line L j) ≡ true → (best : Option ℕ)
       → or_later best (seek L j) ≡ or_later (later best (P (line L j)) j) (seek L (j + 1))
   unfolding seek take_while last_position
   seek_next L j h e best = rw (drop_step no_line L j h, e) (go (P (line L j)) (last_position P (take_while Q (drop (j + 1) L))))
     where
-      go : (b : Bool) (o : Option ℕ) → or_later best (map (j +◌) (elim o [ some k ↦ some (suc k) | none ↦ cond b (some 0) none ]))
-          ≡ or_later (cond b (some j) best) (map ((j + 1) +◌) o)
-      go true none = ap some (add-zero j)
-      go false none = refl
-      go b (some k) = ap some (omega arith)
+      go : (b : Bool) (o : Option ℕ) → or_later best (option_map (j +◌) (elim o [ Some k ↦ Some (suc k) | None ↦ cond b (Some 0) None ]))
+          ≡ or_later (cond b (Some j) best) (option_map ((j + 1) +◌) o)
+      go true None = ap Some (add-zero j)
+      go false None = refl
+      go b (Some k) = ap Some (omega arith)
 
-  seek_left : (L : List Line) (j : ℕ) → j < length L → Q (line L j) ≡ false → seek L j ≡ none
+  seek_left : (L : List Line) (j : ℕ) → j < length L → Q (line L j) ≡ false → seek L j ≡ None
   unfolding seek take_while last_position
   seek_left L j h e = rw (drop_step no_line L j h, e)
 
-  seek_end : (L : List Line) (j : ℕ) → length L ≤ j → seek L j ≡ none
+  seek_end : (L : List Line) (j : ℕ) → length L ≤ j → seek L j ≡ None
   unfolding seek take_while last_position
   seek_end L j h = rw (drop_end L j h)
 
@@ -93,11 +94,11 @@ module _ (C : List Line) (ws : List ℕ) (n : ℕ) (le : n ≤ length ws) (g : L
         let m : length (take n ws) ≡ n = length-take-le n ws le in
         sym (inv ∙ rw (seek_end (in_block ind) (is_back g d) (render C (take n ws)) j (omega (arith, length_render C (take n ws)))))
 
-  pub edge_start : (from : ℕ) → back_from (render C (take n ws)) g ind d from ≡ or_later none (back_from (render C (take n ws)) g ind d from)
+  pub edge_start : (from : ℕ) → back_from (render C (take n ws)) g ind d from ≡ or_later None (back_from (render C (take n ws)) g ind d from)
   edge_start from = go (back_from (render C (take n ws)) g ind d from)
     where
-      go : (o : Option ℕ) → o ≡ or_later none o
-      go none = refl
-      go (some k) = refl
+      go : (o : Option ℕ) → o ≡ or_later None o
+      go None = refl
+      go (Some k) = refl
 
 pub ruleset edges = (edge_start, edge_next, edge_left, edge_end)

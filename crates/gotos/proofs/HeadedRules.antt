@@ -6,11 +6,11 @@
 --   made_tested, made_plain             the plan with the header
 --   head_line_always, head_line_leading the word stands for the header of `headed`
 -- Assumes nothing.
+use Rattle.std.specs.Prelude.{Option, None, Some}
 use Prim.Native.Nat.{ℕ, ◌+◌, ◌-◌, ◌*◌, ◌/◌, ◌<◌}
 use mathlib.Core.Path.{◌≡◌, refl, sym, ap, ◌∙◌}
 use mathlib.Core.Bool.{Bool, true, false, ◌&&◌, cond}
 use mathlib.Core.List.{List}
-use mathlib.Core.Option.{Option, none, some}
 use native.Mathlib.Omega.{arith}
 use borrow.Author.Tests.{eq-eqb, ne_eqb}
 use lib.Dec.{eqb}
@@ -24,44 +24,42 @@ use Rattle.definitions.specs.Passes.{while_head}
 use Rattle.definitions.specs.RecoverGotoLoops.{leading_test, one}
 use Rattle.plan.specs.Plan.{piece_of, piece_line, piece_tokens, test_tokens, while_tokens, header_tokens, header_of, planned, plan_of, word, indent_at, header_at, piece_at, line_of}
 use Rattle.plan.proofs.Rendered.{kept_line, plan_word}
-use Rattle.pseudo_opt.specs.declared.Found.{Found}
-use Rattle.pseudo_opt.specs.declared.Found.TheVariants.{At, Nothing}
 use Rattle.pieces.specs.Pieces.{piece, origin}
 use Rattle.pieces.specs.Leading.{leading as test_of}
 use Rattle.gotos.specs.Headed.{head_word, headed_words, fewer}
 
 -- A leading test
 
-by_indent : (a b : Option ℕ) (i d : ℕ) (ts : List Token) → leading_test (pseudo_line a i ts) d ≡ cond (eqb i (d + 1)) (leading_test (pseudo_line b 1 ts) 0) none
+by_indent : (a b : Option ℕ) (i d : ℕ) (ts : List Token) → leading_test (pseudo_line a i ts) d ≡ cond (eqb i (d + 1)) (leading_test (pseudo_line b 1 ts) 0) None
 unfolding leading_test
 by_indent a b i d ts = go (eqb i (d + 1))
   where
     go : (e : Bool) → (require ((e && is_kw (ascii "if") (token (pseudo_line a i ts) 0)) && ends_with (ascii ") break;") (text ts)) >>= λ _.
         position (is_kw (ascii "break")) ts >>= λ g. first (part 1 g ts) >>= λ opening. require (starts_with (ascii " (") opening.text) >>= λ _.
-        last (on_first (cut_front 2) (part 1 g ts)) >>= λ end. require (ends_with (ascii ") ") end.text) >>= λ _. some (negate_cond (cut 2 2 (part 1 g ts))))
+        last (on_first (cut_front 2) (part 1 g ts)) >>= λ end. require (ends_with (ascii ") ") end.text) >>= λ _. Some (negate_cond (cut 2 2 (part 1 g ts))))
         ≡ cond e (require (is_kw (ascii "if") (token (pseudo_line a i ts) 0) && ends_with (ascii ") break;") (text ts)) >>= λ _.
         position (is_kw (ascii "break")) ts >>= λ g. first (part 1 g ts) >>= λ opening. require (starts_with (ascii " (") opening.text) >>= λ _.
-        last (on_first (cut_front 2) (part 1 g ts)) >>= λ end. require (ends_with (ascii ") ") end.text) >>= λ _. some (negate_cond (cut 2 2 (part 1 g ts)))) none
+        last (on_first (cut_front 2) (part 1 g ts)) >>= λ end. require (ends_with (ascii ") ") end.text) >>= λ _. Some (negate_cond (cut 2 2 (part 1 g ts)))) None
     go true = refl
     go false = refl
 
 module _ (C : List Line) (w d i : ℕ) (hd : header_at w ≡ 0) (k : i ≡ indent_at w) where
-  pub leads_by : leading_test (line_of C w) d ≡ cond (eqb (indent_at w) (d + 1)) (leading_test (piece C (piece_at w)) 0) none
-  leads_by = ap (λ m. leading_test m d) (kept_line C w hd) ∙ by_indent (line C (piece_at w / 4)).address none (indent_at w) d (piece_tokens C (piece_of (piece_at w)))
+  pub leads_by : leading_test (line_of C w) d ≡ cond (eqb (indent_at w) (d + 1)) (leading_test (piece C (piece_at w)) 0) None
+  leads_by = ap (λ m. leading_test m d) (kept_line C w hd) ∙ by_indent (line C (piece_at w / 4)).address None (indent_at w) d (piece_tokens C (piece_of (piece_at w)))
 
   pub leads_other : (i ≡ d + 1 → ⊥) → false ≡ is_some (leading_test (line_of C w) d)
   leads_other f =
-      let z : leading_test (line_of C w) d ≡ none = leads_by ∙ rw (← k, ne_eqb i (d + 1) f) in
+      let z : leading_test (line_of C w) d ≡ None = leads_by ∙ rw (← k, ne_eqb i (d + 1) f) in
       rw z
 
-  module _ (f : i ≡ d + 1) (p : ℕ) (q : p ≡ piece_at w) (r : Found) (e : test_of (origin C p) r ≡ leading_test (piece C p) 0) where
+  module _ (f : i ≡ d + 1) (p : ℕ) (q : p ≡ piece_at w) (r : Option ℕ) (e : test_of (origin C p) r ≡ leading_test (piece C p) 0) where
     here : leading_test (line_of C w) d ≡ test_of (origin C p) r
     here = leads_by ∙ rw (← k, eq-eqb i (d + 1) f, ← q) (sym e)
 
-    pub leads_yes : (g : ℕ) → r ≡ At g → true ≡ is_some (leading_test (line_of C w) d)
+    pub leads_yes : (g : ℕ) → r ≡ Some g → true ≡ is_some (leading_test (line_of C w) d)
     leads_yes g z = rw (here, z)
 
-    pub leads_no : r ≡ Nothing → false ≡ is_some (leading_test (line_of C w) d)
+    pub leads_no : r ≡ None → false ≡ is_some (leading_test (line_of C w) d)
     leads_no z = rw (here, z)
 
 pub ruleset leads = (leads_other, leads_yes, leads_no)

@@ -4,8 +4,7 @@
 --   moves_in w          the line can move in by one
 --   body_word C h e w   the line rewritten and moved in by one
 -- Assumes nothing.
-use Rattle.std.specs.Prelude.{if◌then◌else◌, ℕ, ◌+◌, ◌*◌, Bool, false, List, ltb}
-use Rattle.std.proofs.Math.Option.{Option, none, some}
+use Rattle.std.specs.Prelude.{if◌then◌else◌, ℕ, ◌+◌, ◌*◌, Bool, false, List, ltb, Option, None, Some}
 use Rattle.definitions.specs.Lists.{◌≟◌}
 use Rattle.definitions.specs.Model.{Line}
 use Rattle.definitions.specs.RecoverGotoLoops.{goes_to}
@@ -13,11 +12,11 @@ use Rattle.plan.specs.Plan.{indent_at, piece_at}
 use Rattle.pieces.specs.Pieces.{piece}
 
 abbrev pub exit : Bool → List ℕ → Option (List ℕ)
-exit b x = if b then some x else none
+exit b x = if b then Some x else None
 
 abbrev pub leaves : Option (List ℕ) → List ℕ → Bool
-leaves none t = false
-leaves (some e) t = t ≟ e
+leaves None t = false
+leaves (Some e) t = t ≟ e
 
 unfoldable pub jump_form : List ℕ → Option (List ℕ) → Line → ℕ
 jump_form h e l = if goes_to (λ t. t ≟ h) l then 1 else if goes_to (leaves e) l then 2 else 0

@@ -1,48 +1,42 @@
 // The back edge of a label: one look at each line behind it.
 ghost use Rattle.std.specs.Prelude.{◌≡◌, true, ◌≤◌, ◌<◌, length, take};
-ghost use Rattle.definitions.specs.Columns.{listing};
 ghost use Rattle.definitions.specs.Questions.{question_2};
+ghost use Rattle.model.specs.Listings.{listing_of};
 ghost use Rattle.plan.specs.Plan.{render};
-ghost use Rattle.pseudo_opt.specs.Places.{found};
 ghost use Rattle.gotos.specs.Edges.{later, back_from};
 
 use crate::words::{back_word, inside_word};
-use pseudo_opt::Found;
+use model::listing::Listing;
 
 // The place j where b is true, else the place f.
-fn later(f: Found, b: bool, j: usize) -> Found
-    ensures { found result ≡ later (found f) b j }
+fn later(f: Option<usize>, b: bool, j: usize) -> Option<usize>
+    ensures { result ≡ later (f) b j }
 {
-    if b { Found::At(j) } else { f }
+    if b { Some(j) } else { f }
 }
 
 // The last of the first n lines, from place `from` on, that stands at indent d and reads `goto h;`, before the first that is not inside
 // a block at indent `ind`.
 pub fn back_edge(
-    lines: &[u32],
-    tokens: &[u32],
-    text: &[u8],
+    code: &Listing,
     plan: &[usize],
     n: usize,
     from: usize,
     h: &[u8],
     ind: usize,
     d: usize,
-) -> Found
-    requires { (n ≤ length plan.now) × (question_2 lines.now tokens.now text.now ≡ true) }
-    ensures { let C = listing lines.now tokens.now text.now in
-        found result ≡ back_from (render C (take n plan.now)) h.now ind d from }
+) -> Option<usize>
+    requires { (n ≤ length plan.now) × (question_2 code.now.lines.now code.now.tokens.now code.now.text.now ≡ true) }
+    ensures { let C = listing_of code.now in
+        result ≡ back_from (render C (take n plan.now)) h.now ind d from }
 {
-    let mut best = Found::Nothing;
-    let mut j = from;
-    while j < n {
+    let mut best = None;
+    for j in from..n {
         let w = plan[j];
-        if inside_word(lines, tokens, text, ind, w) {
-            best = later(best, back_word(lines, tokens, text, h, d, w), j);
-            j += 1;
-        } else {
+        if !inside_word(code, ind, w) {
             return best;
         }
+        best = later(best, back_word(code, h, d, w), j);
     }
     best
 }

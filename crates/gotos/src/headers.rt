@@ -1,26 +1,26 @@
 // The header of a goto loop: it takes the label's place, and the leading test's. `make_header` takes a step for each line behind it.
 ghost use Rattle.std.specs.Prelude.{◌≡◌, true, ◌+◌, ◌-◌, ◌≤◌, ◌<◌, length, take};
 ghost use Rattle.definitions.specs.Lists.{is_some};
-ghost use Rattle.definitions.specs.Columns.{listing};
 ghost use Rattle.definitions.specs.Questions.{question_2};
 ghost use Rattle.definitions.specs.RecoverGotoLoops.{leading_test};
+ghost use Rattle.model.specs.Listings.{listing_of};
 ghost use Rattle.plan.specs.Plan.{header_at, line_of};
 ghost use Rattle.gotos.specs.Headed.{head_word, headed_words, fewer};
 
+use model::listing::Listing;
 use plan::{indent, piece};
-use pseudo_opt::Found;
 
 // The line of w, which is no header, is a leading test of a header at indent d.
-pub fn leads(lines: &[u32], tokens: &[u32], text: &[u8], w: usize, d: usize) -> bool
-    requires { (header_at w ≡ 0) × (d < 256) × (question_2 lines.now tokens.now text.now ≡ true) }
-    ensures { result ≡ is_some (leading_test (line_of (listing lines.now tokens.now text.now) w) d) }
+pub fn leads(code: &Listing, w: usize, d: usize) -> bool
+    requires { (header_at w ≡ 0) × (d < 256) × (question_2 code.now.lines.now code.now.tokens.now code.now.text.now ≡ true) }
+    ensures { result ≡ is_some (leading_test (line_of (listing_of code.now) w) d) }
 {
     if indent(w) != d + 1 {
         return false;
     }
-    match pieces::leading::leading_test(lines, tokens, text, piece(w)) {
-        Found::At(_) => true,
-        Found::Nothing => false,
+    match pieces::leading::leading_test(code, piece(w)) {
+        Some(_) => true,
+        None => false,
     }
 }
 

@@ -1,50 +1,33 @@
 // What `recover_goto_loops` asks of the line of a word.
 ghost use Rattle.std.specs.Prelude.{◌≡◌, true, ◌&&◌, ◌+◌, eqb};
-ghost use Rattle.definitions.specs.Columns.{listing};
 ghost use Rattle.definitions.specs.Questions.{question_2};
 ghost use Rattle.definitions.specs.Statements.{is_label};
 ghost use Rattle.definitions.specs.RecoverGotoLoops.{in_block, is_back};
+ghost use Rattle.model.specs.Listings.{listing_of};
 ghost use Rattle.plan.specs.Plan.{line_of};
 
+use model::listing::Listing;
 use plan::{header, indent, piece};
 
 // The line of w is a label.
-pub fn label_word(lines: &[u32], tokens: &[u32], text: &[u8], w: usize) -> bool
-    ensures { result ≡ is_label (line_of (listing lines.now tokens.now text.now) w) }
+pub fn label_word(code: &Listing, w: usize) -> bool
+    ensures { result ≡ is_label (line_of (listing_of code.now) w) }
 {
-    if header(w) == 0 {
-        pieces::reading::is_label(lines, tokens, text, piece(w))
-    } else {
-        false
-    }
+    header(w) == 0 && pieces::reading::is_label(code, piece(w))
 }
 
 // The line of w is deeper than `ind`, or as deep and a label.
-pub fn inside_word(lines: &[u32], tokens: &[u32], text: &[u8], ind: usize, w: usize) -> bool
-    ensures { result ≡ in_block ind (line_of (listing lines.now tokens.now text.now) w) }
+pub fn inside_word(code: &Listing, ind: usize, w: usize) -> bool
+    ensures { result ≡ in_block ind (line_of (listing_of code.now) w) }
 {
     let i = indent(w);
-    if ind < i {
-        return true;
-    }
-    if i == ind {
-        label_word(lines, tokens, text, w)
-    } else {
-        false
-    }
+    ind < i || i == ind && label_word(code, w)
 }
 
 // The line of w stands at indent d and reads `goto h;`.
-pub fn back_word(lines: &[u32], tokens: &[u32], text: &[u8], h: &[u8], d: usize, w: usize) -> bool
-    requires { question_2 lines.now tokens.now text.now ≡ true }
-    ensures { result ≡ is_back h.now d (line_of (listing lines.now tokens.now text.now) w) }
+pub fn back_word(code: &Listing, h: &[u8], d: usize, w: usize) -> bool
+    requires { question_2 code.now.lines.now code.now.tokens.now code.now.text.now ≡ true }
+    ensures { result ≡ is_back h.now d (line_of (listing_of code.now) w) }
 {
-    if indent(w) != d {
-        return false;
-    }
-    if header(w) == 0 {
-        pieces::back::is_back(lines, tokens, text, piece(w), h)
-    } else {
-        false
-    }
+    indent(w) == d && header(w) == 0 && pieces::back::is_back(code, piece(w), h)
 }

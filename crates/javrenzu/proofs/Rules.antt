@@ -26,23 +26,18 @@ use Rattle.model.proofs.Formed.{formed_lines}
 use Rattle.write.specs.Holds.{columns}
 use Rattle.json_definitions.specs.JsonCalls.{read_call, write_call}
 use Rattle.json_append.specs.Appended.{Appended}
-use Rattle.pseudo_ssa.specs.declared.Webs.{Webs}
-use Rattle.pseudo_ssa.specs.declared.Webs.TheVariants as web
 use Rattle.pseudo_ssa.specs.Answers.{lent, called as web_called}
-use Rattle.splits.specs.declared.call.Splits.{Splits}
-use Rattle.splits.specs.declared.call.Splits.TheVariants as split
 use Rattle.splits.specs.Call.{lent as split_lent, called as split_called}
 use Rattle.choose.specs.declared.Choice.{Choice}
 use Rattle.choose.specs.declared.Choice.TheVariants as chosen
 use Rattle.choose.specs.Choices.{called as choose_called}
-use Rattle.json_write.specs.declared.Answer.{Answer as Wrote}
-use Rattle.json_write.specs.declared.Answer.TheVariants as wrote
 use Rattle.json_write.specs.Answers.{written as json_written}
-use Rattle.json_read.specs.declared.Answer.{Answer as Read}
-use Rattle.json_read.specs.declared.Answer.TheVariants as read
+use Rattle.std.specs.Prelude.{Some, None, Result, Ok, Err}
+use Rattle.questions.specs.declared.Limits.{Limits as Most}
+use Rattle.questions.specs.declared.Refusal.{Refusal}
+use Rattle.questions.specs.declared.Refusal.TheVariants.{NoRoom, NotJson}
+use Rattle.json_listing.specs.declared.Counts.{Counts}
 use Rattle.json_read.specs.Answers.{called as read_called}
-use Rattle.pass_call.specs.declared.Answer.{Answer as Pass}
-use Rattle.pass_call.specs.declared.Answer.TheVariants as pass
 use Rattle.pass_call.specs.Answers.{passed_with}
 use Rattle.rows.specs.Rows.{all_rows, Short}
 use Rattle.rows.proofs.Accepted.{Asked, web_asked, split_asked, choose_asked, printed}
@@ -68,7 +63,7 @@ module _ (l t x numbers marks out out' : List ℕ) (e : ℕ) (wide : 720896 ≤ 
       (printed (all_rows l t x numbers marks) out out' e f (omega arith)).bytes
 
   module _ (ns ms : List ℕ) (zero_numbers : ns ≡ token_zeros) (zero_marks : ms ≡ mark_zeros) where
-    pub splits_said : (a : Splits) → split_called a numbers marks ≡ split_call l t x (split_lent ns ms) → a ≡ split.Written → told (Text e) out' ≡ splits_answer l t x
+    pub splits_said : (a : Result (Unit {0}) Refusal) → split_called a numbers marks ≡ split_call l t x (split_lent ns ms) → a ≡ Ok tt → told (Text e) out' ≡ splits_answer l t x
     unfolding splits_answer rows_of
     splits_said a q h =
         let z : split_called a numbers marks ≡ split_call l t x split_room = rw (zero_numbers, zero_marks) at q in
@@ -76,7 +71,7 @@ module _ (l t x numbers marks out out' : List ℕ) (e : ℕ) (wide : 720896 ≤ 
         rw (← z, h, rows_taken (split_asked l t x split_room tt y))
 
     module _ (ws space : List ℕ) (zero_space : ws ≡ space_zeros) where
-      pub webs_said : (a : Webs) (sweeps : ℕ) → web_called a numbers marks space ≡ web_call l t x (lent ns ms ws) → a ≡ web.Accepted sweeps
+      pub webs_said : (a : Result ℕ Refusal) (sweeps : ℕ) → web_called a numbers marks space ≡ web_call l t x (lent ns ms ws) → a ≡ Ok sweeps
           → told (Text e) out' ≡ webs_answer l t x
       unfolding webs_answer rows_of
       webs_said a sweeps q h =
@@ -84,32 +79,32 @@ module _ (l t x numbers marks out out' : List ℕ) (e : ℕ) (wide : 720896 ≤ 
           let y : (web_call l t x lent_room).answer ≡ accepted sweeps = rw (← z, h) in
           rw (← z, h, rows_taken (web_asked l t x lent_room sweeps y))
 
-      module _ (a : Choice) (q : choose_called a numbers marks space ≡ choose_call l t x (lent ns ms ws)) where
-        pub chose_webs : (sweeps : ℕ) → a ≡ chosen.ByWebs sweeps → told (ByWebs e) out' ≡ choose_answer l t x
+      module _ (a : Result Choice Refusal) (q : choose_called a numbers marks space ≡ choose_call l t x (lent ns ms ws)) where
+        pub chose_webs : (sweeps : ℕ) → a ≡ Ok (chosen.ByWebs sweeps) → told (ByWebs e) out' ≡ choose_answer l t x
         unfolding choose_answer rows_of
         chose_webs sweeps h =
             let z : choose_called a numbers marks space ≡ choose_call l t x lent_room = rw (zero_numbers, zero_marks, zero_space) at q in
             let y : (choose_call l t x lent_room).answer ≡ accepted (by_webs sweeps) = rw (← z, h) in
             rw (← z, h, rows_taken (choose_asked l t x lent_room (by_webs sweeps) y))
 
-        pub chose_splits : a ≡ chosen.BySplits → told (BySplits e) out' ≡ choose_answer l t x
+        pub chose_splits : a ≡ Ok chosen.BySplits → told (BySplits e) out' ≡ choose_answer l t x
         unfolding choose_answer rows_of
         chose_splits h =
             let z : choose_called a numbers marks space ≡ choose_call l t x lent_room = rw (zero_numbers, zero_marks, zero_space) at q in
             let y : (choose_call l t x lent_room).answer ≡ accepted by_splits = rw (← z, h) in
             rw (← z, h, rows_taken (choose_asked l t x lent_room by_splits y))
 
-module _ (l t x numbers marks ns ms out : List ℕ) (zero_numbers : ns ≡ token_zeros) (zero_marks : ms ≡ mark_zeros) (n : ℕ) where
-  pub splits_refused : (a : Splits) → split_called a numbers marks ≡ split_call l t x (split_lent ns ms) → a ≡ split.Refused n → told (Refused n) out ≡ splits_answer l t x
+module _ (l t x numbers marks ns ms out : List ℕ) (zero_numbers : ns ≡ token_zeros) (zero_marks : ms ≡ mark_zeros) (n : Refusal) where
+  pub splits_refused : (a : Result (Unit {0}) Refusal) → split_called a numbers marks ≡ split_call l t x (split_lent ns ms) → a ≡ Err n → told (Refused n) out ≡ splits_answer l t x
   unfolding splits_answer rows_of
   splits_refused a q h = let z : split_called a numbers marks ≡ split_call l t x split_room = rw (zero_numbers, zero_marks) at q in rw (← z, h)
 
   module _ (ws space : List ℕ) (zero_space : ws ≡ space_zeros) where
-    pub webs_refused : (a : Webs) → web_called a numbers marks space ≡ web_call l t x (lent ns ms ws) → a ≡ web.Refused n → told (Refused n) out ≡ webs_answer l t x
+    pub webs_refused : (a : Result ℕ Refusal) → web_called a numbers marks space ≡ web_call l t x (lent ns ms ws) → a ≡ Err n → told (Refused n) out ≡ webs_answer l t x
     unfolding webs_answer rows_of
     webs_refused a q h = let z : web_called a numbers marks space ≡ web_call l t x lent_room = rw (zero_numbers, zero_marks, zero_space) at q in rw (← z, h)
 
-    pub choose_refused : (a : Choice) → choose_called a numbers marks space ≡ choose_call l t x (lent ns ms ws) → a ≡ chosen.Refused n
+    pub choose_refused : (a : Result Choice Refusal) → choose_called a numbers marks space ≡ choose_call l t x (lent ns ms ws) → a ≡ Err n
         → told (Refused n) out ≡ choose_answer l t x
     unfolding choose_answer rows_of
     choose_refused a q h = let z : choose_called a numbers marks space ≡ choose_call l t x lent_room = rw (zero_numbers, zero_marks, zero_space) at q in rw (← z, h)
@@ -139,49 +134,49 @@ module _ (l t x numbers : List ℕ) where
         let n : length (dot_text (listing l t x) numbers) ≤ 4194304 = omega arith in
         rw (le-leb (length (dot_text (listing l t x) numbers)) 4194304 n, (printed (dot_text (listing l t x) numbers) out out' e f (omega arith)).bytes)
 
-    pub picture_long : 4194304 < e → told (Refused 4) out' ≡ within (dot_text (listing l t x) numbers)
+    pub picture_long : 4194304 < e → told (Refused NoRoom) out' ≡ within (dot_text (listing l t x) numbers)
     unfolding within
     picture_long h =
         let end = f.end in
         let n : 4194304 < length (dot_text (listing l t x) numbers) = omega arith in
         rw (lt-leb (length (dot_text (listing l t x) numbers)) 4194304 n)
 
-pub dot_passing : (l t x numbers marks ns ms ws space : List ℕ) (a : Webs) (sweeps : ℕ) → web_called a numbers marks space ≡ web_call l t x (lent ns ms ws)
-    → a ≡ web.Accepted sweeps → Passing l t x
+pub dot_passing : (l t x numbers marks ns ms ws space : List ℕ) (a : Result ℕ Refusal) (sweeps : ℕ) → web_called a numbers marks space ≡ web_call l t x (lent ns ms ws)
+    → a ≡ Ok sweeps → Passing l t x
 dot_passing l t x numbers marks ns ms ws space a sweeps q h =
     let y : (web_call l t x (lent ns ms ws)).answer ≡ accepted sweeps = rw (← q, h) in
     let asked = web_asked l t x (lent ns ms ws) sweeps y in
     record { small = asked.0; formed = asked.1 }
 
 module _ (l t x numbers marks ns ms ws space : List ℕ) (zero_numbers : ns ≡ token_zeros) (zero_marks : ms ≡ mark_zeros) (zero_space : ws ≡ space_zeros)
-    (a : Webs) (q : web_called a numbers marks space ≡ web_call l t x (lent ns ms ws)) where
-  pub dot_said : (sweeps : ℕ) (v : Answer (List ℕ)) → a ≡ web.Accepted sweeps → v ≡ within (dot_text (listing l t x) numbers) → v ≡ dot_answer l t x
+    (a : Result ℕ Refusal) (q : web_called a numbers marks space ≡ web_call l t x (lent ns ms ws)) where
+  pub dot_said : (sweeps : ℕ) (v : Answer (List ℕ)) → a ≡ Ok sweeps → v ≡ within (dot_text (listing l t x) numbers) → v ≡ dot_answer l t x
   unfolding dot_answer picture_of
   dot_said sweeps v h f =
       let z : web_called a numbers marks space ≡ web_call l t x lent_room = rw (zero_numbers, zero_marks, zero_space) at q in
       rw (← z, h) f
 
-  pub dot_refused : (n : ℕ) (out : List ℕ) → a ≡ web.Refused n → told (Refused n) out ≡ dot_answer l t x
+  pub dot_refused : (n : Refusal) (out : List ℕ) → a ≡ Err n → told (Refused n) out ≡ dot_answer l t x
   unfolding dot_answer picture_of
   dot_refused n out h = let z : web_called a numbers marks space ≡ web_call l t x lent_room = rw (zero_numbers, zero_marks, zero_space) at q in rw (← z, h)
 
 -- JSON
 
-module _ (c : Columns) (out out' : List ℕ) (r : Wrote) (q : json_written r out' ≡ write_call c out) (n : ℕ) where
-  pub json_said : r ≡ wrote.Accepted n → told (Text n) out' ≡ json_answer out c
+module _ (c : Columns) (out out' : List ℕ) (r : Result ℕ Refusal) (q : json_written r out' ≡ write_call c out) where
+  pub json_said : (n : ℕ) → r ≡ Ok n → told (Text n) out' ≡ json_answer out c
   unfolding written_text
-  json_said h = rw (← q, h)
+  json_said n h = rw (← q, h)
 
-  pub json_refused : r ≡ wrote.Refused n → told (Refused n) out' ≡ json_answer out c
+  pub json_refused : (n : Refusal) → r ≡ Err n → told (Refused n) out' ≡ json_answer out c
   unfolding written_text
-  json_refused h = rw (← q, h)
+  json_refused n h = rw (← q, h)
 
 -- Passes
 
-pub pass_accepted : (f : Columns → Answer (List ℕ)) (r : Pass) (l a t x : List ℕ) (k m n : ℕ) (v : Answer (List ℕ)) → r ≡ pass.Accepted k m n
-    → v ≡ f (columns (take k l) (take k a) (take m t) (take n x)) → v ≡ after f (passed_with r (columns l a t x))
+pub pass_accepted : (f : Columns → Answer (List ℕ)) (r : Result Most Refusal) (l a t x : List ℕ) (n : Most) (v : Answer (List ℕ)) → r ≡ Ok n
+    → v ≡ f (columns (take n.lines l) (take n.lines a) (take n.tokens t) (take n.text x)) → v ≡ after f (passed_with r (columns l a t x))
 unfolding after
-pass_accepted f r l a t x k m n v h e = rw h e
+pass_accepted f r l a t x n v h e = rw h e
 
 module _ (f : Columns → Answer (List ℕ)) (v : Answer (List ℕ)) where
   pub pass_left : (p q : Passed) → p ≡ q → v ≡ after f p → v ≡ after f q
@@ -240,15 +235,15 @@ module _ (w : Word) (c : Columns) (out : List ℕ) (v : Answer (List ℕ)) where
 
 -- The reader
 
-module _ (w : Word) (out : List ℕ) (n : ℕ) (given : Columns) (s l a t x : List ℕ) (r : Read) (part : s ≡ take n out) (q : read_called r l a t x ≡ read_call s given) where
-  pub read_said : (k m y : ℕ) (v : Answer (List ℕ)) → r ≡ read.Accepted k m y → v ≡ word_answer w out (columns (take k l) (take k a) (take m t) (take y x))
-      → v ≡ answer_in given w out n
+module _ (w : Word) (out : List ℕ) (n : ℕ) (given : Columns) (s l a t x : List ℕ) (part : s ≡ take n out) where
+  pub read_said : (k : Counts) (v : Answer (List ℕ)) → read_called (Some k) l a t x ≡ read_call s given
+      → v ≡ word_answer w out (columns (take k.lines l) (take k.lines a) (take k.tokens t) (take k.text x)) → v ≡ answer_in given w out n
   unfolding read_answer
-  read_said k m y v h f = rw (← part, ← q, h) f
+  read_said k v q f = rw (← part, ← q) f
 
-  pub read_refused : (out' : List ℕ) → r ≡ read.Refused → told (Refused 10) out' ≡ answer_in given w out n
+  pub read_refused : (out' : List ℕ) → read_called None l a t x ≡ read_call s given → told (Refused NotJson) out' ≡ answer_in given w out n
   unfolding read_answer
-  read_refused out' h = rw (← part, ← q, h)
+  read_refused out' q = rw (← part, ← q)
 
 pub read_room : (w : Word) (out t x : List ℕ) (n : ℕ) (v : Answer (List ℕ)) → t ≡ token_zeros → x ≡ text_zeros
     → v ≡ answer_in (columns (replicate 1024 0) (replicate 1024 0) t x) w out n → v ≡ answer w out n

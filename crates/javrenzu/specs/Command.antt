@@ -22,6 +22,7 @@ use Rattle.definitions.specs.Questions.{Limits, limits, question_1, question_2}
 use Rattle.definitions.specs.Model.{Line}
 use Rattle.definitions.specs.Answers.{Answer, refused, accepted, loops, goto_loops}
 use Rattle.definitions.specs.Calls.{Columns, Passed, Called, Chosen, by_webs, by_splits, pass_call, web_call, split_call, choose_call}
+use Rattle.questions.specs.Refusals.{number}
 use Rattle.json_definitions.specs.JsonCalls.{Written, read_call, write_call}
 use Rattle.rows.specs.Rows.{all_rows}
 use Rattle.dot.specs.Dot.{dot_text}
@@ -35,7 +36,7 @@ abbrev pub told : Said → List ℕ → Answer (List ℕ)
 told (Text e) out = accepted (take e out)
 told (ByWebs e) out = accepted (ascii "webs\n" ++ take e out)
 told (BySplits e) out = accepted (ascii "splits\n" ++ take e out)
-told (Refused n) out = refused n
+told (Refused r) out = refused (number r)
 
 -- Rows
 

@@ -8,7 +8,10 @@ ghost use Rattle.javrenzu.specs.Command.{told, word_answer, answer_in, answer};
 use crate::calls::Said;
 use crate::command_words::Word;
 use crate::{calls, check, room};
-use json_read::{Answer, read_json};
+use json_listing::Counts;
+use json_read::read_json;
+use model::listing::Listing;
+use questions::Refusal;
 use rows::columns::{first, first_addresses, first_bytes};
 use std::rt::Stdout;
 use streams::Output;
@@ -17,28 +20,26 @@ use streams::Output;
 fn of_columns(
     to: &mut Output<Stdout>,
     out: &mut [u8],
-    lines: &[u32],
+    code: &Listing,
     addresses: &[u64],
-    tokens: &[u32],
-    text: &[u8],
     word: Word,
 ) -> Said
     requires { 4194304 ≤ length out.old }
     ensures { told result out.new
-        ≡ word_answer word out.old (columns lines.now addresses.now tokens.now text.now) }
+        ≡ word_answer word out.old (columns code.now.lines.now addresses.now code.now.tokens.now code.now.text.now) }
 {
     match word {
-        Word::Webs => calls::web_rows(out, lines, tokens, text),
-        Word::Splits => calls::split_rows(out, lines, tokens, text),
-        Word::Choose => calls::chosen_rows(out, lines, tokens, text),
-        Word::RecoverLoops => calls::loops_json(out, lines, addresses, tokens, text),
-        Word::RecoverGotoLoops => calls::goto_loops_json(out, lines, addresses, tokens, text),
-        Word::Passes => calls::passes_json(out, lines, addresses, tokens, text),
-        Word::Dot => calls::dot(out, lines, tokens, text),
+        Word::Webs => calls::web_rows(out, code),
+        Word::Splits => calls::split_rows(out, code),
+        Word::Choose => calls::chosen_rows(out, code),
+        Word::RecoverLoops => calls::loops_json(out, code, addresses),
+        Word::RecoverGotoLoops => calls::goto_loops_json(out, code, addresses),
+        Word::Passes => calls::passes_json(out, code, addresses),
+        Word::Dot => calls::dot(out, code),
         Word::Check => {
-            check::sizes(to, lines.len(), tokens.len(), text.len());
-            check::rows(to, out, lines, tokens, text);
-            check::passes(to, out, lines, addresses, tokens, text);
+            check::sizes(to, code.lines.len(), code.tokens.len(), code.text.len());
+            check::rows(to, out, code);
+            check::passes(to, out, code, addresses);
             Said::Text(0)
         }
         Word::Help => Said::Text(0),
@@ -46,32 +47,25 @@ fn of_columns(
     }
 }
 
-// The same, of the first k lines, m tokens and x bytes.
+// The same, of the first n lines, tokens and bytes.
 fn of_cut(
     to: &mut Output<Stdout>,
     out: &mut [u8],
-    lines: &[u32],
+    code: &Listing,
     addresses: &[u64],
-    tokens: &[u32],
-    text: &[u8],
-    k: usize,
-    m: usize,
-    x: usize,
+    n: Counts,
     word: Word,
 ) -> Said
     requires { 4194304 ≤ length out.old }
     ensures { told result out.new
-        ≡ word_answer word out.old (columns (take k lines.now) (take k addresses.now) (take m tokens.now) (take x text.now)) }
+        ≡ word_answer word out.old (columns (take n.lines code.now.lines.now) (take n.lines addresses.now) (take n.tokens code.now.tokens.now) (take n.text code.now.text.now)) }
 {
-    of_columns(
-        to,
-        out,
-        first(lines, k),
-        first_addresses(addresses, k),
-        first(tokens, m),
-        first_bytes(text, x),
-        word,
-    )
+    let cut = Listing {
+        lines: first(code.lines, n.lines),
+        tokens: first(code.tokens, n.tokens),
+        text: first_bytes(code.text, n.text),
+    };
+    of_columns(to, out, &cut, first_addresses(addresses, n.lines), word)
 }
 
 // The answer for the listing whose text is the first n bytes of the slice; it is made in the same bytes.
@@ -90,10 +84,15 @@ fn answer_in(
         ≡ answer_in (columns lines.old addresses.old tokens.old text.old) word buffer.old n }
 {
     match read_json(first_bytes(buffer, n), lines, addresses, tokens, text) {
-        Answer::Accepted(k, m, x) => of_cut(
-            to, buffer, lines, addresses, tokens, text, k, m, x, word,
-        ),
-        Answer::Refused => Said::Refused(10),
+        Some(counts) => {
+            let read = Listing {
+                lines,
+                tokens,
+                text,
+            };
+            of_cut(to, buffer, &read, addresses, counts, word)
+        }
+        None => Said::Refused(Refusal::NotJson),
     }
 }
 

@@ -4,6 +4,7 @@ ghost use Rattle.std.specs.Prelude.{◌≤◌, length};
 use crate::calls;
 use crate::calls::Said;
 use crate::print::refused;
+use model::listing::Listing;
 use std::rt::Stdout;
 use streams::Output;
 
@@ -11,7 +12,7 @@ use streams::Output;
 fn outcome(to: &mut Output<Stdout>, name: &[u8], r: Said) {
     to.text(name);
     match r {
-        Said::Refused(n) => refused(to, n),
+        Said::Refused(refusal) => refused(to, refusal),
         _ => to.text(b"accepted\n"),
     }
 }
@@ -28,40 +29,25 @@ pub fn sizes(to: &mut Output<Stdout>, lines: usize, tokens: usize, bytes: usize)
 }
 
 // The calls that number tokens. They make their answers in `out`.
-pub fn rows(to: &mut Output<Stdout>, out: &mut [u8], lines: &[u32], tokens: &[u32], text: &[u8])
+pub fn rows(to: &mut Output<Stdout>, out: &mut [u8], code: &Listing)
     requires { 720896 ≤ length out.old }
 {
-    outcome(to, b"webs: ", calls::web_rows(out, lines, tokens, text));
-    outcome(to, b"splits: ", calls::split_rows(out, lines, tokens, text));
-    outcome(
-        to,
-        b"choose: ",
-        calls::chosen_rows(out, lines, tokens, text),
-    );
+    outcome(to, b"webs: ", calls::web_rows(out, code));
+    outcome(to, b"splits: ", calls::split_rows(out, code));
+    outcome(to, b"choose: ", calls::chosen_rows(out, code));
 }
 
 // The passes.
-pub fn passes(
-    to: &mut Output<Stdout>,
-    out: &mut [u8],
-    lines: &[u32],
-    addresses: &[u64],
-    tokens: &[u32],
-    text: &[u8],
-) {
+pub fn passes(to: &mut Output<Stdout>, out: &mut [u8], code: &Listing, addresses: &[u64]) {
     outcome(
         to,
         b"recover_loops: ",
-        calls::loops_json(out, lines, addresses, tokens, text),
+        calls::loops_json(out, code, addresses),
     );
     outcome(
         to,
         b"recover_goto_loops: ",
-        calls::goto_loops_json(out, lines, addresses, tokens, text),
+        calls::goto_loops_json(out, code, addresses),
     );
-    outcome(
-        to,
-        b"passes: ",
-        calls::passes_json(out, lines, addresses, tokens, text),
-    );
+    outcome(to, b"passes: ", calls::passes_json(out, code, addresses));
 }

@@ -15,6 +15,7 @@ mod room;
 
 use command_words::Word;
 use input::Input;
+use questions::Refusal;
 use std::io;
 use std::rt::{Env, Files, Stderr, Stdout};
 use streams::Output;
@@ -31,7 +32,7 @@ fn run(
         return Ok(());
     };
     if n == 4194305 {
-        print::refused(errors, 10);
+        print::refused(errors, Refusal::NotJson);
         return Ok(());
     }
     let r = answers::answer(out, &mut buffer, n, word);

@@ -1,40 +1,43 @@
 // What the command writes: answers on standard output; what goes wrong, in one line, on standard error.
 use crate::calls::Said;
+use questions::Refusal;
 use rows::columns::first_bytes;
 use std::io;
 use std::io::{Cursor, Write};
 use std::rt::{Stderr, Stdout};
 use streams::Output;
 
-// What a question answered no says, in one sentence.
-fn meaning<W: Write>(to: &mut Output<W>, n: usize) {
-    match n {
-        1 => to.text(
+// What a refusal says, in one sentence.
+fn meaning<W: Write>(to: &mut Output<W>, refusal: Refusal) {
+    match refusal {
+        Refusal::TooLarge => to.text(
             b"the listing has more than 1,024 lines, 16,384 tokens or 262,144 bytes of text",
         ),
-        2 => to.text(
+        Refusal::Malformed => to.text(
             b"its lines do not cover its tokens, or its tokens its text, in order and without gap",
         ),
-        3 => to.text(b"the text of a token is not UTF-8"),
-        4 => to.text(b"the answer is longer than the room for it"),
-        5 => to.text(b"there is too little working space"),
-        6 => to.text(b"a line's indent would leave 0 to 255"),
-        7 => to.text(b"webs need two lines or more"),
-        8 => to.text(b"a brace has no match"),
-        9 => to.text(b"a goto has no symbol behind it, or one that names no label of the listing"),
-        10 => to.text(
+        Refusal::NotUtf8 => to.text(b"the text of a token is not UTF-8"),
+        Refusal::NoRoom => to.text(b"the answer is longer than the room for it"),
+        Refusal::NoSpace => to.text(b"there is too little working space"),
+        Refusal::Overflow => to.text(b"a line's indent would leave 0 to 255"),
+        Refusal::TooShort => to.text(b"webs need two lines or more"),
+        Refusal::UnmatchedBrace => to.text(b"a brace has no match"),
+        Refusal::UnknownLabel => {
+            to.text(b"a goto has no symbol behind it, or one that names no label of the listing")
+        }
+        Refusal::NotJson => to.text(
             b"the input is not the JSON of a listing of at most 1,024 lines, 16,384 tokens and 262,144 bytes of text, in 4,194,304 bytes",
         ),
-        _ => to.text(b"this question is not known"),
+        Refusal::OverBudget => to.text(b"this question is not known"),
     }
 }
 
 // `refused N: ` and what that means.
-pub fn refused<W: Write>(to: &mut Output<W>, n: usize) {
+pub fn refused<W: Write>(to: &mut Output<W>, refusal: Refusal) {
     to.text(b"refused ");
-    to.number(n as u64);
+    to.number(refusal.number() as u64);
     to.text(b": ");
-    meaning(to, n);
+    meaning(to, refusal);
     to.text(b"\n");
 }
 
@@ -50,7 +53,7 @@ pub fn said(out: &mut Output<Stdout>, errors: &mut Output<Stderr>, buffer: &[u8]
             out.text(b"splits\n");
             out.text(first_bytes(buffer, e));
         }
-        Said::Refused(n) => refused(errors, n),
+        Said::Refused(refusal) => refused(errors, refusal),
     }
 }
 

@@ -1,4 +1,4 @@
-// The public calls as C and Rust call them, which the static library `javrenzu_calls_c` exports. An enum does not cross, so a call answers
+// The public calls as C and Rust call them, which the static library `javrenzu_calls_c` exports. A Result does not cross, so a call answers
 // the number of its refusal, 0 where it accepts, and its other value through a reference.
 //
 // Contracts cite `web_call`, `split_call`, `choose_call` and `pass_call` of Rattle.definitions.specs.Calls,
@@ -17,11 +17,8 @@ ghost use Rattle.splits.specs.Call.{lent as split_lent};
 ghost use Rattle.json_definitions.specs.JsonCalls.{read_call, write_call};
 
 use choose::Choice;
-use json_read::Answer as Reading;
-use json_write::Answer as Writing;
-use pass_call::Answer;
-use pseudo_ssa::Webs;
-use splits::call::Splits;
+use model::listing::Listing;
+use questions::{Limits, Refusal};
 
 // The web call. `sweeps` is the total of sweeps, 0 on refusal.
 pub fn javrenzu_webs(
@@ -37,14 +34,19 @@ pub fn javrenzu_webs(
     ensures sweeps_after { sweeps.new ≡ number_of (web_call lines.now tokens.now text.now (lent numbers.old marks.old space.old)).answer }
     ensures space_after { lent numbers.new marks.new space.new ≡ (web_call lines.now tokens.now text.now (lent numbers.old marks.old space.old)).lent }
 {
-    match pseudo_ssa::recover(lines, tokens, text, numbers, marks, space) {
-        Webs::Accepted(count) => {
+    let code = Listing {
+        lines,
+        tokens,
+        text,
+    };
+    match pseudo_ssa::recover(&code, numbers, marks, space) {
+        Ok(count) => {
             *sweeps = count;
             0
         }
-        Webs::Refused(number) => {
+        Err(refusal) => {
             *sweeps = 0;
-            number
+            refusal.number()
         }
     }
 }
@@ -60,9 +62,14 @@ pub fn javrenzu_splits(
     ensures value { result ≡ refusal_number (split_call lines.now tokens.now text.now (split_lent numbers.old marks.old)).answer }
     ensures marks_after { split_lent numbers.new marks.new ≡ (split_call lines.now tokens.now text.now (split_lent numbers.old marks.old)).lent }
 {
-    match splits::call::split_call(lines, tokens, text, numbers, marks) {
-        Splits::Written => 0,
-        Splits::Refused(number) => number,
+    let code = Listing {
+        lines,
+        tokens,
+        text,
+    };
+    match splits::call::split_call(&code, numbers, marks) {
+        Ok(()) => 0,
+        Err(refusal) => refusal.number(),
     }
 }
 
@@ -82,26 +89,37 @@ pub fn javrenzu_choose(
     ensures sweeps_after { sweeps.new ≡ chosen_sweeps (choose_call lines.now tokens.now text.now (lent numbers.old marks.old space.old)).answer }
     ensures space_after { lent numbers.new marks.new space.new ≡ (choose_call lines.now tokens.now text.now (lent numbers.old marks.old space.old)).lent }
 {
+    let code = Listing {
+        lines,
+        tokens,
+        text,
+    };
     *sweeps = 0;
-    match choose::choose(lines, tokens, text, numbers, marks, space) {
-        Choice::ByWebs(count) => {
+    match choose::choose(&code, numbers, marks, space) {
+        Ok(Choice::ByWebs(count)) => {
             *choice = 1;
             *sweeps = count;
             0
         }
-        Choice::BySplits => {
+        Ok(Choice::BySplits) => {
             *choice = 2;
             0
         }
-        Choice::Refused(number) => {
+        Err(refusal) => {
             *choice = 0;
-            number
+            refusal.number()
         }
     }
 }
 
 // The number of a pass's refusal, 0 where it is accepted. The counts of lines, tokens and bytes are 0 on refusal.
-fn pass_number(answer: Answer, nlines: &mut usize, ntokens: &mut usize, nbytes: &mut usize) -> usize
+#[tactic(auto, unfolding(crate::specs::Crossing::refusal_number, crate::specs::Crossing::counts_of))]
+fn pass_number(
+    answer: Result<Limits, Refusal>,
+    nlines: &mut usize,
+    ntokens: &mut usize,
+    nbytes: &mut usize,
+) -> usize
     ensures value { result ≡ refusal_number (answered answer) }
     ensures nbytes_after { counts nlines.new ntokens.new nbytes.new ≡ counts_of (answered answer) }
 {
@@ -109,17 +127,13 @@ fn pass_number(answer: Answer, nlines: &mut usize, ntokens: &mut usize, nbytes: 
     *ntokens = 0;
     *nbytes = 0;
     match answer {
-        Answer::Accepted(n, k, b) => {
-            *nlines = n;
-            *ntokens = k;
-            *nbytes = b;
+        Ok(counts) => {
+            *nlines = counts.lines;
+            *ntokens = counts.tokens;
+            *nbytes = counts.text;
             0
         }
-        Answer::TooLarge => 1,
-        Answer::Malformed => 2,
-        Answer::NotUtf8 => 3,
-        Answer::NoRoom => 4,
-        Answer::Overflow => 6,
+        Err(reason) => reason.number(),
     }
 }
 
@@ -141,9 +155,12 @@ pub fn javrenzu_recover_loops(
     ensures nbytes_after { counts nlines.new ntokens.new nbytes.new ≡ counts_of (pass_call loops (columns lines.now addresses.now tokens.now text.now) (columns rows.old places.old words.old bytes.old)).answer }
     ensures bytes_after { columns rows.new places.new words.new bytes.new ≡ (pass_call loops (columns lines.now addresses.now tokens.now text.now) (columns rows.old places.old words.old bytes.old)).out }
 {
-    let answer = recover_loops::recover_loops(
-        lines, addresses, tokens, text, rows, places, words, bytes,
-    );
+    let code = Listing {
+        lines,
+        tokens,
+        text,
+    };
+    let answer = recover_loops::recover_loops(&code, addresses, rows, places, words, bytes);
     pass_number(answer, nlines, ntokens, nbytes)
 }
 
@@ -165,8 +182,13 @@ pub fn javrenzu_recover_goto_loops(
     ensures nbytes_after { counts nlines.new ntokens.new nbytes.new ≡ counts_of (pass_call goto_loops (columns lines.now addresses.now tokens.now text.now) (columns rows.old places.old words.old bytes.old)).answer }
     ensures bytes_after { columns rows.new places.new words.new bytes.new ≡ (pass_call goto_loops (columns lines.now addresses.now tokens.now text.now) (columns rows.old places.old words.old bytes.old)).out }
 {
+    let code = Listing {
+        lines,
+        tokens,
+        text,
+    };
     let answer = recover_goto_loops::recover_goto_loops(
-        lines, addresses, tokens, text, rows, places, words, bytes,
+        &code, addresses, rows, places, words, bytes,
     );
     pass_number(answer, nlines, ntokens, nbytes)
 }
@@ -190,13 +212,13 @@ pub fn javrenzu_read_json(
     *ntokens = 0;
     *nbytes = 0;
     match json_read::read_json(json, lines, addresses, tokens, text) {
-        Reading::Accepted(n, k, b) => {
-            *nlines = n;
-            *ntokens = k;
-            *nbytes = b;
+        Some(n) => {
+            *nlines = n.lines;
+            *ntokens = n.tokens;
+            *nbytes = n.text;
             0
         }
-        Reading::Refused => 10,
+        None => 10,
     }
 }
 
@@ -213,14 +235,19 @@ pub fn javrenzu_write_json(
     ensures nbytes_after { nbytes.new ≡ number_of (write_call (columns lines.now addresses.now tokens.now text.now) json.old).answer }
     ensures json_after { json.new ≡ (write_call (columns lines.now addresses.now tokens.now text.now) json.old).out }
 {
-    match json_write::write_json(lines, addresses, tokens, text, json) {
-        Writing::Accepted(b) => {
+    let code = Listing {
+        lines,
+        tokens,
+        text,
+    };
+    match json_write::write_json(&code, addresses, json) {
+        Ok(b) => {
             *nbytes = b;
             0
         }
-        Writing::Refused(number) => {
+        Err(refusal) => {
             *nbytes = 0;
-            number
+            refusal.number()
         }
     }
 }

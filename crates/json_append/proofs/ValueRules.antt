@@ -12,9 +12,7 @@ use native.Mathlib.Omega.{arith}
 use borrow.Author.Tests.{lt-ltb, le-ltb, ltb-false}
 use lib.Dec.{ltb}
 use Rattle.json_definitions.specs.Writer.{digits_of, decimal, kind_text, address_text}
-use Rattle.model.specs.Addresses.{address}
-use Rattle.model.specs.declared.columns.Address.{Address}
-use Rattle.model.specs.declared.columns.Address.TheVariants.{At, Missing}
+use Rattle.std.specs.Prelude.{Option, None, Some}
 use Rattle.json_append.specs.Appended.{Appended}
 use Rattle.json_append.proofs.Appends.{append_as, append_2}
 
@@ -73,12 +71,12 @@ module _ (k : ℕ) (out : List ℕ) (at : ℕ) (out' : List ℕ) (e : ℕ) where
 
 -- Addresses
 
-module _ (a : Address) (out : List ℕ) (at : ℕ) (out' : List ℕ) (e : ℕ) where
-  pub address_known : (v : ℕ) → a ≡ At v → Appended out at (decimal v) out' e → Appended out at (address_text (address a)) out' e
+module _ (a : Option ℕ) (out : List ℕ) (at : ℕ) (out' : List ℕ) (e : ℕ) where
+  pub address_known : (v : ℕ) → a ≡ Some v → Appended out at (decimal v) out' e → Appended out at (address_text a) out' e
   unfolding address_text
   address_known v q f = rw q f
 
-  pub address_null : a ≡ Missing → Appended out at (110 ∷ 117 ∷ 108 ∷ 108 ∷ []) out' e → Appended out at (address_text (address a)) out' e
+  pub address_null : a ≡ None → Appended out at (110 ∷ 117 ∷ 108 ∷ 108 ∷ []) out' e → Appended out at (address_text a) out' e
   unfolding address_text
   address_null q f = rw q f
 

@@ -17,10 +17,8 @@ fn copy(out: &mut [u8], at: usize, bytes: &[u8])
     requires { at + length bytes.now ≤ length out.old }
     ensures { Filled (take at out.old ++ bytes.now) (at + length bytes.now) out.new }
 {
-    let mut j = 0;
-    while j < bytes.len() {
+    for j in 0..bytes.len() {
         out[at + j] = bytes[j];
-        j += 1;
     }
 }
 

@@ -27,10 +27,8 @@ pub fn block_size(s: &[u8], i: usize) -> u8
     ensures { result ≡ length (characters_text (part i (i + 8) s.now)) }
 {
     let mut n: u8 = 0;
-    let mut k = 0;
-    while k < 8 {
+    for k in 0..8 {
         n += byte_size(s[i + k]);
-        k += 1;
     }
     n
 }
@@ -47,10 +45,8 @@ pub fn text_size(s: &[u8]) -> u32
     ensures { Sized (length (characters_text s.now)) 1572864 result }
 {
     let mut n: u32 = 0;
-    let mut k = 0;
-    while k < s.len() {
+    for k in 0..s.len() {
         n += wide(byte_size(s[k]));
-        k += 1;
     }
     n
 }

@@ -10,13 +10,7 @@ use crate::sizes::block_size;
 fn is_plain(c: u8) -> bool
     ensures { result ≡ (not (eqb c 34) && (not (eqb c 92) && leb 32 c)) }
 {
-    if c == 0x22 {
-        return false;
-    }
-    if c == 0x5c {
-        return false;
-    }
-    0x20 <= c
+    c != 0x22 && c != 0x5c && 0x20 <= c
 }
 
 // The place behind the blocks of eight bytes from i on that are written as they stand.

@@ -1,11 +1,9 @@
 // Kinds and numbers.
 ghost use Rattle.std.specs.Prelude.{◌≡◌, ◌+◌, ◌<◌};
-ghost use Rattle.model.specs.Addresses.{address};
 ghost use Rattle.json_definitions.specs.Writer.{kind_text, decimal, address_text};
 ghost use Rattle.json_append.specs.Appended.{Appended};
 
 use crate::bytes::{put, put_byte};
-use model::columns::Address;
 
 // The name of a kind.
 pub fn put_kind(out: &mut [u8], at: usize, kind: usize) -> usize
@@ -42,11 +40,11 @@ pub fn put_decimal(out: &mut [u8], at: usize, n: u64) -> usize
     put_byte(out, i, digit(n % 10))
 }
 
-pub fn put_address(out: &mut [u8], at: usize, a: Address) -> usize
-    ensures { Appended out.old at (address_text (address a)) out.new result }
+pub fn put_address(out: &mut [u8], at: usize, a: Option<u64>) -> usize
+    ensures { Appended out.old at (address_text a) out.new result }
 {
     match a {
-        Address::At(v) => put_decimal(out, at, v),
-        Address::Missing => put(out, at, b"null"),
+        Some(v) => put_decimal(out, at, v),
+        None => put(out, at, b"null"),
     }
 }

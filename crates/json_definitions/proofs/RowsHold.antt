@@ -3,8 +3,7 @@
 --   taken, misshapen, misnumbered, misspelt, written    the rows
 --   read_called, write_called                           the calls on small columns
 -- Assumes nothing.
-use Rattle.std.specs.Prelude.{ℕ, ◌≡◌, refl, List, [], ◌∷◌, ◌++◌, map, replicate}
-use Rattle.std.proofs.Math.Option.{Option, none, some}
+use Rattle.std.specs.Prelude.{ℕ, ◌≡◌, refl, List, [], ◌∷◌, ◌++◌, map, replicate, Option, None, Some}
 use Rattle.definitions.specs.Lists.{ascii}
 use Rattle.definitions.specs.Model.{Line, tok, pseudo_line, Text, Punct, Prefix}
 use Rattle.definitions.specs.Answers.{refused as refused_with, accepted}
@@ -12,14 +11,14 @@ use Rattle.definitions.specs.Calls.{Columns}
 use Rattle.json_definitions.specs.Rows.{read_computed, write_computed, read_call_computed, write_call_computed}
 
 abbrev one : Line
-one = pseudo_line none 1 (tok (ascii "}") Punct ∷ [])
+one = pseudo_line None 1 (tok (ascii "}") Punct ∷ [])
 
 -- a text of one line with one token, whose string is s
 abbrev holding : List ℕ → List ℕ
 holding s = ascii "[{\"address\":18446744073709551615,\"indent\":255,\"tokens\":[{\"t\":\"" ++ (s ++ ascii "\",\"k\":\"text\"}]}]")
 
 abbrev held : List ℕ → Option (List Line)
-held s = some (pseudo_line (some 18446744073709551615) 255 (tok s Text ∷ []) ∷ [])
+held s = Some (pseudo_line (Some 18446744073709551615) 255 (tok s Text ∷ []) ∷ [])
 
 -- Texts that are read
 
@@ -32,11 +31,11 @@ taken : map read_computed
     ∷ holding (ascii "a")
     ∷ holding (ascii "\\\"\\\\\\/\\b\\f\\n\\r\\t\\u0041\\u00e9\\u20AC\\uD83D\\uDE00")
     ∷ holding (195 ∷ 169 ∷ 226 ∷ 130 ∷ 172 ∷ 240 ∷ 159 ∷ 152 ∷ 128 ∷ []) ∷ [])
-    ≡ some (one ∷ [])
-    ∷ some []
-    ∷ some []
-    ∷ some (one ∷ [])
-    ∷ some (pseudo_line (some 0) 0 [] ∷ pseudo_line none 1 (tok (ascii "}") Punct ∷ tok [] Prefix ∷ []) ∷ [])
+    ≡ Some (one ∷ [])
+    ∷ Some []
+    ∷ Some []
+    ∷ Some (one ∷ [])
+    ∷ Some (pseudo_line (Some 0) 0 [] ∷ pseudo_line None 1 (tok (ascii "}") Punct ∷ tok [] Prefix ∷ []) ∷ [])
     ∷ held (ascii "a")
     ∷ held (34 ∷ 92 ∷ 47 ∷ 8 ∷ 12 ∷ 10 ∷ 13 ∷ 9 ∷ 65 ∷ 195 ∷ 169 ∷ 226 ∷ 130 ∷ 172 ∷ 240 ∷ 159 ∷ 152 ∷ 128 ∷ [])
     ∷ held (195 ∷ 169 ∷ 226 ∷ 130 ∷ 172 ∷ 240 ∷ 159 ∷ 152 ∷ 128 ∷ []) ∷ []
@@ -60,7 +59,7 @@ misshapen : map read_computed
     ∷ "[{\"address\":null,\"indent\":1,\"tokens\":[{\"t\":\"}\",\"k\":\"Punct\"}]}]"
     ∷ "[{\"address\":null,\"indent\":1,\"tokens\":[{\"t\":\"}\",\"k\":\"p\\u0075nct\"}]}]"
     ∷ "[{\"\\u0061ddress\":null,\"indent\":1,\"tokens\":[]}]" ∷ []))
-    ≡ replicate 16 none
+    ≡ replicate 16 None
 unfolding read_computed
 misshapen = refl
 
@@ -75,7 +74,7 @@ misnumbered : map read_computed
     ∷ "[{\"address\":\"1\",\"indent\":1,\"tokens\":[]}]"
     ∷ "[{\"address\":null,\"indent\":256,\"tokens\":[]}]"
     ∷ "[{\"address\":null,\"indent\":00,\"tokens\":[]}]" ∷ []))
-    ≡ replicate 8 none
+    ≡ replicate 8 None
 unfolding read_computed
 misnumbered = refl
 
@@ -84,7 +83,7 @@ misspelt : map (λ s. read_computed (holding s))
     (ascii "\\uD83D" ∷ ascii "\\uDE00" ∷ ascii "\\uD83D\\u0041" ∷ ascii "\\uD83D\\uD83D" ∷ ascii "\\u00g0" ∷ ascii "\\x" ∷ ascii "\\"
     ∷ (10 ∷ []) ∷ (31 ∷ []) ∷ (128 ∷ []) ∷ (192 ∷ 128 ∷ []) ∷ (194 ∷ []) ∷ (224 ∷ 128 ∷ 128 ∷ []) ∷ (237 ∷ 160 ∷ 128 ∷ [])
     ∷ (244 ∷ 144 ∷ 128 ∷ 128 ∷ []) ∷ (240 ∷ 143 ∷ 128 ∷ 128 ∷ []) ∷ (255 ∷ []) ∷ [])
-    ≡ replicate 17 none
+    ≡ replicate 17 None
 unfolding read_computed
 misspelt = refl
 
@@ -93,7 +92,7 @@ misspelt = refl
 written : map write_computed
     ([]
     ∷ (one ∷ [])
-    ∷ (pseudo_line (some 18446744073709551615) 255 (tok (34 ∷ 92 ∷ 0 ∷ 31 ∷ 127 ∷ 195 ∷ 169 ∷ []) Text ∷ tok [] Prefix ∷ []) ∷ pseudo_line (some 0) 0 [] ∷ []) ∷ [])
+    ∷ (pseudo_line (Some 18446744073709551615) 255 (tok (34 ∷ 92 ∷ 0 ∷ 31 ∷ 127 ∷ 195 ∷ 169 ∷ []) Text ∷ tok [] Prefix ∷ []) ∷ pseudo_line (Some 0) 0 [] ∷ []) ∷ [])
     ≡ ascii "[]"
     ∷ ascii "[{\"address\":null,\"indent\":1,\"tokens\":[{\"t\":\"}\",\"k\":\"punct\"}]}]"
     ∷ (ascii "[{\"address\":18446744073709551615,\"indent\":255,\"tokens\":[{\"t\":\"\\\"\\\\\\u0000\\u001f"

@@ -2,8 +2,7 @@
 --   read_call s out     the reader: question 10; refused, everything lent is zero; accepted, the columns are packed and zero behind
 --   write_call c out    the writer: questions 1 to 4; refused, nothing is written; accepted, the text's length, the text and zeros behind
 -- Assumes nothing.
-use Rattle.std.specs.Prelude.{if◌then◌else◌, ℕ, Bool, ◌&&◌, List, [], ◌∷◌, eqb, leb, length}
-use Rattle.std.proofs.Math.Option.{Option, none, some}
+use Rattle.std.specs.Prelude.{if◌then◌else◌, ℕ, Bool, ◌&&◌, List, [], ◌∷◌, eqb, leb, length, Option, None, Some}
 use Rattle.definitions.specs.Model.{Line}
 use Rattle.definitions.specs.Columns.{listing, with_addresses, line_words, address_words, token_words, text_bytes}
 use Rattle.definitions.specs.Questions.{limits, question_1, question_2, question_3, refusal}
@@ -21,8 +20,8 @@ fits out L =
     && (leb (length (token_words L)) (length out.tokens) && leb (length (text_bytes L)) (length out.text))))
 
 unfoldable pub fitting : Columns → Option (List Line) → Answer (List Line)
-fitting out none = refused 10
-fitting out (some L) = if fits out L then accepted L else refused 10
+fitting out None = refused 10
+fitting out (Some L) = if fits out L then accepted L else refused 10
 
 unfoldable pub read_call : List ℕ → Columns → Passed
 read_call s out = passed (fitting out (read s)) out
@@ -46,6 +45,6 @@ write_refusal c out = refusal (
 
 unfoldable pub write_call : Columns → List ℕ → Written
 write_call c out = elim (write_refusal c out) [
-  | some n ↦ record { answer = refused n; out = out }
-  | none ↦ record { answer = accepted (length (write (listing_of c))); out = filled (write (listing_of c)) out }
+  | Some n ↦ record { answer = refused n; out = out }
+  | None ↦ record { answer = accepted (length (write (listing_of c))); out = filled (write (listing_of c)) out }
 ]

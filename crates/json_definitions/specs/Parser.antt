@@ -7,8 +7,7 @@
 --   lexeme w              white space, then the bytes w
 --   array p               "[", what p gives, as often as it stands there, with "," between, and "]"
 -- Assumes nothing.
-use Rattle.std.specs.Prelude.{if◌then◌else◌, ℕ, zero, suc, Bool, ◌||◌, List, [], ◌∷◌, eqb, length}
-use Rattle.std.proofs.Math.Option.{Option, none, some}
+use Rattle.std.specs.Prelude.{if◌then◌else◌, ℕ, zero, suc, Bool, ◌||◌, List, [], ◌∷◌, eqb, length, Option, None, Some}
 use Rattle.definitions.specs.Lists.{ascii}
 
 pub record Got (A : Type 0) : Type 0 where
@@ -19,14 +18,14 @@ abbrev pub Parser : Type 0 → Type 0
 Parser A = List ℕ → Option (Got A)
 
 abbrev pub got : {A : Type 0} → A → List ℕ → Option (Got A)
-got a rest = some (record { value = a; rest = rest })
+got a rest = Some (record { value = a; rest = rest })
 
 abbrev pub pure : {A : Type 0} → A → Parser A
 pure a s = got a s
 
 unfoldable pub after : {A B : Type 0} → Option (Got A) → (A → Parser B) → Option (Got B)
-after none f = none
-after (some g) f = f g.value g.rest
+after None f = None
+after (Some g) f = f g.value g.rest
 
 infixl 20 ◌>>=◌
 infixl 20 ◌>>◌
@@ -37,8 +36,8 @@ abbrev pub ◌>>◌ : {A B : Type 0} → Parser A → Parser B → Parser B
 ◌>>◌ p q s = after (p s) (λ _. q)
 
 unfoldable pub or_try : {A : Type 0} → Option (Got A) → Parser A → Parser A
-or_try none q s = q s
-or_try (some g) q s = some g
+or_try None q s = q s
+or_try (Some g) q s = Some g
 
 -- blank, tab, line feed, carriage return
 abbrev pub is_white_space : ℕ → Bool
@@ -50,15 +49,15 @@ skip_white_space (c ∷ s) = let rest = skip_white_space s in if is_white_space 
 
 unfoldable pub literal : List ℕ → Parser (Unit {0})
 literal [] s = got tt s
-literal (a ∷ w) [] = none
-literal (a ∷ w) (c ∷ s) = let rest = literal w s in if eqb c a then rest else none
+literal (a ∷ w) [] = None
+literal (a ∷ w) (c ∷ s) = let rest = literal w s in if eqb c a then rest else None
 
 unfoldable pub lexeme : List ℕ → Parser (Unit {0})
 lexeme w s = literal w (skip_white_space s)
 
 -- "," and an element, again and again, and "]"; each takes a byte at least, so a bound of the text's length is never met
 unfoldable pub elements : {A : Type 0} → Parser A → ℕ → Parser (List A)
-elements p zero s = none
+elements p zero s = None
 elements p (suc n) s =
     or_try (after (lexeme (ascii "]") s) (λ _. pure []))
     (lexeme (ascii ",") >> (p >>= (λ x. elements p n >>= (λ xs. pure (x ∷ xs))))) s

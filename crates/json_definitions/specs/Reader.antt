@@ -6,8 +6,7 @@
 --   token, line a token, a line
 --   read s      the listing that the text s writes, none where it writes none
 -- Assumes nothing.
-use Rattle.std.specs.Prelude.{if◌then◌else◌, ℕ, suc, ◌+◌, ◌*◌, ◌-◌, ◌^◌, Bool, true, false, List, [], ◌∷◌, eqb, leb}
-use Rattle.std.proofs.Math.Option.{Option, none, some}
+use Rattle.std.specs.Prelude.{if◌then◌else◌, ℕ, suc, ◌+◌, ◌*◌, ◌-◌, ◌^◌, Bool, true, false, List, [], ◌∷◌, eqb, leb, Option, None, Some}
 use Rattle.definitions.specs.Lists.{ascii}
 use Rattle.definitions.specs.Utf8.{within}
 use Rattle.definitions.specs.Model.{Token, Line, tok, pseudo_line}
@@ -25,25 +24,25 @@ digits v [] = record { value = v; rest = [] }
 digits v (c ∷ s) = let more = digits (v * 10 + (c - 0x30)) s in if is_digit c then more else record { value = v; rest = c ∷ s }
 
 unfoldable pub at_most : ℕ → Got ℕ → Option (Got ℕ)
-at_most m g = if leb g.value m then some g else none
+at_most m g = if leb g.value m then Some g else None
 
 -- 0, or digits of which the first is not 0
 unfoldable pub whole_number : ℕ → Parser ℕ
-whole_number m [] = none
-whole_number m (c ∷ s) = let more = at_most m (digits (c - 0x30) s) in if eqb c 0x30 then got 0 s else if is_digit c then more else none
+whole_number m [] = None
+whole_number m (c ∷ s) = let more = at_most m (digits (c - 0x30) s) in if eqb c 0x30 then got 0 s else if is_digit c then more else None
 
 unfoldable pub number : ℕ → Parser ℕ
 number m s = whole_number m (skip_white_space s)
 
 -- null, or a number of 64 bits
 unfoldable pub address : Parser (Option ℕ)
-address s = or_try (after (lexeme (ascii "null") s) (λ _. pure none)) (number (2 ^ 64 - 1) >>= (λ v. pure (some v))) s
+address s = or_try (after (lexeme (ascii "null") s) (λ _. pure None)) (number (2 ^ 64 - 1) >>= (λ v. pure (Some v))) s
 
 -- Kinds
 
 -- one of the names, which are numbered from k on
 unfoldable pub one_of : ℕ → List (List ℕ) → Parser ℕ
-one_of k [] s = none
+one_of k [] s = None
 one_of k (w ∷ ws) s = or_try (after (lexeme w s) (λ _. pure k)) (one_of (suc k) ws) s
 
 abbrev pub kinds : List (List ℕ)
@@ -111,8 +110,8 @@ is_empty [] = true
 is_empty (c ∷ s) = false
 
 unfoldable pub ended : Option (Got (List Line)) → Option (List Line)
-ended none = none
-ended (some g) = if is_empty (skip_white_space g.rest) then some g.value else none
+ended None = None
+ended (Some g) = if is_empty (skip_white_space g.rest) then Some g.value else None
 
 unfoldable pub read : List ℕ → Option (List Line)
 read s = ended (array line s)

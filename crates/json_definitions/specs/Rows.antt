@@ -1,7 +1,6 @@
 -- The definitions of the reader and the writer, open to computation. proofs/RowsHold has the texts on which they are computed.
 -- Assumes nothing.
-use Rattle.std.specs.Prelude.{ℕ, List}
-use Rattle.std.proofs.Math.Option.{Option}
+use Rattle.std.specs.Prelude.{ℕ, List, Option}
 use Rattle.definitions.specs.Lists.{concat, all}
 use Rattle.definitions.specs.Model.{Line, text}
 use Rattle.definitions.specs.Utf8.{following, utf8_after}

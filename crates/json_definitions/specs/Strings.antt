@@ -5,8 +5,7 @@
 --   character       one code point of a string
 --   string          white space, a quote, characters, a quote
 -- Assumes nothing.
-use Rattle.std.specs.Prelude.{if◌then◌else◌, ℕ, zero, suc, ◌+◌, ◌*◌, ◌-◌, ◌/◌, ◌%◌, List, [], ◌∷◌, ◌++◌, eqb, leb, ltb, length}
-use Rattle.std.proofs.Math.Option.{none, some}
+use Rattle.std.specs.Prelude.{if◌then◌else◌, ℕ, zero, suc, ◌+◌, ◌*◌, ◌-◌, ◌/◌, ◌%◌, List, [], ◌∷◌, ◌++◌, eqb, leb, ltb, length, None, Some}
 use Rattle.definitions.specs.Lists.{ascii}
 use Rattle.definitions.specs.Utf8.{Range, within, following}
 use Rattle.json_definitions.specs.Parser.{got, Parser, pure, after, or_try, ◌>>=◌, ◌>>◌, literal, lexeme}
@@ -21,19 +20,19 @@ encode u =
 -- one byte of each range
 unfoldable pub in_ranges : List Range → Parser (List ℕ)
 in_ranges [] s = got [] s
-in_ranges (r ∷ rs) [] = none
+in_ranges (r ∷ rs) [] = None
 in_ranges (r ∷ rs) (b ∷ s) =
     let rest = after (in_ranges rs s) (λ bs. pure (b ∷ bs)) in
-    if within r.low r.high b then rest else none
+    if within r.low r.high b then rest else None
 
 -- the code point that the text starts with, RFC 3629
 unfoldable pub code_point : Parser (List ℕ)
-code_point [] = none
-code_point (a ∷ s) = elim (following a) [ none ↦ none | some rs ↦ after (in_ranges rs s) (λ bs. pure (a ∷ bs)) ]
+code_point [] = None
+code_point (a ∷ s) = elim (following a) [ None ↦ None | Some rs ↦ after (in_ranges rs s) (λ bs. pure (a ∷ bs)) ]
 
 unfoldable pub unescaped : Parser (List ℕ)
-unescaped [] = none
-unescaped (c ∷ s) = let point = code_point (c ∷ s) in if ltb c 0x20 then none else point
+unescaped [] = None
+unescaped (c ∷ s) = let point = code_point (c ∷ s) in if ltb c 0x20 then None else point
 
 -- Escapes
 
@@ -46,8 +45,8 @@ hex_value c =
     else 16
 
 unfoldable pub hex_digit : Parser ℕ
-hex_digit [] = none
-hex_digit (c ∷ s) = if ltb (hex_value c) 16 then got (hex_value c) s else none
+hex_digit [] = None
+hex_digit (c ∷ s) = if ltb (hex_value c) 16 then got (hex_value c) s else None
 
 unfoldable pub hex_4 : Parser ℕ
 hex_4 = do
@@ -59,13 +58,13 @@ hex_4 = do
 
 -- the code point of the surrogates u and w, where w is a low one
 unfoldable pub low_surrogate : ℕ → ℕ → Parser (List ℕ)
-low_surrogate u w s = if within 0xdc00 0xdfff w then got (encode (0x10000 + (u - 0xd800) * 1024 + (w - 0xdc00))) s else none
+low_surrogate u w s = if within 0xdc00 0xdfff w then got (encode (0x10000 + (u - 0xd800) * 1024 + (w - 0xdc00))) s else None
 
 -- what \u and the number u stand for: a high surrogate wants \u and a low one, a low one alone is not taken
 unfoldable pub code_unit : ℕ → Parser (List ℕ)
 code_unit u s =
     let pair = (literal (ascii "\\u") >> (hex_4 >>= low_surrogate u)) s in
-    if within 0xd800 0xdfff u then (if leb u 0xdbff then pair else none) else got (encode u) s
+    if within 0xd800 0xdfff u then (if leb u 0xdbff then pair else None) else got (encode u) s
 
 -- what a backslash and c stand for, 0 where c is none of " \ / b f n r t
 unfoldable pub short_escape : ℕ → ℕ
@@ -81,20 +80,20 @@ short_escape c =
     else 0
 
 unfoldable pub escape : Parser (List ℕ)
-escape [] = none
+escape [] = None
 escape (c ∷ s) =
     let long = (hex_4 >>= code_unit) s in
-    if eqb c 0x75 then long else if eqb (short_escape c) 0 then none else got (short_escape c ∷ []) s
+    if eqb c 0x75 then long else if eqb (short_escape c) 0 then None else got (short_escape c ∷ []) s
 
 -- Strings
 
 unfoldable pub character : Parser (List ℕ)
-character [] = none
+character [] = None
 character (c ∷ s) = if eqb c 0x5c then escape s else unescaped (c ∷ s)
 
 -- the characters up to a quote; each takes a byte at least, so a bound of the text's length is never met
 unfoldable pub characters : ℕ → Parser (List ℕ)
-characters zero s = none
+characters zero s = None
 characters (suc n) s =
     or_try (after (literal (ascii "\"") s) (λ _. pure [])) (character >>= (λ u. characters n >>= (λ us. pure (u ++ us)))) s
 

@@ -6,8 +6,7 @@
 --   token_text t, line_text l
 --   write L           the JSON text of the listing L
 -- Assumes nothing.
-use Rattle.std.specs.Prelude.{if◌then◌else◌, ℕ, zero, suc, ◌+◌, ◌/◌, ◌%◌, ◌||◌, List, [], ◌∷◌, ◌++◌, eqb, ltb, get_or}
-use Rattle.std.proofs.Math.Option.{Option, none, some}
+use Rattle.std.specs.Prelude.{if◌then◌else◌, ℕ, zero, suc, ◌+◌, ◌/◌, ◌%◌, ◌||◌, List, [], ◌∷◌, ◌++◌, eqb, ltb, get_or, Option, None, Some}
 use Rattle.definitions.specs.Lists.{ascii}
 use Rattle.definitions.specs.Model.{Token, Line}
 use Rattle.json_definitions.specs.Reader.{kinds}
@@ -40,8 +39,8 @@ unfoldable pub kind_text : ℕ → List ℕ
 kind_text k = get_or kinds k []
 
 unfoldable pub address_text : Option ℕ → List ℕ
-address_text none = ascii "null"
-address_text (some a) = decimal a
+address_text None = ascii "null"
+address_text (Some a) = decimal a
 
 -- the elements' texts, each behind a ",", and "]"
 unfoldable pub elements_text : {A : Type 0} → (A → List ℕ) → List A → List ℕ

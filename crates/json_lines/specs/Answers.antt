@@ -1,54 +1,40 @@
--- What the answers of the code stand for: the definition's answer, the rest being what follows a place of the text s.
+-- What the answers of the code stand for, where a definition of json_definitions gives a value and the rest of the text.
 --   address_of, separator_of, head_of
---   token_of s t from r      a token whose bytes stand in the text t from place `from` on
---   Within n from r          those bytes end at a place from `from` to n, and the kind is one of the eight
+--   token_of t from r        a token whose bytes stand in the text t from place `from` on
 --   limited_token room o     what o gave, if its text has at most `room` bytes
 --   token_rest t             a token behind its text t
---   later_kinds              the kinds from 4 on
 -- Assumes nothing.
-use Rattle.std.specs.Prelude.{if◌then◌else◌, ℕ, ◌≤◌, Bool, true, false, List, [], ◌∷◌, leb, length, drop}
-use Rattle.std.proofs.Math.Option.{Option, none, some}
-use Rattle.definitions.specs.Lists.{ascii, part}
+use Rattle.std.specs.Prelude.{if◌then◌else◌, ℕ, Bool, true, false, List, leb, length, Option, None, Some}
+use Rattle.std.specs.Borrow.{Bor}
+use Rattle.definitions.specs.Lists.{part}
 use Rattle.definitions.specs.Model.{Token, tok}
-use Rattle.model.specs.Addresses.{address}
-use Rattle.json_definitions.specs.Parser.{Got, got, Parser, pure, ◌>>=◌}
+use Rattle.json_definitions.specs.Parser.{Got, Parser, pure, ◌>>=◌}
 use Rattle.json_definitions.specs.Reader.{token_kind, Head}
-use Rattle.json_lines.specs.declared.members.Addr.{Addr}
-use Rattle.json_lines.specs.declared.members.Addr.TheVariants.{Known, NoAddress}
+use Rattle.json_scan.specs.Answers.{found_of}
 use Rattle.json_lines.specs.declared.members.Sep.{Sep}
-use Rattle.json_lines.specs.declared.members.Sep.TheVariants.{More, Close, NoSep}
+use Rattle.json_lines.specs.declared.members.Sep.TheVariants.{More, Close}
 use Rattle.json_lines.specs.declared.lines.Top.{Top}
-use Rattle.json_lines.specs.declared.lines.Top.TheVariants.{Found, NoTop}
-use Rattle.json_lines.specs.declared.tokens.Tok.{Tok}
-use Rattle.json_lines.specs.declared.tokens.Tok.TheVariants.{Read, NoToken}
+use Rattle.json_lines.specs.declared.tokens.Packed.{Packed}
 
-abbrev pub later_kinds : List (List ℕ)
-later_kinds = ascii "\"symbol\"" ∷ ascii "\"address\"" ∷ ascii "\"punct\"" ∷ ascii "\"prefix\"" ∷ []
+abbrev pub address_of : Option (Option ℕ × Bor (List ℕ)) → Option (Got (Option ℕ))
+address_of r = found_of (λ a. a) r
 
-abbrev pub address_of : List ℕ → Addr → Option (Got (Option ℕ))
-address_of s (Known a n) = got (address a) (drop n s)
-address_of s NoAddress = none
+abbrev pub is_more : Sep → Bool
+is_more More = true
+is_more Close = false
 
-abbrev pub separator_of : List ℕ → Sep → Option (Got Bool)
-separator_of s (More n) = got true (drop n s)
-separator_of s (Close n) = got false (drop n s)
-separator_of s NoSep = none
+abbrev pub separator_of : Option (Sep × Bor (List ℕ)) → Option (Got Bool)
+separator_of r = found_of is_more r
 
-abbrev pub head_of : List ℕ → Top → Option (Got Head)
-head_of s (Found a i n) = got (record { address = address a; indent = i }) (drop n s)
-head_of s NoTop = none
+abbrev pub head_of : Option (Top × Bor (List ℕ)) → Option (Got Head)
+head_of r = found_of (λ t. record { address = t.address; indent = t.indent }) r
 
-abbrev pub token_of : List ℕ → List ℕ → ℕ → Tok → Option (Got Token)
-token_of s t from (Read n e k) = got (tok (part from e t) k) (drop n s)
-token_of s t from NoToken = none
-
-abbrev pub Within : ℕ → ℕ → Tok → Type 0
-Within n from (Read _ e k) = (from ≤ e) × ((e ≤ n) × (k ≤ 7))
-Within n from NoToken = Unit {0}
+abbrev pub token_of : List ℕ → ℕ → Option (Packed × Bor (List ℕ)) → Option (Got Token)
+token_of t from r = found_of (λ k. tok (part from k.end t) k.kind) r
 
 unfoldable pub limited_token : ℕ → Option (Got Token) → Option (Got Token)
-limited_token room none = none
-limited_token room (some g) = if leb (length g.value.text) room then some g else none
+limited_token room None = None
+limited_token room (Some g) = if leb (length g.value.text) room then Some g else None
 
 unfoldable pub token_rest : List ℕ → Parser Token
 token_rest t = token_kind >>= (λ k. pure (tok t k))

@@ -1,93 +1,88 @@
 // One line: its tokens into lent columns, its address and indent as an answer.
-ghost use Rattle.std.specs.Prelude.{◌≡◌, ◌≤◌, length, drop};
+#![tactic(auto, using(crate::proofs::MemberRules::members))]
+
+ghost use Rattle.std.specs.Prelude.{◌≡◌, ◌≤◌, length};
 ghost use Rattle.definitions.specs.Lists.{or_else};
 ghost use Rattle.json_definitions.specs.Reader.{line_indent, head, line};
-ghost use Rattle.model.specs.Addresses.{address};
 ghost use Rattle.json_scan.specs.Answers.{number_of};
 ghost use Rattle.json_lines.specs.Answers.{head_of};
 ghost use Rattle.json_lines.specs.InColumns.{line_read, low_word};
 
-use crate::members::{Addr, address, member};
-use crate::tokens::{Arr, token_array};
-use json_scan::{Next, Num};
-use model::columns::Address;
+use crate::members::{address, member};
+use crate::tokens::{Filled, token_array};
+use json_scan::{lexeme, number};
 
-// A line up to its tokens: its address, its indent, and the place behind.
-#[derive(Drop)]
-pub enum Top {
-    Found(Address, u64, usize),
-    NoTop,
+// A line up to its tokens.
+#[derive(Clone, Copy)]
+pub struct Top {
+    pub address: Option<u64>,
+    pub indent: u64,
 }
 
-// The place behind a line, how many tokens and bytes stand in the columns then, the low part of its word, its address word.
-#[derive(Drop)]
-pub enum Row {
-    Whole(usize, usize, usize, u64, u64),
-    NoRow,
+// What stands in the columns behind a line, the low part of the line's word, and its address word.
+#[derive(Clone, Copy)]
+pub struct Row {
+    pub filled: Filled,
+    pub low: u64,
+    pub address: u64,
 }
 
-fn line_indent(s: &[u8], at: usize) -> Num
-    ensures { number_of s.now result ≡ line_indent (drop at s.now) }
+#[tactic(auto, using(crate::proofs::MemberRules::members), unfolding(json_definitions::specs::Reader::line_indent))]
+fn line_indent(s: &[u8]) -> Option<(u64, &[u8])>
+    ensures { number_of result ≡ line_indent s.now }
 {
-    let Next::At(i) = member(s, at, b",", b"\"indent\"") else {
-        return Num::NoNumber;
-    };
-    let Num::Value(v, j) = json_scan::number(s, i, 255) else {
-        return Num::NoNumber;
-    };
-    let Next::At(k) = member(s, j, b",", b"\"tokens\"") else {
-        return Num::NoNumber;
-    };
-    Num::Value(v, k)
+    let s = member(s, b",", b"\"indent\"")?;
+    let (v, s) = number(s, 255)?;
+    let s = member(s, b",", b"\"tokens\"")?;
+    Some((v, s))
 }
 
-fn head(s: &[u8], at: usize) -> Top
-    ensures { head_of s.now result ≡ head (drop at s.now) }
+#[tactic(auto, using(crate::proofs::MemberRules::members), unfolding(json_definitions::specs::Reader::head))]
+fn head(s: &[u8]) -> Option<(Top, &[u8])>
+    ensures { head_of result ≡ head s.now }
 {
-    let Next::At(i) = member(s, at, b"{", b"\"address\"") else {
-        return Top::NoTop;
-    };
-    let Addr::Known(a, j) = address(s, i) else {
-        return Top::NoTop;
-    };
-    let Num::Value(d, k) = line_indent(s, j) else {
-        return Top::NoTop;
-    };
-    Top::Found(a, d, k)
+    let s = member(s, b"{", b"\"address\"")?;
+    let (address, s) = address(s)?;
+    let (indent, s) = line_indent(s)?;
+    Some((Top { address, indent }, s))
 }
 
-fn low_word(a: Address, indent: u64) -> u64
+fn low_word(a: Option<u64>, indent: u64) -> u64
     requires { indent ≤ 255 }
-    ensures { result ≡ low_word (address a) indent }
+    ensures { result ≡ low_word a indent }
 {
     match a {
-        Address::At(_) => 256 + indent,
-        Address::Missing => indent,
+        Some(_) => 256 + indent,
+        None => indent,
     }
 }
 
-fn address_word(a: Address) -> u64
-    ensures { result ≡ or_else (address a) 0 }
+fn address_word(a: Option<u64>) -> u64
+    ensures { result ≡ or_else a 0 }
 {
     match a {
-        Address::At(v) => v,
-        Address::Missing => 0,
+        Some(v) => v,
+        None => 0,
     }
 }
 
-// A line, its tokens behind nt tokens and nx bytes.
-pub fn line(s: &[u8], at: usize, tokens: &mut [u32], text: &mut [u8], nt: usize, nx: usize) -> Row
-    requires { (nt ≤ length tokens.old) × ((nx ≤ length text.old) × (length text.old ≤ 262144)) }
-    ensures { line_read (line (drop at s.now)) s.now tokens.old text.old nt nx tokens.new text.new result }
+// A line, its tokens behind those that stand in the columns.
+pub fn line<'a>(
+    s: &'a [u8],
+    tokens: &mut [u32],
+    text: &mut [u8],
+    from: Filled,
+) -> Option<(Row, &'a [u8])>
+    requires { (from.tokens ≤ length tokens.old) × ((from.text ≤ length text.old) × (length text.old ≤ 262144)) }
+    ensures { line_read (line s.now) tokens.old text.old from tokens.new text.new result }
 {
-    let Top::Found(a, d, i) = head(s, at) else {
-        return Row::NoRow;
+    let (top, s) = head(s)?;
+    let (filled, s) = token_array(s, tokens, text, from)?;
+    let s = lexeme(s, b"}")?;
+    let row = Row {
+        filled,
+        low: low_word(top.address, top.indent),
+        address: address_word(top.address),
     };
-    let Arr::Tokens(j, n, x) = token_array(s, i, tokens, text, nt, nx) else {
-        return Row::NoRow;
-    };
-    let Next::At(k) = json_scan::lexeme(s, j, b"}") else {
-        return Row::NoRow;
-    };
-    Row::Whole(k, n, x, low_word(a, d), address_word(a))
+    Some((row, s))
 }

@@ -1,99 +1,83 @@
 // What stands around and between the values of document 01's shape: names of members, separators, kinds, addresses.
-ghost use Rattle.std.specs.Prelude.{◌≡◌, drop};
-ghost use Rattle.json_definitions.specs.Reader.{member, kind, one_of, address};
+#![tactic(auto, using(crate::proofs::MemberRules::members))]
+
+ghost use Rattle.std.specs.Prelude.{◌≡◌};
+ghost use Rattle.json_definitions.specs.Reader.{member, kind, address};
 ghost use Rattle.json_theory.specs.Steps.{separator};
 ghost use Rattle.json_scan.specs.Answers.{next_of, number_of};
-ghost use Rattle.json_lines.specs.Answers.{later_kinds, address_of, separator_of};
+ghost use Rattle.json_lines.specs.Answers.{address_of, separator_of};
 
-use json_scan::{Next, Num};
-use model::columns::Address;
+use json_scan::{lexeme, literal, skip_white_space};
 
-// An address, which may be missing, and the place behind it.
-#[derive(Drop)]
-pub enum Addr {
-    Known(Address, usize),
-    NoAddress,
-}
-
-// "," or "]", and the place behind it.
-#[derive(Drop)]
+// What stands behind an element: "," and one more, or "]".
+#[derive(Clone, Copy)]
 pub enum Sep {
-    More(usize),
-    Close(usize),
-    NoSep,
+    More,
+    Close,
 }
 
 // "{" or ",", the name of a member, and ":".
-pub fn member(s: &[u8], at: usize, before: &[u8], name: &[u8]) -> Next
-    ensures { next_of s.now result ≡ member before.now name.now (drop at s.now) }
+#[inline(always)] // with the fixed words of each call in it, this is faster
+#[tactic(auto, using(crate::proofs::MemberRules::members), unfolding(json_definitions::specs::Reader::member))]
+pub fn member<'a>(s: &'a [u8], before: &[u8], name: &[u8]) -> Option<&'a [u8]>
+    ensures { next_of result ≡ member before.now name.now s.now }
 {
-    let Next::At(i) = json_scan::lexeme(s, at, before) else {
-        return Next::Missing;
-    };
-    let Next::At(j) = json_scan::lexeme(s, i, name) else {
-        return Next::Missing;
-    };
-    json_scan::lexeme(s, j, b":")
+    let s = lexeme(s, before)?;
+    let s = lexeme(s, name)?;
+    lexeme(s, b":")
 }
 
-pub fn separator(s: &[u8], at: usize) -> Sep
-    ensures { separator_of s.now result ≡ separator (drop at s.now) }
+#[tactic(auto, using(crate::proofs::MemberRules::members), unfolding(json_theory::specs::Steps::separator))]
+pub fn separator(s: &[u8]) -> Option<(Sep, &[u8])>
+    ensures { separator_of result ≡ separator s.now }
 {
-    if let Next::At(n) = json_scan::lexeme(s, at, b"]") {
-        return Sep::Close(n);
+    let s = skip_white_space(s);
+    if let Some(rest) = literal(s, b"]") {
+        return Some((Sep::Close, rest));
     }
-    let Next::At(n) = json_scan::lexeme(s, at, b",") else {
-        return Sep::NoSep;
-    };
-    Sep::More(n)
-}
-
-fn later_kind(s: &[u8], at: usize) -> Num
-    ensures { number_of s.now result ≡ one_of 4 later_kinds (drop at s.now) }
-{
-    if let Next::At(n) = json_scan::lexeme(s, at, b"\"symbol\"") {
-        return Num::Value(4, n);
-    }
-    if let Next::At(n) = json_scan::lexeme(s, at, b"\"address\"") {
-        return Num::Value(5, n);
-    }
-    if let Next::At(n) = json_scan::lexeme(s, at, b"\"punct\"") {
-        return Num::Value(6, n);
-    }
-    if let Next::At(n) = json_scan::lexeme(s, at, b"\"prefix\"") {
-        return Num::Value(7, n);
-    }
-    Num::NoNumber
+    let rest = literal(s, b",")?;
+    Some((Sep::More, rest))
 }
 
 // The name of a kind, as the kind's number.
-pub fn kind(s: &[u8], at: usize) -> Num
-    ensures { number_of s.now result ≡ kind (drop at s.now) }
+#[tactic(auto, using(crate::proofs::MemberRules::members), unfolding(json_definitions::specs::Reader::kind, json_definitions::specs::Reader::one_of))]
+pub fn kind(s: &[u8]) -> Option<(u32, &[u8])>
+    ensures { number_of result ≡ kind s.now }
 {
-    if let Next::At(n) = json_scan::lexeme(s, at, b"\"text\"") {
-        return Num::Value(0, n);
+    let s = skip_white_space(s);
+    if let Some(rest) = literal(s, b"\"text\"") {
+        return Some((0, rest));
     }
-    if let Next::At(n) = json_scan::lexeme(s, at, b"\"register\"") {
-        return Num::Value(1, n);
+    if let Some(rest) = literal(s, b"\"register\"") {
+        return Some((1, rest));
     }
-    if let Next::At(n) = json_scan::lexeme(s, at, b"\"number\"") {
-        return Num::Value(2, n);
+    if let Some(rest) = literal(s, b"\"number\"") {
+        return Some((2, rest));
     }
-    if let Next::At(n) = json_scan::lexeme(s, at, b"\"keyword\"") {
-        return Num::Value(3, n);
+    if let Some(rest) = literal(s, b"\"keyword\"") {
+        return Some((3, rest));
     }
-    later_kind(s, at)
+    if let Some(rest) = literal(s, b"\"symbol\"") {
+        return Some((4, rest));
+    }
+    if let Some(rest) = literal(s, b"\"address\"") {
+        return Some((5, rest));
+    }
+    if let Some(rest) = literal(s, b"\"punct\"") {
+        return Some((6, rest));
+    }
+    let rest = literal(s, b"\"prefix\"")?;
+    Some((7, rest))
 }
 
 // null, or a number of 64 bits.
-pub fn address(s: &[u8], at: usize) -> Addr
-    ensures { address_of s.now result ≡ address (drop at s.now) }
+#[tactic(auto, using(crate::proofs::MemberRules::members), unfolding(json_definitions::specs::Reader::address))]
+pub fn address(s: &[u8]) -> Option<(Option<u64>, &[u8])>
+    ensures { address_of result ≡ address s.now }
 {
-    if let Next::At(n) = json_scan::lexeme(s, at, b"null") {
-        return Addr::Known(Address::Missing, n);
+    if let Some(rest) = lexeme(s, b"null") {
+        return Some((None, rest));
     }
-    let Num::Value(v, n) = json_scan::number(s, at, 18446744073709551615) else {
-        return Addr::NoAddress;
-    };
-    Addr::Known(Address::At(v), n)
+    let (v, rest) = json_scan::number(s, u64::MAX)?;
+    Some((Some(v), rest))
 }

@@ -1,24 +1,26 @@
-// The array of lines in a JSON text, on a slice and a position, into lent columns as far as they go. One pass over the text.
+// The array of lines that a JSON text starts with, into lent columns as far as they go. One pass over the text.
 //
 // What is in the columns is told by specs/InColumns.antt, of the parsers of Rattle.json_definitions.specs.Reader.
 
 #![tactic(auto)]
 
-ghost use Rattle.std.specs.Prelude.{◌≡◌, ◌≤◌, ◌<◌, ◌+◌, ◌*◌, length, drop};
-ghost use Rattle.json_definitions.specs.Parser.{array};
-ghost use Rattle.json_definitions.specs.Reader.{line};
+ghost use Rattle.std.specs.Prelude.{◌≡◌, ◌≤◌, ◌<◌, ◌+◌, ◌*◌, length};
+ghost use Rattle.json_definitions.specs.Parser.{array, skip_white_space};
+ghost use Rattle.json_definitions.specs.Reader.{line, is_empty};
 ghost use Rattle.json_theory.specs.Steps.{items};
-ghost use Rattle.json_listing.specs.InColumns.{listing_read, place_of, ended_at};
+ghost use Rattle.json_listing.specs.InColumns.{listing_read};
 
-use json_lines::lines::Row;
-use json_lines::members::Sep;
-use json_scan::Next;
+use json_lines::lines::line;
+use json_lines::members::{Sep, separator};
+use json_lines::tokens::Filled;
+use json_scan::lexeme;
 
-// The place behind the listing, and how many lines, tokens and bytes stand in the columns.
+// How many lines, tokens and bytes stand in the columns.
 #[derive(Clone, Copy)]
-pub enum Lst {
-    Lines(usize, usize, usize, usize),
-    NoLines,
+pub struct Counts {
+    pub lines: usize,
+    pub tokens: usize,
+    pub text: usize,
 }
 
 fn line_word(end: usize, low: u64) -> u32
@@ -28,91 +30,72 @@ fn line_word(end: usize, low: u64) -> u32
     (end as u32) * 512 + (low as u32)
 }
 
-// The lines of an array, from its first element on.
-fn lines_from(
-    s: &[u8],
-    at: usize,
+// The lines of an array, from its first element on, and what is left behind it.
+fn lines_from<'a>(
+    s: &'a [u8],
     lines: &mut [u32],
     addresses: &mut [u64],
     tokens: &mut [u32],
     text: &mut [u8],
-) -> Lst
+) -> Option<(Counts, &'a [u8])>
     requires { (length tokens.old ≤ 16384) × (length text.old ≤ 262144) }
-    ensures { listing_read (items line (drop at s.now)) s.now
+    ensures { listing_read (items line s.now)
         (length lines.old) (length addresses.old) (length tokens.old) (length text.old)
         lines.new addresses.new tokens.new text.new result }
 {
-    let mut i = at;
-    let mut k: usize = 0;
-    let mut n: usize = 0;
-    let mut x: usize = 0;
-    while k < lines.len() {
-        if addresses.len() <= k {
-            return Lst::NoLines;
+    let mut rest = s;
+    let mut filled = Filled { tokens: 0, text: 0 };
+    for k in 0..lines.len().min(addresses.len()) {
+        let (row, s) = line(rest, tokens, text, filled)?;
+        filled = row.filled;
+        lines[k] = line_word(filled.tokens, row.low);
+        addresses[k] = row.address;
+        let (sep, s) = separator(s)?;
+        match sep {
+            Sep::Close => {
+                let counts = Counts {
+                    lines: k + 1,
+                    tokens: filled.tokens,
+                    text: filled.text,
+                };
+                return Some((counts, s));
+            }
+            Sep::More => {
+                rest = s;
+            }
         }
-        let Row::Whole(j, m, y, w, a) = json_lines::lines::line(s, i, tokens, text, n, x) else {
-            return Lst::NoLines;
+    }
+    None
+}
+
+// The array of lines that the text starts with, and what is left behind it.
+pub fn lines_at<'a>(
+    s: &'a [u8],
+    lines: &mut [u32],
+    addresses: &mut [u64],
+    tokens: &mut [u32],
+    text: &mut [u8],
+) -> Option<(Counts, &'a [u8])>
+    requires { (length tokens.old ≤ 16384) × (length text.old ≤ 262144) }
+    ensures { listing_read (array line s.now)
+        (length lines.old) (length addresses.old) (length tokens.old) (length text.old)
+        lines.new addresses.new tokens.new text.new result }
+{
+    let s = lexeme(s, b"[")?;
+    if let Some(s) = lexeme(s, b"]") {
+        let none = Counts {
+            lines: 0,
+            tokens: 0,
+            text: 0,
         };
-        lines[k] = line_word(m, w);
-        addresses[k] = a;
-        k += 1;
-        n = m;
-        x = y;
-        match json_lines::members::separator(s, j) {
-            Sep::Close(l) => {
-                return Lst::Lines(l, k, n, x);
-            }
-            Sep::NoSep => {
-                return Lst::NoLines;
-            }
-            Sep::More(l) => {
-                i = l;
-            }
-        }
+        return Some((none, s));
     }
-    Lst::NoLines
+    lines_from(s, lines, addresses, tokens, text)
 }
 
-// The array of lines at `at`.
-pub fn lines_at(
-    s: &[u8],
-    at: usize,
-    lines: &mut [u32],
-    addresses: &mut [u64],
-    tokens: &mut [u32],
-    text: &mut [u8],
-) -> Lst
-    requires { (length tokens.old ≤ 16384) × (length text.old ≤ 262144) }
-    ensures { listing_read (array line (drop at s.now)) s.now
-        (length lines.old) (length addresses.old) (length tokens.old) (length text.old)
-        lines.new addresses.new tokens.new text.new result }
+// Only white space is left.
+pub fn ended(s: &[u8]) -> bool
+    ensures { result ≡ is_empty (skip_white_space s.now) }
 {
-    let Next::At(i) = json_scan::lexeme(s, at, b"[") else {
-        return Lst::NoLines;
-    };
-    if let Next::At(j) = json_scan::lexeme(s, i, b"]") {
-        return Lst::Lines(j, 0, 0, 0);
-    }
-    lines_from(s, i, lines, addresses, tokens, text)
-}
-
-// The place behind what was read, 0 where nothing was.
-pub fn place(found: Lst) -> usize
-    ensures { result ≡ place_of found }
-{
-    match found {
-        Lst::Lines(l, _, _, _) => l,
-        Lst::NoLines => 0,
-    }
-}
-
-// What was found, if only white space is left from `at` on.
-pub fn ended(s: &[u8], at: usize, found: Lst) -> Lst
-    ensures { result ≡ ended_at s.now at found }
-{
-    let e = json_scan::skip_white_space(s, at);
-    if e < s.len() {
-        return Lst::NoLines;
-    }
-    found
+    json_scan::skip_white_space(s).is_empty()
 }

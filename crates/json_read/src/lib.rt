@@ -4,7 +4,7 @@
 
 #![tactic(auto)]
 
-ghost use Rattle.std.specs.Prelude.{◌≡◌, min, length, drop};
+ghost use Rattle.std.specs.Prelude.{◌≡◌, min, length};
 ghost use Rattle.text.specs.Zeroed.{zeroed};
 ghost use Rattle.json_definitions.specs.Parser.{array};
 ghost use Rattle.json_definitions.specs.Reader.{line};
@@ -12,15 +12,7 @@ ghost use Rattle.json_definitions.specs.JsonCalls.{read_call};
 ghost use Rattle.json_listing.specs.InColumns.{listing_read, closed};
 ghost use Rattle.json_read.specs.Answers.{columns, called};
 
-use json_listing::Lst;
-
-#[derive(Drop)]
-pub enum Answer {
-    // How many lines, tokens and bytes were read.
-    Accepted(usize, usize, usize),
-    // Question 10.
-    Refused,
-}
+use json_listing::Counts;
 
 // Question 1's limits.
 const MOST_LINES: usize = 1024;
@@ -29,29 +21,23 @@ const MOST_TOKENS: usize = 16384;
 
 const MOST_BYTES: usize = 262144;
 
-fn lesser(n: usize, m: usize) -> usize
-    ensures { result ≡ min n m }
-{
-    if n < m { n } else { m }
-}
-
-// The listing, within question 1's limits and what is lent.
-fn read_within(
-    s: &[u8],
+// The listing, within question 1's limits and what is lent, and the white space behind it.
+fn read_within<'a>(
+    s: &'a [u8],
     lines: &mut [u32],
     addresses: &mut [u64],
     tokens: &mut [u32],
     text: &mut [u8],
-) -> Lst
-    ensures { listing_read (closed (array line (drop 0 s.now))) s.now
+) -> Option<(Counts, &'a [u8])>
+    ensures { listing_read (closed (array line s.now))
         (min (length lines.old) 1024) (min (length addresses.old) 1024)
         (min (length tokens.old) 16384) (min (length text.old) 262144)
         lines.new addresses.new tokens.new text.new result }
 {
-    let a = lesser(lines.len(), MOST_LINES);
-    let b = lesser(addresses.len(), MOST_LINES);
-    let c = lesser(tokens.len(), MOST_TOKENS);
-    let d = lesser(text.len(), MOST_BYTES);
+    let a = lines.len().min(MOST_LINES);
+    let b = addresses.len().min(MOST_LINES);
+    let c = tokens.len().min(MOST_TOKENS);
+    let d = text.len().min(MOST_BYTES);
     json_reader::listing(
         s,
         &mut lines[..a],
@@ -61,42 +47,46 @@ fn read_within(
     )
 }
 
-// Zeroes what stands behind k lines, n tokens and x bytes.
+// Zeroes what stands behind so many lines, tokens and bytes.
 fn zero_rest(
     lines: &mut [u32],
     addresses: &mut [u64],
     tokens: &mut [u32],
     text: &mut [u8],
-    k: usize,
-    n: usize,
-    x: usize,
+    from: Counts,
 )
-    ensures lines_after { lines.new ≡ zeroed k lines.old }
-    ensures addresses_after { addresses.new ≡ zeroed k addresses.old }
-    ensures tokens_after { tokens.new ≡ zeroed n tokens.old }
-    ensures text_after { text.new ≡ zeroed x text.old }
+    ensures lines_after { lines.new ≡ zeroed from.lines lines.old }
+    ensures addresses_after { addresses.new ≡ zeroed from.lines addresses.old }
+    ensures tokens_after { tokens.new ≡ zeroed from.tokens tokens.old }
+    ensures text_after { text.new ≡ zeroed from.text text.old }
 {
-    text::zero_words32(lines, k);
-    text::zero_words64(addresses, k);
-    text::zero_words32(tokens, n);
-    text::zero_bytes(text, x);
+    text::zero(lines, from.lines);
+    text::zero(addresses, from.lines);
+    text::zero(tokens, from.tokens);
+    text::zero(text, from.text);
 }
 
-// Reads the JSON text s into the lent columns, packed; what is behind is zero. Refused, every lent word is zero.
+// Reads the JSON text s into the lent columns, packed, and answers how many lines, tokens and bytes were read; what is behind is zero.
+// Refused, by question 10, every lent word is zero.
 pub fn read_json(
     s: &[u8],
     lines: &mut [u32],
     addresses: &mut [u64],
     tokens: &mut [u32],
     text: &mut [u8],
-) -> Answer
+) -> Option<Counts>
     ensures { called result lines.new addresses.new tokens.new text.new
         ≡ read_call s.now (columns lines.old addresses.old tokens.old text.old) }
 {
-    let Lst::Lines(_, k, n, x) = read_within(s, lines, addresses, tokens, text) else {
-        zero_rest(lines, addresses, tokens, text, 0, 0, 0);
-        return Answer::Refused;
+    let Some((counts, _)) = read_within(s, lines, addresses, tokens, text) else {
+        let none = Counts {
+            lines: 0,
+            tokens: 0,
+            text: 0,
+        };
+        zero_rest(lines, addresses, tokens, text, none);
+        return None;
     };
-    zero_rest(lines, addresses, tokens, text, k, n, x);
-    Answer::Accepted(k, n, x)
+    zero_rest(lines, addresses, tokens, text, counts);
+    Some(counts)
 }

@@ -1,74 +1,64 @@
 // A reader over the JSON bytes that remembers how far it has read, and above it `listing`, with plain parameters, which every caller uses.
 //
-// Each step takes the reader apart and calls a function of json_listing on the slice and the position; what it costs is what that costs. The contracts cite
+// What a step of the reader costs is what the function of json_listing that it calls costs. The contracts cite
 // Rattle.json_listing.specs.InColumns.
 
 #![tactic(auto)]
 
-ghost use Rattle.std.specs.Prelude.{◌≡◌, ◌≤◌, length, drop};
-ghost use Rattle.json_definitions.specs.Parser.{array};
-ghost use Rattle.json_definitions.specs.Reader.{line};
-ghost use Rattle.json_listing.specs.InColumns.{listing_read, closed, ended_at};
+ghost use Rattle.std.specs.Prelude.{◌≡◌, ◌≤◌, length, option_map};
+ghost use Rattle.json_definitions.specs.Parser.{array, skip_white_space};
+ghost use Rattle.json_definitions.specs.Reader.{line, is_empty};
+ghost use Rattle.json_listing.specs.InColumns.{listing_read, closed};
 
-use json_listing::Lst;
+use json_listing::{Counts, ended, lines_at};
 
+// The bytes that are left to read.
 #[derive(Clone, Copy)]
 struct Reader<'a> {
-    src: &'a [u8],
-    at: usize,
+    rest: &'a [u8],
 }
 
-// At the start of the bytes.
-fn new<'a>(src: &'a [u8]) -> Reader<'a>
-    ensures { (result.src ≡ src.entry) × (result.at ≡ 0) }
-{
-    Reader { src, at: 0 }
+impl<'a> Reader<'a> {
+    // The array of lines at the reader's place, into the lent columns. The reader stands behind it then.
+    fn line_array(
+        &mut self,
+        lines: &mut [u32],
+        addresses: &mut [u64],
+        tokens: &mut [u32],
+        text: &mut [u8],
+    ) -> Option<Counts>
+        requires { (length tokens.old ≤ 16384) × (length text.old ≤ 262144) }
+        ensures { listing_read (array line self.old.rest.now)
+            (length lines.old) (length addresses.old) (length tokens.old) (length text.old)
+            lines.new addresses.new tokens.new text.new (option_map (λ n. (n, self.new.rest)) result) }
+    {
+        let (counts, rest) = lines_at(self.rest, lines, addresses, tokens, text)?;
+        self.rest = rest;
+        Some(counts)
+    }
+
+    // Only white space is left.
+    fn ended(&self) -> bool
+        ensures { result ≡ is_empty (skip_white_space self.now.rest.now) }
+    {
+        ended(self.rest)
+    }
 }
 
-// The array of lines at the reader's place, into the lent columns.
-fn line_array<'a>(
-    r: Reader<'a>,
+// The listing that is the whole of the text s, into the lent columns, and the white space behind it.
+pub fn listing<'a>(
+    s: &'a [u8],
     lines: &mut [u32],
     addresses: &mut [u64],
     tokens: &mut [u32],
     text: &mut [u8],
-) -> Lst
+) -> Option<(Counts, &'a [u8])>
     requires { (length tokens.old ≤ 16384) × (length text.old ≤ 262144) }
-    ensures { listing_read (array line (drop r.entry.at r.entry.src.now)) r.entry.src.now
+    ensures { listing_read (closed (array line s.now))
         (length lines.old) (length addresses.old) (length tokens.old) (length text.old)
         lines.new addresses.new tokens.new text.new result }
 {
-    json_listing::lines_at(r.src, r.at, lines, addresses, tokens, text)
-}
-
-// The reader, having read up to `at`.
-fn moved<'a>(r: Reader<'a>, at: usize) -> Reader<'a>
-    ensures { (result.src ≡ r.entry.src) × (result.at ≡ at) }
-{
-    Reader { src: r.src, at }
-}
-
-// What was found, if only white space is left at the reader's place.
-fn ended<'a>(r: Reader<'a>, found: Lst) -> Lst
-    ensures { result ≡ ended_at r.entry.src.now r.entry.at found }
-{
-    json_listing::ended(r.src, r.at, found)
-}
-
-// The listing that is the whole of the text s, into the lent columns.
-pub fn listing(
-    s: &[u8],
-    lines: &mut [u32],
-    addresses: &mut [u64],
-    tokens: &mut [u32],
-    text: &mut [u8],
-) -> Lst
-    requires { (length tokens.old ≤ 16384) × (length text.old ≤ 262144) }
-    ensures { listing_read (closed (array line (drop 0 s.now))) s.now
-        (length lines.old) (length addresses.old) (length tokens.old) (length text.old)
-        lines.new addresses.new tokens.new text.new result }
-{
-    let r = new(s);
-    let found = line_array(r, lines, addresses, tokens, text);
-    ended(moved(r, json_listing::place(found)), found)
+    let mut reader = Reader { rest: s };
+    let counts = reader.line_array(lines, addresses, tokens, text)?;
+    reader.ended().then_some((counts, reader.rest))
 }

@@ -6,11 +6,11 @@
 --   cut n out        the columns, each cut to how much of it was read
 --   written_again    the writer, lent the columns that the reader left, leaves a text that the reader reads as it read the first
 -- Assumes nothing.
+use Rattle.std.specs.Prelude.{Option, None, Some}
 use Prim.Native.Nat.{ℕ, ◌-◌}
 use mathlib.Core.Path.{◌≡◌, refl, sym, ap, ◌∙◌}
 use mathlib.Core.Bool.{Bool, true, false, cond, ◌&&◌}
 use mathlib.Core.List.{List}
-use mathlib.Core.Option.{Option, none, some}
 use native.Mathlib.Omega.{arith}
 use lib.Dec.{eqb, leb}
 use lib.ListN.{length, take, replicate, length-map}
@@ -32,7 +32,7 @@ use Rattle.json_round_trip.proofs.Formed.{read_formed}
 use Rattle.json_round_trip.proofs.Columns.{is_word, listing_formed}
 use Rattle.json_round_trip.proofs.Decoded.{words_formed, listing_back}
 
-pub read_again : (s : List ℕ) (L : List Line) → read s ≡ some L → read (write L) ≡ some L
+pub read_again : (s : List ℕ) (L : List Line) → read s ≡ Some L → read (write L) ≡ Some L
 read_again s L e = round_trip L (read_formed s L e)
 
 -- What the writer left is read
@@ -41,13 +41,13 @@ read_text : (L : List Line) (d : Columns) → is_listing L ≡ true → fits d L
 unfolding read_call fitting
 read_text L d h f = rw (round_trip L h, f)
 
-asked : (c : Columns) (out : List ℕ) → write_refusal c out ≡ none → (question_2 c.lines c.tokens c.text ≡ true) × (question_3 c.tokens c.text ≡ true)
+asked : (c : Columns) (out : List ℕ) → write_refusal c out ≡ None → (question_2 c.lines c.tokens c.text ≡ true) × (question_3 c.tokens c.text ≡ true)
 unfolding refusal
 asked c out e =
     go (question_1 limits c.lines c.tokens c.text) (eqb (length c.addresses) (length c.lines)) (question_2 c.lines c.tokens c.text) (question_3 c.tokens c.text)
     (leb (length (write (listing_of c))) (length out)) e
   where
-    go : (q₁ p q₂ q₃ q₄ : Bool) → cond {A = Option ℕ} q₁ (cond (p && q₂) (cond q₃ (cond q₄ none (some 4)) (some 3)) (some 2)) (some 1) ≡ none → (q₂ ≡ true) × (q₃ ≡ true)
+    go : (q₁ p q₂ q₃ q₄ : Bool) → cond {A = Option ℕ} q₁ (cond (p && q₂) (cond q₃ (cond q₄ None (Some 4)) (Some 3)) (Some 2)) (Some 1) ≡ None → (q₂ ≡ true) × (q₃ ≡ true)
     go true true true true q₄ e = (refl, refl)
     go true true true false q₄ e = let z : ◌≡◌ {A = ℕ} 0 1 = cc in absurd (omega arith)
     go true true false q₃ q₄ e = let z : ◌≡◌ {A = ℕ} 0 1 = cc in absurd (omega arith)
@@ -60,11 +60,11 @@ unfolding write_call
 read_written c out n d h e f = go (write_refusal c out) refl e
   where
     called : Option ℕ → Written
-    called o = elim o [ some m ↦ record { answer = refused m; out = out } | none ↦ record { answer = accepted (length (write (listing_of c))); out = filled (write (listing_of c)) out } ]
+    called o = elim o [ Some m ↦ record { answer = refused m; out = out } | None ↦ record { answer = accepted (length (write (listing_of c))); out = filled (write (listing_of c)) out } ]
 
     go : (o : Option ℕ) → write_refusal c out ≡ o → (called o).answer ≡ accepted n → read_call (take n (called o).out) d ≡ passed (accepted (listing_of c)) d
-    go (some m) r e = let z : ◌≡◌ {A = ℕ} 0 1 = cc in absurd (omega arith)
-    go none r e =
+    go (Some m) r e = let z : ◌≡◌ {A = ℕ} 0 1 = cc in absurd (omega arith)
+    go None r e =
         let q = asked c out r in
         let m : n ≡ length (write (listing_of c)) = cc in
         let t : take n (filled (write (listing_of c)) out) ≡ write (listing_of c) = take_at (write (listing_of c)) (replicate (length out - length (write (listing_of c))) 0) n (sym m) in
@@ -72,13 +72,13 @@ read_written c out n d h e f = go (write_refusal c out) refl e
 
 -- What the reader accepted, written, is read again
 
-fitted : (d : Columns) (L : List Line) (o : Option (List Line)) → fitting d o ≡ accepted L → (o ≡ some L) × (fits d L ≡ true)
+fitted : (d : Columns) (L : List Line) (o : Option (List Line)) → fitting d o ≡ accepted L → (o ≡ Some L) × (fits d L ≡ true)
 unfolding fitting
-fitted d L none e = let z : ◌≡◌ {A = ℕ} 0 1 = cc in absurd (omega arith)
-fitted d L (some M) e = go (fits d M) refl e
+fitted d L None e = let z : ◌≡◌ {A = ℕ} 0 1 = cc in absurd (omega arith)
+fitted d L (Some M) e = go (fits d M) refl e
   where
-    go : (b : Bool) → fits d M ≡ b → cond b (accepted M) (refused 10) ≡ accepted L → (some M ≡ some L) × (fits d L ≡ true)
-    go true f e = let q : M ≡ L = cc in (ap some q, rw (← q) f)
+    go : (b : Bool) → fits d M ≡ b → cond b (accepted M) (refused 10) ≡ accepted L → (Some M ≡ Some L) × (fits d L ≡ true)
+    go true f e = let q : M ≡ L = cc in (ap Some q, rw (← q) f)
     go false f e = let z : ◌≡◌ {A = ℕ} 0 1 = cc in absurd (omega arith)
 
 pub call_again : (s : List ℕ) (d : Columns) (L : List Line) → fitting d (read s) ≡ accepted L → read_call (write L) d ≡ read_call s d

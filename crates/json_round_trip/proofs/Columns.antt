@@ -2,11 +2,11 @@
 --   is_word v           the number v has 64 bits
 --   listing_formed      for columns that pass questions 2 and 3
 -- Assumes nothing.
+use Rattle.std.specs.Prelude.{None, Some}
 use Prim.Native.Nat.{ℕ, ◌-◌, ◌/◌, ◌%◌, ◌^◌}
 use mathlib.Core.Path.{◌≡◌, refl}
 use mathlib.Core.Bool.{Bool, true, false, cond, ◌&&◌}
 use mathlib.Core.List.{List, [], ◌∷◌}
-use mathlib.Core.Option.{none, some}
 use native.Mathlib.Omega.{arith}
 use borrow.Author.Tests.{le-leb}
 use lib.Dec.{eqb, leb}
@@ -49,7 +49,7 @@ bodies_formed s (w ∷ l) ts h =
 address_formed : (w v : ℕ) → is_word v ≡ true → is_address (address_of w v) ≡ true
 address_formed w v h = go (eqb (w / 256 % 2) 1)
   where
-    go : (b : Bool) → is_address (cond b (some v) none) ≡ true
+    go : (b : Bool) → is_address (cond b (Some v) None) ≡ true
     go true = unfold is_address in h
     go false = unfold is_address in refl
 

@@ -2,13 +2,12 @@
 --   words_formed    its address words have 64 bits
 --   listing_back    the columns' listing is the listing they were made of
 -- Assumes nothing.
-use Rattle.std.specs.Prelude.{if◌then◌else◌}
+use Rattle.std.specs.Prelude.{if◌then◌else◌, Option, None, Some}
 use Prim.Native.Nat.{ℕ, ◌+◌, ◌*◌, ◌-◌, ◌/◌, ◌%◌, ◌≤◌}
 use mathlib.Core.Path.{◌≡◌, refl, ap, ◌∙◌}
 use mathlib.Core.Bool.{true}
 use mathlib.Core.Logic.{◌⊎◌, inl, inr}
 use mathlib.Core.List.{List, [], ◌∷◌, ◌++◌, map, append_assoc, append-nil}
-use mathlib.Core.Option.{Option, none, some}
 use native.Mathlib.Omega.{arith}
 use borrow.Author.Tests.{leb-true}
 use lib.Dec.{leb}
@@ -49,8 +48,8 @@ all_tokens_are (l ∷ L) h = let p = all_cons is_line l L h in all_append is_tok
 
 address_word : (a : Option ℕ) → is_address a ≡ true → is_word (or_else a 0) ≡ true
 unfolding is_address
-address_word none h = refl
-address_word (some v) h = h
+address_word None h = refl
+address_word (Some v) h = h
 
 pub words_formed : (L : List Line) → is_listing L ≡ true → all is_word (address_words L) ≡ true
 words_formed [] h = all_nil is_word
@@ -87,14 +86,14 @@ tokens_back P (t ∷ ts) R s h k = step (kind_small t p.0) (tokens_back (P ++ t.
 -- Lines
 
 abbrev bare : Line → Line
-bare l = pseudo_line none l.indent l.tokens
+bare l = pseudo_line None l.indent l.tokens
 
 abbrev flag : Option ℕ → ℕ
 flag a = if is_some a then 256 else 0
 
 flags : (a : Option ℕ) → (flag a ≡ 0) ⊎ (flag a ≡ 256)
-flags none = inl refl
-flags (some v) = inr refl
+flags None = inl refl
+flags (Some v) = inr refl
 
 lines_back : (P : List Token) (L : List Line) (R : List Token) (s : ℕ) → length P ≡ s → is_listing L ≡ true → pieces 512 line_of s (line_words_from s L) (P ++ (all_tokens L ++ R)) ≡ map bare L
 unfolding pieces line_words_from concat
@@ -108,7 +107,7 @@ lines_back P (l ∷ L) R s h k =
 
     step : (f : ℕ) → (f ≡ 0) ⊎ (f ≡ 256) → l.indent ≤ 255
         → pieces 512 line_of (s + length l.tokens) (line_words_from (s + length l.tokens) L) ((P ++ l.tokens) ++ (all_tokens L ++ R)) ≡ map bare L
-        → pseudo_line none (((s + length l.tokens) * 512 + f + l.indent) % 256) (part s (((s + length l.tokens) * 512 + f + l.indent) / 512) (P ++ ((l.tokens ++ all_tokens L) ++ R)))
+        → pseudo_line None (((s + length l.tokens) * 512 + f + l.indent) % 256) (part s (((s + length l.tokens) * 512 + f + l.indent) / 512) (P ++ ((l.tokens ++ all_tokens L) ++ R)))
         ∷ pieces 512 line_of (((s + length l.tokens) * 512 + f + l.indent) / 512) (line_words_from (s + length l.tokens) L) (P ++ ((l.tokens ++ all_tokens L) ++ R)) ≡ bare l ∷ map bare L
     step f q g ih =
         let a : ((s + length l.tokens) * 512 + f + l.indent) / 512 ≡ s + length l.tokens = elim q [ inl z ↦ omega arith | inr z ↦ omega arith ] in
@@ -117,8 +116,8 @@ lines_back P (l ∷ L) R s h k =
         rw (a, b, append_assoc l.tokens (all_tokens L) R, c) (ap (λ (r : List Line). bare l ∷ r) (rw (append_assoc P l.tokens (all_tokens L ++ R)) at ih))
 
 address_back : (a : Option ℕ) (e i : ℕ) → i ≤ 255 → address_of (e * 512 + (if is_some a then 256 else 0) + i) (or_else a 0) ≡ a
-address_back none e i h = let z : (e * 512 + 0 + i) / 256 % 2 ≡ 0 = omega arith in rw z
-address_back (some v) e i h = let z : (e * 512 + 256 + i) / 256 % 2 ≡ 1 = omega arith in rw z
+address_back None e i h = let z : (e * 512 + 0 + i) / 256 % 2 ≡ 0 = omega arith in rw z
+address_back (Some v) e i h = let z : (e * 512 + 256 + i) / 256 % 2 ≡ 1 = omega arith in rw z
 
 addresses_back : (s : ℕ) (L : List Line) → is_listing L ≡ true → with_addresses (line_words_from s L) (address_words L) (map bare L) ≡ L
 unfolding with_addresses line_words_from

@@ -3,11 +3,11 @@
 --   string_formed     a string is read as UTF-8
 --   read_formed       what `read` gives is a listing: kinds, UTF-8, indents and addresses are within their bounds
 -- Assumes nothing.
+use Rattle.std.specs.Prelude.{Option, None, Some}
 use Prim.Native.Nat.{ℕ, zero, suc, ◌+◌, ◌*◌, ◌-◌, ◌/◌, ◌%◌, ◌^◌, ◌≤◌, ◌<◌}
 use mathlib.Core.Path.{◌≡◌, refl, ap}
 use mathlib.Core.Bool.{Bool, true, false, cond, ◌&&◌, true≢false}
 use mathlib.Core.List.{List, [], ◌∷◌, ◌++◌}
-use mathlib.Core.Option.{Option, none, some}
 use native.Mathlib.Omega.{arith}
 use borrow.Author.Tests.{ne_eqb, eqb-true, le-leb, lt-leb, leb-true, leb-false, ltb-true, ltb-false}
 use lib.Dec.{eqb, leb, ltb}
@@ -27,7 +27,7 @@ use Rattle.json_definitions.specs.Listings.{is_token, is_address, is_line, is_li
 use Rattle.json_theory.proofs.Results.{never, same_got, after_some, or_some, either}
 use Rattle.json_theory.proofs.Bounds.{hex_4_below, token_kind_below, whole_number_below, head_below}
 
-value_is : {A : Type 0} (v : A) (x : List ℕ) (g : Got A) → got v x ≡ some g → v ≡ g.value
+value_is : {A : Type 0} (v : A) (x : List ℕ) (g : Got A) → got v x ≡ Some g → v ≡ g.value
 value_is {A} v x g e = ap (λ (y : Got A). y.value) (same_got _ g e)
 
 -- Code points
@@ -98,26 +98,26 @@ encode_utf8 u h s = go (ltb u 0x80) refl (ltb u 0x800) refl (ltb u 0x10000) refl
 
 -- Characters
 
-ranges_formed : (rs : List Range) (s : List ℕ) (g : Got (List ℕ)) → in_ranges rs s ≡ some g → utf8_after rs g.value ≡ true
+ranges_formed : (rs : List Range) (s : List ℕ) (g : Got (List ℕ)) → in_ranges rs s ≡ Some g → utf8_after rs g.value ≡ true
 unfolding in_ranges
 ranges_formed [] s g e = rw (← value_is [] s g e) (unfold utf8_after in refl)
 ranges_formed (r ∷ rs) [] g e = never g e
 ranges_formed (r ∷ rs) (b ∷ s) g e = go (within r.low r.high b) refl e (ranges_formed rs s)
   where
-    go : (y : Bool) → within r.low r.high b ≡ y → cond y (after (in_ranges rs s) (λ bs. pure (b ∷ bs))) none ≡ some g
-        → ((k : Got (List ℕ)) → in_ranges rs s ≡ some k → utf8_after rs k.value ≡ true) → utf8_after (r ∷ rs) g.value ≡ true
+    go : (y : Bool) → within r.low r.high b ≡ y → cond y (after (in_ranges rs s) (λ bs. pure (b ∷ bs))) None ≡ Some g
+        → ((k : Got (List ℕ)) → in_ranges rs s ≡ Some k → utf8_after rs k.value ≡ true) → utf8_after (r ∷ rs) g.value ≡ true
     go true f e ih =
         let a = after_some (in_ranges rs s) _ g e in
         rw (← value_is (b ∷ a.0.value) a.0.rest g a.2) (unfold utf8_after in both f (ih a.0 a.1))
     go false f e ih = never g e
 
-code_point_formed : (a : ℕ) (s : List ℕ) (g : Got (List ℕ)) → code_point (a ∷ s) ≡ some g → is_utf8 g.value ≡ true
+code_point_formed : (a : ℕ) (s : List ℕ) (g : Got (List ℕ)) → code_point (a ∷ s) ≡ Some g → is_utf8 g.value ≡ true
 unfolding code_point
 code_point_formed a s g e = go (following a) refl e
   where
-    go : (o : Option (List Range)) → following a ≡ o → elim o [ none ↦ none | some rs ↦ after (in_ranges rs s) (λ bs. pure (a ∷ bs)) ] ≡ some g → is_utf8 g.value ≡ true
-    go none f e = never g e
-    go (some rs) f e =
+    go : (o : Option (List Range)) → following a ≡ o → elim o [ None ↦ None | Some rs ↦ after (in_ranges rs s) (λ bs. pure (a ∷ bs)) ] ≡ Some g → is_utf8 g.value ≡ true
+    go None f e = never g e
+    go (Some rs) f e =
         let b = after_some (in_ranges rs s) _ g e in
         rw (← value_is (a ∷ b.0.value) b.0.rest g b.2) (unfold utf8_after in rw (f, utf8_after) (ranges_formed rs s b.0 b.1))
 
@@ -134,23 +134,23 @@ short_formed c =
 abbrev paired : ℕ → ℕ → ℕ
 paired u w = 0x10000 + (u - 0xd800) * 1024 + (w - 0xdc00)
 
-surrogate_formed : (u w : ℕ) (x : List ℕ) (g : Got (List ℕ)) → 0xd800 ≤ u → u ≤ 0xdbff → low_surrogate u w x ≡ some g → is_utf8 g.value ≡ true
+surrogate_formed : (u w : ℕ) (x : List ℕ) (g : Got (List ℕ)) → 0xd800 ≤ u → u ≤ 0xdbff → low_surrogate u w x ≡ Some g → is_utf8 g.value ≡ true
 unfolding low_surrogate
 surrogate_formed u w x g h k e = go (leb 0xdc00 w) refl (leb w 0xdfff) refl e
   where
-    go : (p : Bool) → leb 0xdc00 w ≡ p → (q : Bool) → leb w 0xdfff ≡ q → cond (p && q) (got (encode (paired u w)) x) none ≡ some g → is_utf8 g.value ≡ true
+    go : (p : Bool) → leb 0xdc00 w ≡ p → (q : Bool) → leb w 0xdfff ≡ q → cond (p && q) (got (encode (paired u w)) x) None ≡ Some g → is_utf8 g.value ≡ true
     go true p true q e =
         let a = leb-true 0xdc00 w p in let b = leb-true w 0xdfff q in
         rw (← value_is (encode (paired u w)) x g e) (encode_utf8 (paired u w) (omega arith) (rw (le-leb 0xd800 (paired u w) (omega arith), lt-leb (paired u w) 0xdfff (omega arith))))
     go true p false q e = never g e
     go false p q r e = never g e
 
-unit_formed : (u : ℕ) (x : List ℕ) (g : Got (List ℕ)) → u < 65536 → code_unit u x ≡ some g → is_utf8 g.value ≡ true
+unit_formed : (u : ℕ) (x : List ℕ) (g : Got (List ℕ)) → u < 65536 → code_unit u x ≡ Some g → is_utf8 g.value ≡ true
 unfolding code_unit
 unit_formed u x g h e = go (within 0xd800 0xdfff u) refl (leb u 0xdbff) refl e
   where
     go : (p : Bool) → within 0xd800 0xdfff u ≡ p → (q : Bool) → leb u 0xdbff ≡ q
-        → cond p (cond q ((literal (92 ∷ 117 ∷ []) >> (hex_4 >>= low_surrogate u)) x) none) (got (encode u) x) ≡ some g → is_utf8 g.value ≡ true
+        → cond p (cond q ((literal (92 ∷ 117 ∷ []) >> (hex_4 >>= low_surrogate u)) x) None) (got (encode u) x) ≡ Some g → is_utf8 g.value ≡ true
     go true p true q e =
         let a = after_some (literal (92 ∷ 117 ∷ []) x) _ g e in
         let b = after_some (hex_4 a.0.rest) _ g a.2 in
@@ -158,22 +158,22 @@ unit_formed u x g h e = go (within 0xd800 0xdfff u) refl (leb u 0xdbff) refl e
     go true p false q e = never g e
     go false p q r e = rw (← value_is (encode u) x g e) (encode_utf8 u (omega arith) p)
 
-escape_formed : (s : List ℕ) (g : Got (List ℕ)) → escape s ≡ some g → is_utf8 g.value ≡ true
+escape_formed : (s : List ℕ) (g : Got (List ℕ)) → escape s ≡ Some g → is_utf8 g.value ≡ true
 unfolding escape
 escape_formed [] g e = never g e
 escape_formed (c ∷ s) g e =
-    either (eqb c 0x75) ((hex_4 >>= code_unit) s) (cond (eqb (short_escape c) 0) none (got (short_escape c ∷ []) s)) g (is_utf8 g.value ≡ true)
+    either (eqb c 0x75) ((hex_4 >>= code_unit) s) (cond (eqb (short_escape c) 0) None (got (short_escape c ∷ []) s)) g (is_utf8 g.value ≡ true)
     (λ q. let a = after_some (hex_4 s) _ g q in unit_formed a.0.value a.0.rest g (hex_4_below s a.0 a.1) a.2)
-    (λ q. either (eqb (short_escape c) 0) none (got (short_escape c ∷ []) s) g (is_utf8 g.value ≡ true) (λ r. never g r) (λ r. rw (← value_is (short_escape c ∷ []) s g r) (short_formed c)) q) e
+    (λ q. either (eqb (short_escape c) 0) None (got (short_escape c ∷ []) s) g (is_utf8 g.value ≡ true) (λ r. never g r) (λ r. rw (← value_is (short_escape c ∷ []) s g r) (short_formed c)) q) e
 
-character_formed : (s : List ℕ) (g : Got (List ℕ)) → character s ≡ some g → is_utf8 g.value ≡ true
+character_formed : (s : List ℕ) (g : Got (List ℕ)) → character s ≡ Some g → is_utf8 g.value ≡ true
 unfolding character unescaped
 character_formed [] g e = never g e
 character_formed (c ∷ s) g e =
-    either (eqb c 0x5c) (escape s) (cond (ltb c 0x20) none (code_point (c ∷ s))) g (is_utf8 g.value ≡ true) (escape_formed s g)
-    (λ q. either (ltb c 0x20) none (code_point (c ∷ s)) g (is_utf8 g.value ≡ true) (λ r. never g r) (code_point_formed c s g) q) e
+    either (eqb c 0x5c) (escape s) (cond (ltb c 0x20) None (code_point (c ∷ s))) g (is_utf8 g.value ≡ true) (escape_formed s g)
+    (λ q. either (ltb c 0x20) None (code_point (c ∷ s)) g (is_utf8 g.value ≡ true) (λ r. never g r) (code_point_formed c s g) q) e
 
-characters_formed : (n : ℕ) (s : List ℕ) (g : Got (List ℕ)) → characters n s ≡ some g → is_utf8 g.value ≡ true
+characters_formed : (n : ℕ) (s : List ℕ) (g : Got (List ℕ)) → characters n s ≡ Some g → is_utf8 g.value ≡ true
 unfolding characters
 characters_formed zero s g e = never g e
 characters_formed (suc n) s g e =
@@ -183,13 +183,13 @@ characters_formed (suc n) s g e =
     rw (← value_is (a.0.value ++ b.0.value) b.0.rest g b.2) (utf8_append a.0.value b.0.value (character_formed s a.0 a.1) (characters_formed n a.0.rest b.0 b.1)))
     e
 
-pub string_formed : (s : List ℕ) (g : Got (List ℕ)) → string s ≡ some g → is_utf8 g.value ≡ true
+pub string_formed : (s : List ℕ) (g : Got (List ℕ)) → string s ≡ Some g → is_utf8 g.value ≡ true
 unfolding string
 string_formed s g e = let a = after_some (lexeme (34 ∷ []) s) _ g e in characters_formed (length a.0.rest) a.0.rest g a.2
 
 -- Tokens and lines
 
-token_formed : (s : List ℕ) (g : Got Token) → token s ≡ some g → is_token g.value ≡ true
+token_formed : (s : List ℕ) (g : Got Token) → token s ≡ Some g → is_token g.value ≡ true
 unfolding token
 token_formed s g e =
     let a = after_some (member (ascii "{") (ascii "\"t\"") s) _ g e in
@@ -198,17 +198,17 @@ token_formed s g e =
     rw (← value_is (tok b.0.value c.0.value) c.0.rest g c.2)
     (unfold is_token in both (le-leb c.0.value 7 (token_kind_below b.0.rest c.0 c.1)) (string_formed a.0.rest b.0 b.1))
 
-address_formed : (s : List ℕ) (g : Got (Option ℕ)) → address s ≡ some g → is_address g.value ≡ true
+address_formed : (s : List ℕ) (g : Got (Option ℕ)) → address s ≡ Some g → is_address g.value ≡ true
 unfolding address
 address_formed s g e =
-    or_some (after (lexeme (ascii "null") s) (λ _. pure none)) (number (2 ^ 64 - 1) >>= (λ v. pure (some v))) s g (is_address g.value ≡ true)
-    (λ q. let a = after_some (lexeme (ascii "null") s) _ g q in rw (← value_is none a.0.rest g a.2) (unfold is_address in refl))
+    or_some (after (lexeme (ascii "null") s) (λ _. pure None)) (number (2 ^ 64 - 1) >>= (λ v. pure (Some v))) s g (is_address g.value ≡ true)
+    (λ q. let a = after_some (lexeme (ascii "null") s) _ g q in rw (← value_is None a.0.rest g a.2) (unfold is_address in refl))
     (λ q. let a = after_some (number (2 ^ 64 - 1) s) _ g q in
     let h : a.0.value ≤ 2 ^ 64 - 1 = unfold number in whole_number_below (2 ^ 64 - 1) (skip_white_space s) a.0 a.1 in
-    rw (← value_is (some a.0.value) a.0.rest g a.2) (unfold is_address in le-leb a.0.value (2 ^ 64 - 1) h)) e
+    rw (← value_is (Some a.0.value) a.0.rest g a.2) (unfold is_address in le-leb a.0.value (2 ^ 64 - 1) h)) e
 
-module _ {A : Type 0} (p : Parser A) (ok : A → Bool) (formed : (s : List ℕ) (g : Got A) → p s ≡ some g → ok g.value ≡ true) where
-  elements_formed : (n : ℕ) (s : List ℕ) (g : Got (List A)) → elements p n s ≡ some g → all ok g.value ≡ true
+module _ {A : Type 0} (p : Parser A) (ok : A → Bool) (formed : (s : List ℕ) (g : Got A) → p s ≡ Some g → ok g.value ≡ true) where
+  elements_formed : (n : ℕ) (s : List ℕ) (g : Got (List A)) → elements p n s ≡ Some g → all ok g.value ≡ true
   unfolding elements
   elements_formed zero s g e = never g e
   elements_formed (suc n) s g e =
@@ -217,7 +217,7 @@ module _ {A : Type 0} (p : Parser A) (ok : A → Bool) (formed : (s : List ℕ) 
       (λ q. let a = after_some (lexeme (44 ∷ []) s) _ g q in let b = after_some (p a.0.rest) _ g a.2 in let c = after_some (elements p n b.0.rest) _ g b.2 in
       rw (← value_is (b.0.value ∷ c.0.value) c.0.rest g c.2) (all_and ok b.0.value c.0.value (formed a.0.rest b.0 b.1) (elements_formed n b.0.rest c.0 c.1))) e
 
-  array_formed : (s : List ℕ) (g : Got (List A)) → array p s ≡ some g → all ok g.value ≡ true
+  array_formed : (s : List ℕ) (g : Got (List A)) → array p s ≡ Some g → all ok g.value ≡ true
   unfolding array
   array_formed s g e =
       let a = after_some (lexeme (91 ∷ []) s) _ g e in
@@ -227,7 +227,7 @@ module _ {A : Type 0} (p : Parser A) (ok : A → Bool) (formed : (s : List ℕ) 
       (λ q. let b = after_some (p t) _ g q in let c = after_some (elements p (suc (length b.0.rest)) b.0.rest) _ g b.2 in
       rw (← value_is (b.0.value ∷ c.0.value) c.0.rest g c.2) (all_and ok b.0.value c.0.value (formed t b.0 b.1) (elements_formed (suc (length b.0.rest)) b.0.rest c.0 c.1))) a.2
 
-head_formed : (s : List ℕ) (g : Got Head) → head s ≡ some g → is_address g.value.address ≡ true
+head_formed : (s : List ℕ) (g : Got Head) → head s ≡ Some g → is_address g.value.address ≡ true
 unfolding head
 head_formed s g e =
     let a = after_some (member (ascii "{") (ascii "\"address\"") s) _ g e in
@@ -235,7 +235,7 @@ head_formed s g e =
     let c = after_some (line_indent b.0.rest) _ g b.2 in
     rw (← value_is (record { address = b.0.value; indent = c.0.value }) c.0.rest g c.2) (address_formed a.0.rest b.0 b.1)
 
-line_formed : (s : List ℕ) (g : Got Line) → line s ≡ some g → is_line g.value ≡ true
+line_formed : (s : List ℕ) (g : Got Line) → line s ≡ Some g → is_line g.value ≡ true
 unfolding line
 line_formed s g e =
     let a = after_some (head s) _ g e in
@@ -244,14 +244,14 @@ line_formed s g e =
     rw (← value_is (pseudo_line a.0.value.address a.0.value.indent b.0.value) c.0.rest g c.2)
     (unfold is_line in both (head_formed s a.0 a.1) (both (le-leb a.0.value.indent 255 (head_below s a.0 a.1)) (array_formed token is_token token_formed a.0.rest b.0 b.1)))
 
-pub read_formed : (s : List ℕ) (L : List Line) → read s ≡ some L → is_listing L ≡ true
+pub read_formed : (s : List ℕ) (L : List Line) → read s ≡ Some L → is_listing L ≡ true
 unfolding read ended
 read_formed s L e = go (array line s) refl e
   where
-    go : (o : Option (Got (List Line))) → array line s ≡ o → ended o ≡ some L → is_listing L ≡ true
-    go none f e = let z : ◌≡◌ {A = ℕ} 0 1 = cc in absurd (omega arith)
-    go (some g) f e = test (is_empty (skip_white_space g.rest)) e
+    go : (o : Option (Got (List Line))) → array line s ≡ o → ended o ≡ Some L → is_listing L ≡ true
+    go None f e = let z : ◌≡◌ {A = ℕ} 0 1 = cc in absurd (omega arith)
+    go (Some g) f e = test (is_empty (skip_white_space g.rest)) e
       where
-        test : (b : Bool) → cond b (some g.value) none ≡ some L → is_listing L ≡ true
+        test : (b : Bool) → cond b (Some g.value) None ≡ Some L → is_listing L ≡ true
         test true e = let z : g.value ≡ L = cc in rw (← z) (array_formed line is_line line_formed s g f)
         test false e = let z : ◌≡◌ {A = ℕ} 0 1 = cc in absurd (omega arith)

@@ -1,18 +1,19 @@
--- What the answers of the code stand for: the definition's answer, the rest being what follows a place of the text s.
---   next_of s r, number_of s r
+-- What the answers of the code stand for, where a definition of json_definitions gives a value and the rest of the text.
+--   next_of r      r is the rest
+--   found_of f r   r is what was found, which stands for its image under f, and the rest
+--   number_of r    r is a number and the rest
 -- Assumes nothing.
-use Rattle.std.specs.Prelude.{ℕ, List, drop}
-use Rattle.std.proofs.Math.Option.{Option, none}
+use Rattle.std.specs.Prelude.{ℕ, List, Option, Some, None}
+use Rattle.std.specs.Borrow.{Bor}
 use Rattle.json_definitions.specs.Parser.{Got, got}
-use Rattle.json_scan.specs.declared.Next.{Next}
-use Rattle.json_scan.specs.declared.Next.TheVariants.{At, Missing}
-use Rattle.json_scan.specs.declared.Num.{Num}
-use Rattle.json_scan.specs.declared.Num.TheVariants.{Value, NoNumber}
 
-abbrev pub next_of : List ℕ → Next → Option (Got (Unit {0}))
-next_of s (At n) = got tt (drop n s)
-next_of s Missing = none
+abbrev pub next_of : Option (Bor (List ℕ)) → Option (Got (Unit {0}))
+next_of (Some s) = got tt s.now
+next_of None = None
 
-abbrev pub number_of : List ℕ → Num → Option (Got ℕ)
-number_of s (Value v n) = got v (drop n s)
-number_of s NoNumber = none
+abbrev pub found_of : {A B : Type 0} → (A → B) → Option (A × Bor (List ℕ)) → Option (Got B)
+found_of f (Some (a, s)) = got (f a) s.now
+found_of f None = None
+
+abbrev pub number_of : Option (ℕ × Bor (List ℕ)) → Option (Got ℕ)
+number_of r = found_of (λ v. v) r

@@ -1,35 +1,25 @@
--- What the answers of the code stand for: the definition's answer, the rest being what follows a place of the text s.
---   bytes_of b             the bytes
---   character_of s r       a code point
---   string_of s t from r   a string whose bytes stand in t from place `from` on
---   Within n from r        those bytes end at a place from `from` to n
---   limited room o         what o gave, if it has at most `room` bytes
+-- What the answers of the code stand for, where a definition of json_definitions gives a value and the rest of the text.
+--   bytes_of b            the bytes
+--   character_of r        a code point
+--   string_of t from r    a string whose bytes stand in t from place `from` on
+--   limited room o        what o gave, if it has at most `room` bytes
 -- Assumes nothing.
-use Rattle.std.specs.Prelude.{if◌then◌else◌, ℕ, ◌≤◌, List, [], ◌∷◌, leb, length, take, drop}
-use Rattle.std.proofs.Math.Option.{Option, none, some}
+use Rattle.std.specs.Prelude.{if◌then◌else◌, ℕ, List, leb, length, take, Option, None, Some}
+use Rattle.std.specs.Borrow.{Bor}
 use Rattle.definitions.specs.Lists.{part}
-use Rattle.json_definitions.specs.Parser.{Got, got}
-use Rattle.json_strings.specs.declared.points.Bytes.{Bytes}
-use Rattle.json_strings.specs.declared.points.Piece.{Piece}
-use Rattle.json_strings.specs.declared.points.Piece.TheVariants.{Point, Bad}
-use Rattle.json_strings.specs.declared.strings.Str.{Str}
-use Rattle.json_strings.specs.declared.strings.Str.TheVariants.{Ends, NoString}
+use Rattle.json_definitions.specs.Parser.{Got}
+use Rattle.json_scan.specs.Answers.{found_of}
+use Rattle.json_strings.specs.declared.bytes.Bytes.{Bytes}
 
 abbrev pub bytes_of : Bytes → List ℕ
-bytes_of b = take b.n (b.a ∷ b.b ∷ b.c ∷ b.d ∷ [])
+bytes_of b = take b.n b.all
 
-abbrev pub character_of : List ℕ → Piece → Option (Got (List ℕ))
-character_of s (Point b n) = got (bytes_of b) (drop n s)
-character_of s Bad = none
+abbrev pub character_of : Option (Bytes × Bor (List ℕ)) → Option (Got (List ℕ))
+character_of r = found_of bytes_of r
 
-abbrev pub string_of : List ℕ → List ℕ → ℕ → Str → Option (Got (List ℕ))
-string_of s t from (Ends n e) = got (part from e t) (drop n s)
-string_of s t from NoString = none
-
-abbrev pub Within : ℕ → ℕ → Str → Type 0
-Within n from (Ends _ e) = (from ≤ e) × (e ≤ n)
-Within n from NoString = Unit {0}
+abbrev pub string_of : List ℕ → ℕ → Option (ℕ × Bor (List ℕ)) → Option (Got (List ℕ))
+string_of t from r = found_of (λ e. part from e t) r
 
 unfoldable pub limited : ℕ → Option (Got (List ℕ)) → Option (Got (List ℕ))
-limited room none = none
-limited room (some g) = if leb (length g.value) room then some g else none
+limited room None = None
+limited room (Some g) = if leb (length g.value) room then Some g else None

@@ -1,175 +1,94 @@
 // What stands behind a backslash.
-ghost use Rattle.std.specs.Prelude.{◌≡◌, ◌+◌, ◌*◌, ◌≤◌, ◌<◌, drop};
-ghost use Rattle.definitions.specs.Utf8.{within};
-ghost use Rattle.json_definitions.specs.Strings.{hex_value, hex_digit, hex_4, low_surrogate, code_unit, short_escape, escape};
+#![tactic(auto, using(crate::proofs::EscapeRules::escapes), unfolding(json_definitions::specs::Strings::hex_4))]
+
+ghost use Rattle.std.specs.Prelude.{◌≡◌, ◌≢◌, ◌≤◌, ◌<◌, IfSome, SomeIff};
+ghost use Rattle.json_definitions.specs.Strings.{hex_digit, hex_4, low_surrogate, code_unit, short_escape, escape};
 ghost use Rattle.json_scan.specs.Answers.{number_of};
 ghost use Rattle.json_strings.specs.Answers.{character_of};
 
-use crate::points::{Bytes, Piece, encode};
-use json_scan::{Next, Num};
+use crate::bytes::Bytes;
+use crate::points::encode;
 
-fn wide(x: u8) -> u64
-    ensures { result ≡ x }
+fn hex_digit(s: &[u8]) -> Option<(u32, &[u8])>
+    ensures value { number_of result ≡ hex_digit s.now }
+    ensures small { IfSome result (λ r. r.0 < 16) }
 {
-    x as u64
+    let (c, rest) = s.split_first()?;
+    let v = char::from(*c).to_digit(16)?;
+    Some((v, rest))
 }
 
-fn within(low: u8, high: u8, c: u8) -> bool
-    ensures { result ≡ within low high c }
+fn hex_4(s: &[u8]) -> Option<(u32, &[u8])>
+    ensures value { number_of result ≡ hex_4 s.now }
+    ensures small { IfSome result (λ r. r.0 < 65536) }
 {
-    if low <= c {
-        return c <= high;
-    }
-    false
-}
-
-// The value of a hexadecimal digit, 16 where it is none.
-fn hex_value(c: u8) -> u64
-    ensures { result ≡ hex_value c }
-{
-    if within(0x30, 0x39, c) {
-        return wide(c - 0x30);
-    }
-    if within(0x61, 0x66, c) {
-        return wide(c - 0x57);
-    }
-    if within(0x41, 0x46, c) {
-        return wide(c - 0x37);
-    }
-    16
-}
-
-fn hex_digit(s: &[u8], at: usize) -> Num
-    ensures { number_of s.now result ≡ hex_digit (drop at s.now) }
-{
-    if s.len() <= at {
-        return Num::NoNumber;
-    }
-    let v = hex_value(s[at]);
-    if v < 16 {
-        return Num::Value(v, at + 1);
-    }
-    Num::NoNumber
-}
-
-fn joined(a: u64, b: u64, c: u64, d: u64) -> u64
-    requires { (a < 16) × ((b < 16) × ((c < 16) × (d < 16))) }
-    ensures { result ≡ a * 4096 + b * 256 + c * 16 + d }
-{
-    a * 4096 + b * 256 + c * 16 + d
-}
-
-fn hex_4(s: &[u8], at: usize) -> Num
-    ensures { number_of s.now result ≡ hex_4 (drop at s.now) }
-{
-    let Num::Value(a, i) = hex_digit(s, at) else {
-        return Num::NoNumber;
-    };
-    let Num::Value(b, j) = hex_digit(s, i) else {
-        return Num::NoNumber;
-    };
-    let Num::Value(c, k) = hex_digit(s, j) else {
-        return Num::NoNumber;
-    };
-    let Num::Value(d, l) = hex_digit(s, k) else {
-        return Num::NoNumber;
-    };
-    Num::Value(joined(a, b, c, d), l)
+    let (a, s) = hex_digit(s)?;
+    let (b, s) = hex_digit(s)?;
+    let (c, s) = hex_digit(s)?;
+    let (d, s) = hex_digit(s)?;
+    Some((a * 4096 + b * 256 + c * 16 + d, s))
 }
 
 // The code point of the surrogates u and w.
-fn low_surrogate(s: &[u8], at: usize, u: u64, w: u64) -> Piece
+fn low_surrogate(s: &[u8], u: u32, w: u32) -> Option<(Bytes, &[u8])>
     requires { (55296 ≤ u) × (u ≤ 56319) }
-    ensures { character_of s.now result ≡ low_surrogate u w (drop at s.now) }
+    ensures { character_of result ≡ low_surrogate u w s.now }
 {
-    if w < 0xdc00 {
-        return Piece::Bad;
+    match w {
+        0xdc00..=0xdfff => Some((
+            encode(u64::from(0x10000 + (u - 0xd800) * 1024 + (w - 0xdc00))),
+            s,
+        )),
+        _ => None,
     }
-    if 0xdfff < w {
-        return Piece::Bad;
-    }
-    Piece::Point(encode(0x10000 + (u - 0xd800) * 1024 + (w - 0xdc00)), at)
 }
 
 // What \u and the number u stand for.
-fn code_unit(s: &[u8], at: usize, u: u64) -> Piece
+fn code_unit(s: &[u8], u: u32) -> Option<(Bytes, &[u8])>
     requires { u < 65536 }
-    ensures { character_of s.now result ≡ code_unit u (drop at s.now) }
+    ensures { character_of result ≡ code_unit u s.now }
 {
-    if u < 0xd800 {
-        return Piece::Point(encode(u), at);
+    match u {
+        0xd800..=0xdbff => {
+            let s = json_scan::literal(s, b"\\u")?;
+            let (w, s) = hex_4(s)?;
+            low_surrogate(s, u, w)
+        }
+        0xdc00..=0xdfff => None,
+        _ => Some((encode(u64::from(u)), s)),
     }
-    if 0xdfff < u {
-        return Piece::Point(encode(u), at);
-    }
-    if 0xdbff < u {
-        return Piece::Bad;
-    }
-    let Next::At(i) = json_scan::literal(s, at, b"\\u") else {
-        return Piece::Bad;
-    };
-    let Num::Value(w, j) = hex_4(s, i) else {
-        return Piece::Bad;
-    };
-    low_surrogate(s, j, u, w)
 }
 
-fn short_escape(c: u8) -> u8
-    ensures { result ≡ short_escape c }
+#[tactic(auto, using(std::proofs::lemmas::Bool::Decides::nat_tests), unfolding(json_definitions::specs::Strings::short_escape))]
+fn short_escape(c: u8) -> Option<u8>
+    ensures { SomeIff result (short_escape c ≢ 0) (short_escape c) }
 {
-    if c == b'"' {
-        return b'"';
+    match c {
+        b'"' | b'\\' | b'/' => Some(c),
+        b'b' => Some(0x08),
+        b'f' => Some(0x0c),
+        b'n' => Some(b'\n'),
+        b'r' => Some(b'\r'),
+        b't' => Some(b'\t'),
+        _ => None,
     }
-    if c == b'\\' {
-        return b'\\';
-    }
-    if c == b'/' {
-        return b'/';
-    }
-    if c == b'b' {
-        return 0x08;
-    }
-    if c == b'f' {
-        return 0x0c;
-    }
-    if c == b'n' {
-        return 0x0a;
-    }
-    if c == b'r' {
-        return 0x0d;
-    }
-    if c == b't' {
-        return 0x09;
-    }
-    0
 }
 
 // What stands behind a backslash.
-pub fn escape(s: &[u8], at: usize) -> Piece
-    ensures { character_of s.now result ≡ escape (drop at s.now) }
+pub fn escape(s: &[u8]) -> Option<(Bytes, &[u8])>
+    ensures { character_of result ≡ escape s.now }
 {
-    if s.len() <= at {
-        return Piece::Bad;
+    let (c, rest) = s.split_first()?;
+    if *c == b'u' {
+        let (u, rest) = hex_4(rest)?;
+        return code_unit(rest, u);
     }
-    let c = s[at];
-    if c == b'u' {
-        let Num::Value(u, i) = hex_4(s, at + 1) else {
-            return Piece::Bad;
-        };
-        return code_unit(s, i, u);
-    }
-    let v = short_escape(c);
-    if v == 0 {
-        return Piece::Bad;
-    }
-    Piece::Point(
+    let v = short_escape(*c)?;
+    Some((
         Bytes {
             n: 1,
-            a: v,
-            b: 0,
-            c: 0,
-            d: 0,
+            all: [v, 0, 0, 0],
         },
-        at + 1,
-    )
+        rest,
+    ))
 }

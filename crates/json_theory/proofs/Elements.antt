@@ -2,11 +2,11 @@
 --   array_items                                         "[", and "]" or elements
 --   elements_close, elements_more, elements_none        what stands behind an element, by the separator
 -- Assumes nothing.
+use Rattle.std.specs.Prelude.{Option, None, Some}
 use Prim.Native.Nat.{ℕ, zero, suc, ◌≤◌, ◌<◌}
 use mathlib.Core.Path.{◌≡◌, refl, sym, ap, ◌∙◌}
 use mathlib.Core.Bool.{Bool, true, false}
 use mathlib.Core.List.{List, [], ◌∷◌}
-use mathlib.Core.Option.{Option, none, some}
 use native.Mathlib.Omega.{arith}
 use lib.ListN.{length}
 use Rattle.json_definitions.specs.Parser.{Got, got, Parser, pure, after, or_try, ◌>>=◌, ◌>>◌, lexeme, elements, array}
@@ -22,25 +22,25 @@ module _ {A : Type 0} (p : Parser A) where
   unfolding array items elements_from
   array_items s = refl
 
-  module _ (shorter : (s : List ℕ) (g : Got A) → p s ≡ some g → length g.rest ≤ length s) where
-    same_after : (f f' : Parser (List A)) (o : Option (Got A)) → ((g : Got A) → o ≡ some g → f g.rest ≡ f' g.rest)
+  module _ (shorter : (s : List ℕ) (g : Got A) → p s ≡ Some g → length g.rest ≤ length s) where
+    same_after : (f f' : Parser (List A)) (o : Option (Got A)) → ((g : Got A) → o ≡ Some g → f g.rest ≡ f' g.rest)
         → after o (λ x t. after (f t) (λ xs. pure (x ∷ xs))) ≡ after o (λ x t. after (f' t) (λ xs. pure (x ∷ xs)))
     unfolding after
-    same_after f f' none h = refl
-    same_after f f' (some g) h = rw (h g refl)
+    same_after f f' None h = refl
+    same_after f f' (Some g) h = rw (h g refl)
 
     same_more : (f f' : Parser (List A)) (s : List ℕ) → ((t : List ℕ) → length t < length s → f t ≡ f' t)
         → (lexeme (44 ∷ []) >> (p >>= (λ x. f >>= (λ xs. pure (x ∷ xs))))) s ≡ (lexeme (44 ∷ []) >> (p >>= (λ x. f' >>= (λ xs. pure (x ∷ xs))))) s
     same_more f f' s h = go (lexeme (44 ∷ []) s) refl
       where
         go : (o : Option (Got (Unit {0}))) → lexeme (44 ∷ []) s ≡ o → after o (λ _. p >>= (λ x. f >>= (λ xs. pure (x ∷ xs)))) ≡ after o (λ _. p >>= (λ x. f' >>= (λ xs. pure (x ∷ xs))))
-        go none e = unfold after in refl
-        go (some g) e = unfold after in same_after f f' (p g.rest) (λ k q. h k.rest (let a = lexeme_rest (44 ∷ []) s g e in let b = shorter g.rest k q in omega arith))
+        go None e = unfold after in refl
+        go (Some g) e = unfold after in same_after f f' (p g.rest) (λ k q. h k.rest (let a = lexeme_rest (44 ∷ []) s g e in let b = shorter g.rest k q in omega arith))
 
     same_or : (o : Option (Got (List A))) (q q' : Parser (List A)) (s : List ℕ) → q s ≡ q' s → or_try o q s ≡ or_try o q' s
     unfolding or_try
-    same_or none q q' s e = e
-    same_or (some g) q q' s e = refl
+    same_or None q q' s e = e
+    same_or (Some g) q q' s e = refl
 
     elements_fuel : (n m : ℕ) (s : List ℕ) → length s < n → length s < m → elements p n s ≡ elements p m s
     unfolding elements
@@ -63,24 +63,24 @@ module _ {A : Type 0} (p : Parser A) where
       elements_close e = elements_go t ∙ go (lexeme (93 ∷ []) t) (lexeme (44 ∷ []) t) refl e
         where
           go : (o o' : Option (Got (Unit {0}))) → lexeme (44 ∷ []) t ≡ o' → or_try (after o (λ _. pure false)) (λ _. after o' (λ _. pure true)) t ≡ got false x → or_try (after o (λ _. pure [])) (lexeme (44 ∷ []) >> items p) t ≡ got [] x
-          go (some g) o' f e = let q = ap (λ (y : Got Bool). y.rest) (same_got _ _ e) in rw q
-          go none (some g) f e = let q = ap (λ (y : Got Bool). y.value) (same_got _ _ e) in let z : true ≡ false = q in absurd (no_true z)
-          go none none f e = never _ e
+          go (Some g) o' f e = let q = ap (λ (y : Got Bool). y.rest) (same_got _ _ e) in rw q
+          go None (Some g) f e = let q = ap (λ (y : Got Bool). y.value) (same_got _ _ e) in let z : true ≡ false = q in absurd (no_true z)
+          go None None f e = never _ e
 
       pub elements_more : separator t ≡ got true x → elements_from p t ≡ items p x
       unfolding separator or_try after
       elements_more e = elements_go t ∙ go (lexeme (93 ∷ []) t) (lexeme (44 ∷ []) t) refl e
         where
           go : (o o' : Option (Got (Unit {0}))) → lexeme (44 ∷ []) t ≡ o' → or_try (after o (λ _. pure false)) (λ _. after o' (λ _. pure true)) t ≡ got true x → or_try (after o (λ _. pure [])) (lexeme (44 ∷ []) >> items p) t ≡ items p x
-          go (some g) o' f e = let q = ap (λ (y : Got Bool). y.value) (same_got _ _ e) in let z : false ≡ true = q in absurd (no_true (sym z))
-          go none (some g) f e = let q = ap (λ (y : Got Bool). y.rest) (same_got _ _ e) in rw (f, q)
-          go none none f e = never _ e
+          go (Some g) o' f e = let q = ap (λ (y : Got Bool). y.value) (same_got _ _ e) in let z : false ≡ true = q in absurd (no_true (sym z))
+          go None (Some g) f e = let q = ap (λ (y : Got Bool). y.rest) (same_got _ _ e) in rw (f, q)
+          go None None f e = never _ e
 
-      pub elements_none : separator t ≡ none → elements_from p t ≡ none
+      pub elements_none : separator t ≡ None → elements_from p t ≡ None
       unfolding separator or_try after
       elements_none e = elements_go t ∙ go (lexeme (93 ∷ []) t) (lexeme (44 ∷ []) t) refl e
         where
-          go : (o o' : Option (Got (Unit {0}))) → lexeme (44 ∷ []) t ≡ o' → or_try (after o (λ _. pure false)) (λ _. after o' (λ _. pure true)) t ≡ none → or_try (after o (λ _. pure [])) (lexeme (44 ∷ []) >> items p) t ≡ none
-          go (some g) o' f e = never _ (sym e)
-          go none (some g) f e = never _ (sym e)
-          go none none f e = rw f
+          go : (o o' : Option (Got (Unit {0}))) → lexeme (44 ∷ []) t ≡ o' → or_try (after o (λ _. pure false)) (λ _. after o' (λ _. pure true)) t ≡ None → or_try (after o (λ _. pure [])) (lexeme (44 ∷ []) >> items p) t ≡ None
+          go (Some g) o' f e = never _ (sym e)
+          go None (Some g) f e = never _ (sym e)
+          go None None f e = rw f

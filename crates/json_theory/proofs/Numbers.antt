@@ -2,11 +2,11 @@
 --   number_read         before a byte that is no digit
 --   number_no_lexeme    and they start with no word of letters
 -- Assumes nothing.
+use Rattle.std.specs.Prelude.{None}
 use Prim.Native.Nat.{ℕ, zero, suc, ◌+◌, ◌*◌, ◌-◌, ◌/◌, ◌%◌, ◌≤◌, ◌<◌}
 use mathlib.Core.Path.{◌≡◌, refl}
 use mathlib.Core.Bool.{Bool, true, false}
 use mathlib.Core.List.{List, [], ◌∷◌, ◌++◌, append_assoc}
-use mathlib.Core.Option.{none}
 use native.Mathlib.Omega.{arith}
 use borrow.Author.Tests.{ne_eqb, le-leb, ltb-true, ltb-false}
 use lib.Dec.{ltb}
@@ -28,12 +28,12 @@ no_blank (suc f) n x h = go (ltb n 10) refl (λ y k. no_blank f (n / 10) y k)
     go false e ih = let k : 10 ≤ n = ltb-false n 10 e in rw (e, append_assoc (digits_of f (n / 10)) ((48 + n % 10) ∷ []) x) (ih _ (omega arith))
 
 -- and so is none of the words that start otherwise
-no_word : (a : ℕ) (w : List ℕ) → 58 ≤ a → (f n : ℕ) (x : List ℕ) → n ≤ f → literal (a ∷ w) (digits_of f n ++ x) ≡ none
+no_word : (a : ℕ) (w : List ℕ) → 58 ≤ a → (f n : ℕ) (x : List ℕ) → n ≤ f → literal (a ∷ w) (digits_of f n ++ x) ≡ None
 unfolding digits_of literal
 no_word a w b zero n x h = rw (ne_eqb (48 + n) a (λ e. omega arith))
 no_word a w b (suc f) n x h = go (ltb n 10) refl (λ y k. no_word a w b f (n / 10) y k)
   where
-    go : (b : Bool) → ltb n 10 ≡ b → ((y : List ℕ) → n / 10 ≤ f → literal (a ∷ w) (digits_of f (n / 10) ++ y) ≡ none) → literal (a ∷ w) (digits_of (suc f) n ++ x) ≡ none
+    go : (b : Bool) → ltb n 10 ≡ b → ((y : List ℕ) → n / 10 ≤ f → literal (a ∷ w) (digits_of f (n / 10) ++ y) ≡ None) → literal (a ∷ w) (digits_of (suc f) n ++ x) ≡ None
     go true e ih = let k : n < 10 = ltb-true n 10 e in rw (e, ne_eqb (48 + n) a (λ e. omega arith))
     go false e ih = let k : 10 ≤ n = ltb-false n 10 e in rw (e, append_assoc (digits_of f (n / 10)) ((48 + n % 10) ∷ []) x) (ih _ (omega arith))
 
@@ -63,6 +63,6 @@ number_read m n c r h d = rw (no_blank n n (c ∷ r) (omega arith)) (go n h)
     go zero h = unfold digits_of whole_number in refl
     go (suc k) h = rw (reads m (suc k) (suc k) (c ∷ r) (omega arith) (omega arith)) (unfold digits at_most in rw (d, le-leb (suc k) m h))
 
-pub number_no_lexeme : (a n : ℕ) (w r : List ℕ) → 58 ≤ a → lexeme (a ∷ w) (decimal n ++ r) ≡ none
+pub number_no_lexeme : (a n : ℕ) (w r : List ℕ) → 58 ≤ a → lexeme (a ∷ w) (decimal n ++ r) ≡ None
 unfolding lexeme decimal
 number_no_lexeme a n w r h = rw (no_blank n n r (omega arith)) (no_word a w h n n r (omega arith))

@@ -2,12 +2,12 @@
 --   character_rest     less is left behind a character
 --   literal_rest, lexeme_rest, token_rest, line_rest, array_rest    no more is left behind the others
 -- Assumes nothing.
+use Rattle.std.specs.Prelude.{Option, None, Some}
 use Prim.Native.Nat.{ℕ, zero, suc, ◌+◌, ◌*◌, ◌-◌, ◌^◌, ◌≤◌, ◌<◌}
 use native.Mathlib.Nat.{le_refl}
 use mathlib.Core.Path.{◌≡◌, ap}
 use mathlib.Core.Bool.{Bool, true, false, cond}
 use mathlib.Core.List.{List, [], ◌∷◌, ◌++◌}
-use mathlib.Core.Option.{Option, none, some}
 use native.Mathlib.Omega.{arith}
 use lib.ListN.{length}
 use lib.Dec.{eqb, leb, ltb}
@@ -22,29 +22,29 @@ use Rattle.json_theory.proofs.Results.{never, same_got, after_some, or_some, eit
 
 -- Strings
 
-in_ranges_rest : (rs : List Range) (s : List ℕ) (g : Got (List ℕ)) → in_ranges rs s ≡ some g → length g.rest ≤ length s
+in_ranges_rest : (rs : List Range) (s : List ℕ) (g : Got (List ℕ)) → in_ranges rs s ≡ Some g → length g.rest ≤ length s
 unfolding in_ranges
 in_ranges_rest [] s g e = let z = rest_of [] s g e in omega arith
 in_ranges_rest (r ∷ rs) [] g e = never g e
 in_ranges_rest (r ∷ rs) (b ∷ s) g e =
-    either (within r.low r.high b) (after (in_ranges rs s) (λ bs. pure (b ∷ bs))) none g (length g.rest ≤ suc (length s))
+    either (within r.low r.high b) (after (in_ranges rs s) (λ bs. pure (b ∷ bs))) None g (length g.rest ≤ suc (length s))
     (λ q. let a = after_some (in_ranges rs s) _ g q in let h = in_ranges_rest rs s a.0 a.1 in let z = rest_of (b ∷ a.0.value) a.0.rest g a.2 in omega arith)
     (λ q. never g q) e
 
-code_point_rest : (a : ℕ) (s : List ℕ) (g : Got (List ℕ)) → code_point (a ∷ s) ≡ some g → length g.rest ≤ length s
+code_point_rest : (a : ℕ) (s : List ℕ) (g : Got (List ℕ)) → code_point (a ∷ s) ≡ Some g → length g.rest ≤ length s
 unfolding code_point
 code_point_rest a s g e = go (following a) e
   where
-    go : (o : Option (List Range)) → elim o [ none ↦ none | some rs ↦ after (in_ranges rs s) (λ bs. pure (a ∷ bs)) ] ≡ some g → length g.rest ≤ length s
-    go none e = never g e
-    go (some rs) e = let b = after_some (in_ranges rs s) _ g e in let h = in_ranges_rest rs s b.0 b.1 in let z = rest_of (a ∷ b.0.value) b.0.rest g b.2 in omega arith
+    go : (o : Option (List Range)) → elim o [ None ↦ None | Some rs ↦ after (in_ranges rs s) (λ bs. pure (a ∷ bs)) ] ≡ Some g → length g.rest ≤ length s
+    go None e = never g e
+    go (Some rs) e = let b = after_some (in_ranges rs s) _ g e in let h = in_ranges_rest rs s b.0 b.1 in let z = rest_of (a ∷ b.0.value) b.0.rest g b.2 in omega arith
 
-hex_digit_rest : (s : List ℕ) (g : Got ℕ) → hex_digit s ≡ some g → length g.rest ≤ length s
+hex_digit_rest : (s : List ℕ) (g : Got ℕ) → hex_digit s ≡ Some g → length g.rest ≤ length s
 unfolding hex_digit
 hex_digit_rest [] g e = never g e
-hex_digit_rest (c ∷ s) g e = either (ltb (hex_value c) 16) (got (hex_value c) s) none g (length g.rest ≤ suc (length s)) (λ q. let z = rest_of (hex_value c) s g q in omega arith) (λ q. never g q) e
+hex_digit_rest (c ∷ s) g e = either (ltb (hex_value c) 16) (got (hex_value c) s) None g (length g.rest ≤ suc (length s)) (λ q. let z = rest_of (hex_value c) s g q in omega arith) (λ q. never g q) e
 
-hex_4_rest : (s : List ℕ) (g : Got ℕ) → hex_4 s ≡ some g → length g.rest ≤ length s
+hex_4_rest : (s : List ℕ) (g : Got ℕ) → hex_4 s ≡ Some g → length g.rest ≤ length s
 unfolding hex_4
 hex_4_rest s g e =
     let a = after_some (hex_digit s) _ g e in
@@ -58,46 +58,46 @@ hex_4_rest s g e =
     let q = ap (λ (x : Got ℕ). length x.rest) (same_got _ g d.2) in
     omega arith
 
-pub literal_rest : (w s : List ℕ) (g : Got (Unit {0})) → literal w s ≡ some g → length g.rest + length w ≤ length s
+pub literal_rest : (w s : List ℕ) (g : Got (Unit {0})) → literal w s ≡ Some g → length g.rest + length w ≤ length s
 unfolding literal
 literal_rest [] s g e = let q = ap (λ (x : Got (Unit {0})). length x.rest) (same_got _ g e) in omega arith
 literal_rest (a ∷ w) [] g e = never g e
 literal_rest (a ∷ w) (c ∷ s) g e = go (eqb c a) e (λ q. literal_rest w s g q)
   where
-    go : (b : Bool) → cond b (literal w s) none ≡ some g → (literal w s ≡ some g → length g.rest + length w ≤ length s) → length g.rest + suc (length w) ≤ suc (length s)
+    go : (b : Bool) → cond b (literal w s) None ≡ Some g → (literal w s ≡ Some g → length g.rest + length w ≤ length s) → length g.rest + suc (length w) ≤ suc (length s)
     go true e ih = omega (arith, ih e)
     go false e ih = never g e
 
-code_unit_rest : (u : ℕ) (s : List ℕ) (g : Got (List ℕ)) → code_unit u s ≡ some g → length g.rest ≤ length s
+code_unit_rest : (u : ℕ) (s : List ℕ) (g : Got (List ℕ)) → code_unit u s ≡ Some g → length g.rest ≤ length s
 unfolding code_unit
-code_unit_rest u s g e = either (within 55296 57343 u) (cond (leb u 56319) ((literal (92 ∷ 117 ∷ []) >> (hex_4 >>= low_surrogate u)) s) none) (got (encode u) s) g (length g.rest ≤ length s) (λ q. either (leb u 56319) ((literal (92 ∷ 117 ∷ []) >> (hex_4 >>= low_surrogate u)) s) none g (length g.rest ≤ length s) pair (λ q. never g q) q) (λ q. let z = ap (λ (x : Got (List ℕ)). length x.rest) (same_got _ g q) in omega arith) e
+code_unit_rest u s g e = either (within 55296 57343 u) (cond (leb u 56319) ((literal (92 ∷ 117 ∷ []) >> (hex_4 >>= low_surrogate u)) s) None) (got (encode u) s) g (length g.rest ≤ length s) (λ q. either (leb u 56319) ((literal (92 ∷ 117 ∷ []) >> (hex_4 >>= low_surrogate u)) s) None g (length g.rest ≤ length s) pair (λ q. never g q) q) (λ q. let z = ap (λ (x : Got (List ℕ)). length x.rest) (same_got _ g q) in omega arith) e
   where
-    pair : (literal (92 ∷ 117 ∷ []) >> (hex_4 >>= low_surrogate u)) s ≡ some g → length g.rest ≤ length s
+    pair : (literal (92 ∷ 117 ∷ []) >> (hex_4 >>= low_surrogate u)) s ≡ Some g → length g.rest ≤ length s
     pair q =
         let a = after_some (literal (92 ∷ 117 ∷ []) s) _ g q in
         let b = after_some (hex_4 a.0.rest) _ g a.2 in
         let a' = literal_rest (92 ∷ 117 ∷ []) s a.0 a.1 in
         let b' = hex_4_rest a.0.rest b.0 b.1 in
-        let c' : length g.rest ≤ length b.0.rest = unfold low_surrogate in either (within 0xdc00 0xdfff b.0.value) (got (encode (0x10000 + (u - 0xd800) * 1024 + (b.0.value - 0xdc00))) b.0.rest) none g (length g.rest ≤ length b.0.rest) (λ q. let z = rest_of _ b.0.rest g q in omega arith) (λ q. never g q) b.2 in
+        let c' : length g.rest ≤ length b.0.rest = unfold low_surrogate in either (within 0xdc00 0xdfff b.0.value) (got (encode (0x10000 + (u - 0xd800) * 1024 + (b.0.value - 0xdc00))) b.0.rest) None g (length g.rest ≤ length b.0.rest) (λ q. let z = rest_of _ b.0.rest g q in omega arith) (λ q. never g q) b.2 in
         omega arith
 
-escape_rest : (s : List ℕ) (g : Got (List ℕ)) → escape s ≡ some g → length g.rest ≤ length s
+escape_rest : (s : List ℕ) (g : Got (List ℕ)) → escape s ≡ Some g → length g.rest ≤ length s
 unfolding escape
 escape_rest [] g e = never g e
-escape_rest (c ∷ s) g e = either (eqb c 117) ((hex_4 >>= code_unit) s) (cond (eqb (short_escape c) 0) none (got (short_escape c ∷ []) s)) g (length g.rest ≤ suc (length s)) long (λ q. either (eqb (short_escape c) 0) none (got (short_escape c ∷ []) s) g (length g.rest ≤ suc (length s)) (λ q. never g q) (λ q. let z = ap (λ (x : Got (List ℕ)). length x.rest) (same_got _ g q) in omega arith) q) e
+escape_rest (c ∷ s) g e = either (eqb c 117) ((hex_4 >>= code_unit) s) (cond (eqb (short_escape c) 0) None (got (short_escape c ∷ []) s)) g (length g.rest ≤ suc (length s)) long (λ q. either (eqb (short_escape c) 0) None (got (short_escape c ∷ []) s) g (length g.rest ≤ suc (length s)) (λ q. never g q) (λ q. let z = ap (λ (x : Got (List ℕ)). length x.rest) (same_got _ g q) in omega arith) q) e
   where
-    long : (hex_4 >>= code_unit) s ≡ some g → length g.rest ≤ suc (length s)
+    long : (hex_4 >>= code_unit) s ≡ Some g → length g.rest ≤ suc (length s)
     long q =
         let a = after_some (hex_4 s) _ g q in
         let a' = hex_4_rest s a.0 a.1 in
         let b' = code_unit_rest a.0.value a.0.rest g a.2 in
         omega arith
 
-pub character_rest : (s : List ℕ) (g : Got (List ℕ)) → character s ≡ some g → length g.rest < length s
+pub character_rest : (s : List ℕ) (g : Got (List ℕ)) → character s ≡ Some g → length g.rest < length s
 unfolding character unescaped
 character_rest [] g e = never g e
 character_rest (c ∷ s) g e =
-    let h : length g.rest ≤ length s = either (eqb c 92) (escape s) (cond (ltb c 32) none (code_point (c ∷ s))) g (length g.rest ≤ length s) (escape_rest s g) (λ q. either (ltb c 32) none (code_point (c ∷ s)) g (length g.rest ≤ length s) (λ q. never g q) (code_point_rest c s g) q) e in
+    let h : length g.rest ≤ length s = either (eqb c 92) (escape s) (cond (ltb c 32) None (code_point (c ∷ s))) g (length g.rest ≤ length s) (escape_rest s g) (λ q. either (ltb c 32) None (code_point (c ∷ s)) g (length g.rest ≤ length s) (λ q. never g q) (code_point_rest c s g) q) e in
     omega arith
 
 -- Tokens and lines
@@ -111,11 +111,11 @@ skip_white_space_rest (c ∷ s) = go (is_white_space c) (skip_white_space_rest s
     go true h = omega arith
     go false h = le_refl (suc (length s))
 
-pub lexeme_rest : (w s : List ℕ) (g : Got (Unit {0})) → lexeme w s ≡ some g → length g.rest + length w ≤ length s
+pub lexeme_rest : (w s : List ℕ) (g : Got (Unit {0})) → lexeme w s ≡ Some g → length g.rest + length w ≤ length s
 unfolding lexeme
 lexeme_rest w s g e = let a = literal_rest w (skip_white_space s) g e in let b = skip_white_space_rest s in omega arith
 
-characters_rest : (n : ℕ) (s : List ℕ) (g : Got (List ℕ)) → characters n s ≡ some g → length g.rest ≤ length s
+characters_rest : (n : ℕ) (s : List ℕ) (g : Got (List ℕ)) → characters n s ≡ Some g → length g.rest ≤ length s
 unfolding characters
 characters_rest zero s g e = never g e
 characters_rest (suc n) s g e =
@@ -125,11 +125,11 @@ characters_rest (suc n) s g e =
     let b' = characters_rest n a.0.rest b.0 b.1 in let c = rest_of (a.0.value ++ b.0.value) b.0.rest g b.2 in omega arith)
     e
 
-string_rest : (s : List ℕ) (g : Got (List ℕ)) → string s ≡ some g → length g.rest ≤ length s
+string_rest : (s : List ℕ) (g : Got (List ℕ)) → string s ≡ Some g → length g.rest ≤ length s
 unfolding string
 string_rest s g e = let a = after_some (lexeme (34 ∷ []) s) _ g e in let b = lexeme_rest (34 ∷ []) s a.0 a.1 in let c = characters_rest (length a.0.rest) a.0.rest g a.2 in omega arith
 
-one_of_rest : (k : ℕ) (ws : List (List ℕ)) (s : List ℕ) (g : Got ℕ) → one_of k ws s ≡ some g → length g.rest ≤ length s
+one_of_rest : (k : ℕ) (ws : List (List ℕ)) (s : List ℕ) (g : Got ℕ) → one_of k ws s ≡ Some g → length g.rest ≤ length s
 unfolding one_of
 one_of_rest k [] s g e = never g e
 one_of_rest k (w ∷ ws) s g e =
@@ -137,7 +137,7 @@ one_of_rest k (w ∷ ws) s g e =
     (λ q. let a = after_some (lexeme w s) _ g q in let b = lexeme_rest w s a.0 a.1 in let c = rest_of k a.0.rest g a.2 in omega arith)
     (λ q. one_of_rest (suc k) ws s g q) e
 
-member_rest : (c w s : List ℕ) (g : Got (Unit {0})) → member c w s ≡ some g → length g.rest ≤ length s
+member_rest : (c w s : List ℕ) (g : Got (Unit {0})) → member c w s ≡ Some g → length g.rest ≤ length s
 unfolding member
 member_rest c w s g e =
     let a = after_some (lexeme c s) _ g e in
@@ -147,7 +147,7 @@ member_rest c w s g e =
     let z = lexeme_rest (ascii ":") b.0.rest g b.2 in
     omega arith
 
-token_kind_rest : (s : List ℕ) (g : Got ℕ) → token_kind s ≡ some g → length g.rest ≤ length s
+token_kind_rest : (s : List ℕ) (g : Got ℕ) → token_kind s ≡ Some g → length g.rest ≤ length s
 unfolding token_kind
 token_kind_rest s g e =
     let c = after_some (member (ascii ",") (ascii "\"k\"") s) _ g e in
@@ -159,7 +159,7 @@ token_kind_rest s g e =
     let z = rest_of d.0.value f.0.rest g f.2 in
     omega arith
 
-pub token_rest : (s : List ℕ) (g : Got Token) → token s ≡ some g → length g.rest ≤ length s
+pub token_rest : (s : List ℕ) (g : Got Token) → token s ≡ Some g → length g.rest ≤ length s
 unfolding token
 token_rest s g e =
     let a = after_some (member (ascii "{") (ascii "\"t\"") s) _ g e in
@@ -180,28 +180,28 @@ digits_rest (c ∷ s) v = go (is_digit c) (digits_rest s (v * 10 + (c - 48)))
     go true h = omega arith
     go false h = le_refl (suc (length s))
 
-whole_number_rest : (m : ℕ) (s : List ℕ) (g : Got ℕ) → whole_number m s ≡ some g → length g.rest ≤ length s
+whole_number_rest : (m : ℕ) (s : List ℕ) (g : Got ℕ) → whole_number m s ≡ Some g → length g.rest ≤ length s
 unfolding whole_number at_most
 whole_number_rest m [] g e = never g e
 whole_number_rest m (c ∷ s) g e =
-    either (eqb c 48) (got 0 s) (cond (is_digit c) (at_most m (digits (c - 48) s)) none) g (length g.rest ≤ suc (length s)) (λ q. let z = rest_of 0 s g q in omega arith)
-    (λ q. either (is_digit c) (at_most m (digits (c - 48) s)) none g (length g.rest ≤ suc (length s)) (λ q. much q) (λ q. never g q) q) e
+    either (eqb c 48) (got 0 s) (cond (is_digit c) (at_most m (digits (c - 48) s)) None) g (length g.rest ≤ suc (length s)) (λ q. let z = rest_of 0 s g q in omega arith)
+    (λ q. either (is_digit c) (at_most m (digits (c - 48) s)) None g (length g.rest ≤ suc (length s)) (λ q. much q) (λ q. never g q) q) e
   where
-    much : at_most m (digits (c - 48) s) ≡ some g → length g.rest ≤ suc (length s)
-    much q = either (leb (digits (c - 48) s).value m) (some (digits (c - 48) s)) none g (length g.rest ≤ suc (length s)) (λ q. let z = ap (λ (y : Got ℕ). length y.rest) (same_got _ g q) in let d = digits_rest s (c - 48) in omega arith) (λ q. never g q) q
+    much : at_most m (digits (c - 48) s) ≡ Some g → length g.rest ≤ suc (length s)
+    much q = either (leb (digits (c - 48) s).value m) (Some (digits (c - 48) s)) None g (length g.rest ≤ suc (length s)) (λ q. let z = ap (λ (y : Got ℕ). length y.rest) (same_got _ g q) in let d = digits_rest s (c - 48) in omega arith) (λ q. never g q) q
 
-number_rest : (m : ℕ) (s : List ℕ) (g : Got ℕ) → number m s ≡ some g → length g.rest ≤ length s
+number_rest : (m : ℕ) (s : List ℕ) (g : Got ℕ) → number m s ≡ Some g → length g.rest ≤ length s
 unfolding number
 number_rest m s g e = let a = whole_number_rest m (skip_white_space s) g e in let b = skip_white_space_rest s in omega arith
 
-address_rest : (s : List ℕ) (g : Got (Option ℕ)) → address s ≡ some g → length g.rest ≤ length s
+address_rest : (s : List ℕ) (g : Got (Option ℕ)) → address s ≡ Some g → length g.rest ≤ length s
 unfolding address
 address_rest s g e =
-    or_some (after (lexeme (ascii "null") s) (λ _. pure none)) (number (2 ^ 64 - 1) >>= (λ v. pure (some v))) s g (length g.rest ≤ length s)
-    (λ q. let a = after_some (lexeme (ascii "null") s) _ g q in let b = lexeme_rest (ascii "null") s a.0 a.1 in let c = rest_of none a.0.rest g a.2 in omega arith)
-    (λ q. let a = after_some (number (2 ^ 64 - 1) s) _ g q in let b = number_rest (2 ^ 64 - 1) s a.0 a.1 in let c = rest_of (some a.0.value) a.0.rest g a.2 in omega arith) e
+    or_some (after (lexeme (ascii "null") s) (λ _. pure None)) (number (2 ^ 64 - 1) >>= (λ v. pure (Some v))) s g (length g.rest ≤ length s)
+    (λ q. let a = after_some (lexeme (ascii "null") s) _ g q in let b = lexeme_rest (ascii "null") s a.0 a.1 in let c = rest_of None a.0.rest g a.2 in omega arith)
+    (λ q. let a = after_some (number (2 ^ 64 - 1) s) _ g q in let b = number_rest (2 ^ 64 - 1) s a.0 a.1 in let c = rest_of (Some a.0.value) a.0.rest g a.2 in omega arith) e
 
-line_indent_rest : (s : List ℕ) (g : Got ℕ) → line_indent s ≡ some g → length g.rest ≤ length s
+line_indent_rest : (s : List ℕ) (g : Got ℕ) → line_indent s ≡ Some g → length g.rest ≤ length s
 unfolding line_indent
 line_indent_rest s g e =
     let c = after_some (member (ascii ",") (ascii "\"indent\"") s) _ g e in
@@ -213,7 +213,7 @@ line_indent_rest s g e =
     let z = rest_of d.0.value f.0.rest g f.2 in
     omega arith
 
-head_rest : (s : List ℕ) (g : Got Head) → head s ≡ some g → length g.rest ≤ length s
+head_rest : (s : List ℕ) (g : Got Head) → head s ≡ Some g → length g.rest ≤ length s
 unfolding head
 head_rest s g e =
     let a = after_some (member (ascii "{") (ascii "\"address\"") s) _ g e in
@@ -225,8 +225,8 @@ head_rest s g e =
     let z = rest_of (record { address = b.0.value; indent = c.0.value }) c.0.rest g c.2 in
     omega arith
 
-module _ {A : Type 0} (p : Parser A) (shorter : (s : List ℕ) (g : Got A) → p s ≡ some g → length g.rest ≤ length s) where
-  elements_rest : (n : ℕ) (s : List ℕ) (g : Got (List A)) → elements p n s ≡ some g → length g.rest ≤ length s
+module _ {A : Type 0} (p : Parser A) (shorter : (s : List ℕ) (g : Got A) → p s ≡ Some g → length g.rest ≤ length s) where
+  elements_rest : (n : ℕ) (s : List ℕ) (g : Got (List A)) → elements p n s ≡ Some g → length g.rest ≤ length s
   unfolding elements
   elements_rest zero s g e = never g e
   elements_rest (suc n) s g e =
@@ -236,7 +236,7 @@ module _ {A : Type 0} (p : Parser A) (shorter : (s : List ℕ) (g : Got A) → p
       let a' = lexeme_rest (44 ∷ []) s a.0 a.1 in let b' = shorter a.0.rest b.0 b.1 in let c' = elements_rest n b.0.rest c.0 c.1 in
       let z = rest_of (b.0.value ∷ c.0.value) c.0.rest g c.2 in omega arith) e
 
-  items_rest : (s : List ℕ) (g : Got (List A)) → items p s ≡ some g → length g.rest ≤ length s
+  items_rest : (s : List ℕ) (g : Got (List A)) → items p s ≡ Some g → length g.rest ≤ length s
   unfolding items elements_from
   items_rest s g e =
       let b = after_some (p s) _ g e in
@@ -246,7 +246,7 @@ module _ {A : Type 0} (p : Parser A) (shorter : (s : List ℕ) (g : Got A) → p
       let z = rest_of (b.0.value ∷ c.0.value) c.0.rest g c.2 in
       omega arith
 
-  pub array_rest : (s : List ℕ) (g : Got (List A)) → array p s ≡ some g → length g.rest ≤ length s
+  pub array_rest : (s : List ℕ) (g : Got (List A)) → array p s ≡ Some g → length g.rest ≤ length s
   unfolding array items elements_from
   array_rest s g e =
       let a = after_some (lexeme (91 ∷ []) s) _ g e in
@@ -258,7 +258,7 @@ module _ {A : Type 0} (p : Parser A) (shorter : (s : List ℕ) (g : Got A) → p
       (λ q. items_rest t g q) a.2 in
       omega arith
 
-pub line_rest : (s : List ℕ) (g : Got Line) → line s ≡ some g → length g.rest ≤ length s
+pub line_rest : (s : List ℕ) (g : Got Line) → line s ≡ Some g → length g.rest ≤ length s
 unfolding line
 line_rest s g e =
     let a = after_some (head s) _ g e in

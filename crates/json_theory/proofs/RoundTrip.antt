@@ -1,11 +1,11 @@
 -- The reader turns the writer's text into the listing that it came from.
 --   round_trip L    for every listing L that JSON text can hold
 -- Assumes nothing.
+use Rattle.std.specs.Prelude.{Option, None, Some}
 use Prim.Native.Nat.{ℕ, zero, suc, ◌-◌, ◌^◌, ◌≤◌, ◌<◌, zero-le}
 use mathlib.Core.Path.{◌≡◌, refl}
 use mathlib.Core.Bool.{Bool, true, ◌&&◌}
 use mathlib.Core.List.{List, [], ◌∷◌, ◌++◌, append_assoc, append-nil}
-use mathlib.Core.Option.{Option, none, some}
 use native.Mathlib.Omega.{arith}
 use borrow.Author.Tests.{leb-true}
 use lib.Dec.{leb}
@@ -24,7 +24,7 @@ use Rattle.json_theory.proofs.Strings.{string_read}
 -- an array whose elements are read, and start with "{"
 module _ {A : Type 0} (p : Parser A) (w : A → List ℕ) (ok : A → Bool)
     (reads : (x : A) → ok x ≡ true → (r : List ℕ) → p (w x ++ r) ≡ got x r)
-    (opens : (x : A) (r : List ℕ) → lexeme (93 ∷ []) (w x ++ r) ≡ none) where
+    (opens : (x : A) (r : List ℕ) → lexeme (93 ∷ []) (w x ++ r) ≡ None) where
   count : (xs : List A) → length xs ≤ length (elements_text w xs)
   unfolding elements_text
   count [] = zero-le
@@ -70,8 +70,8 @@ kind_read (suc (suc (suc (suc (suc (suc (suc (suc k)))))))) r h = absurd (omega 
 -- an address, before the comma
 address_read : (a : Option ℕ) (r : List ℕ) → is_address a ≡ true → address (address_text a ++ (44 ∷ r)) ≡ got a (44 ∷ r)
 unfolding address address_text is_address or_try after
-address_read none r h = unfold lexeme literal skip_white_space in refl
-address_read (some v) r h =
+address_read None r h = unfold lexeme literal skip_white_space in refl
+address_read (Some v) r h =
     rw (number_no_lexeme 110 v (ascii "ull") (44 ∷ r) (omega arith), number_read (2 ^ 64 - 1) v 44 r (leb-true v (2 ^ 64 - 1) h) refl)
 
 token_read : (t : Token) → is_token t ≡ true → (r : List ℕ) → token (token_text t ++ r) ≡ got t r
@@ -84,7 +84,7 @@ token_read t h r =
       kind_read t.kind _ (leb-true t.kind 7 (and_split (leb t.kind 7) (is_utf8 t.text) h).0),
     )
 
-token_opens : (t : Token) (r : List ℕ) → lexeme (93 ∷ []) (token_text t ++ r) ≡ none
+token_opens : (t : Token) (r : List ℕ) → lexeme (93 ∷ []) (token_text t ++ r) ≡ None
 unfolding token_text lexeme literal skip_white_space
 token_opens t r = refl
 
@@ -101,10 +101,10 @@ line_read l h r =
       array_read token token_text is_token token_read token_opens l.tokens (and_split (leb l.indent 255) _ h₁).1,
     )
 
-line_opens : (l : Line) (r : List ℕ) → lexeme (93 ∷ []) (line_text l ++ r) ≡ none
+line_opens : (l : Line) (r : List ℕ) → lexeme (93 ∷ []) (line_text l ++ r) ≡ None
 unfolding line_text lexeme literal skip_white_space
 line_opens l r = refl
 
-pub round_trip : (L : List Line) → is_listing L ≡ true → read (write L) ≡ some L
+pub round_trip : (L : List Line) → is_listing L ≡ true → read (write L) ≡ Some L
 unfolding read write ended is_empty skip_white_space
 round_trip L h = rw (← append-nil (array_text line_text L), array_read line line_text is_line line_read line_opens L h [])

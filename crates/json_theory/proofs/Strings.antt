@@ -3,11 +3,11 @@
 --   low_point            a code point below 128 is one byte
 --   string_read          the string of a UTF-8 text is read as that text
 -- Assumes nothing.
+use Rattle.std.specs.Prelude.{Option, None, Some}
 use Prim.Native.Nat.{ℕ, zero, suc, ◌+◌, ◌*◌, ◌/◌, ◌%◌, ◌≤◌, ◌<◌, zero-le}
 use mathlib.Core.Path.{◌≡◌, refl, ap, ◌∙◌}
 use mathlib.Core.Bool.{Bool, true, false, ◌||◌, cond, false≢true}
 use mathlib.Core.List.{List, [], ◌∷◌, ◌++◌, append_assoc}
-use mathlib.Core.Option.{Option, none, some}
 use native.Mathlib.Omega.{arith}
 use borrow.Author.Tests.{ne_eqb, le-leb, lt-leb, lt-ltb, le-ltb, leb-true, ltb-true, ltb-false, eqb-true}
 use lib.Dec.{eqb, leb, ltb}
@@ -60,10 +60,10 @@ abbrev high : List Range → Bool
 high rs = all (λ r. leb 128 r.low) rs
 
 abbrev high? : Option (List Range) → Bool
-high? none = true
-high? (some rs) = high rs
+high? None = true
+high? (Some rs) = high rs
 
-choice_high : (b : Bool) (rs : List Range) (o : Option (List Range)) → high rs ≡ true → high? o ≡ true → high? (cond b (some rs) o) ≡ true
+choice_high : (b : Bool) (rs : List Range) (o : Option (List Range)) → high rs ≡ true → high? o ≡ true → high? (cond b (Some rs) o) ≡ true
 choice_high true rs o h k = h
 choice_high false rs o h k = k
 
@@ -110,14 +110,14 @@ record Piece (t : List ℕ) : Type 0 where
   splits : t ≡ front ++ back
   some_bytes : 0 < length front
   reads : (x : List ℕ) → character (characters_text front ++ x) ≡ got front x
-  no_quote : (x : List ℕ) → literal (34 ∷ []) (characters_text front ++ x) ≡ none
+  no_quote : (x : List ℕ) → literal (34 ∷ []) (characters_text front ++ x) ≡ None
   rest : is_utf8 back ≡ true
 
-code_point_by : (a : ℕ) (s : List ℕ) (rs : List Range) → following a ≡ some rs → code_point (a ∷ s) ≡ after (in_ranges rs s) (λ bs. pure (a ∷ bs))
+code_point_by : (a : ℕ) (s : List ℕ) (rs : List Range) → following a ≡ Some rs → code_point (a ∷ s) ≡ after (in_ranges rs s) (λ bs. pure (a ∷ bs))
 unfolding code_point
 code_point_by a s rs e = rw (e, code_point)
 
-following_low : (a : ℕ) → a < 128 → following a ≡ some []
+following_low : (a : ℕ) → a < 128 → following a ≡ Some []
 unfolding following
 following_low a h = rw (le-leb a 0x7f (omega arith))
 
@@ -134,7 +134,7 @@ low_piece a s h k = go (eqb a 34) refl (eqb a 92) refl (ltb a 32) refl
     go false e false f true g = record { front = a ∷ []; back = s; splits = refl; some_bytes = omega arith; reads = λ x. rw (e, f, g) (control a x (ltb-true a 32 g)); no_quote = λ x. rw (e, f, g); rest = k }
     go false e false f false g = record { front = a ∷ []; back = s; splits = refl; some_bytes = omega arith; reads = λ x. rw (e, f, g, f, g, low_point a x h); no_quote = λ x. rw (e, f, g, e); rest = k }
 
-high_piece : (a : ℕ) (s : List ℕ) (rs : List Range) → 128 ≤ a → following a ≡ some rs → Tail rs s → Piece (a ∷ s)
+high_piece : (a : ℕ) (s : List ℕ) (rs : List Range) → 128 ≤ a → following a ≡ Some rs → Tail rs s → Piece (a ∷ s)
 unfolding characters_text character unescaped code_point literal
 high_piece a s rs h e t =
     record {
@@ -151,13 +151,13 @@ piece : (a : ℕ) (s : List ℕ) → is_utf8 (a ∷ s) ≡ true → Piece (a ∷
 unfolding utf8_after
 piece a s e = go (following a) refl (ltb a 128) refl (following_high a) e
   where
-    go : (o : Option (List Range)) → following a ≡ o → (b : Bool) → ltb a 128 ≡ b → high? o ≡ true → elim o [ none ↦ false | some rs ↦ utf8_after rs s ] ≡ true → Piece (a ∷ s)
-    go none f b l h e = absurd (false≢true e)
-    go (some rs) f true l h e =
+    go : (o : Option (List Range)) → following a ≡ o → (b : Bool) → ltb a 128 ≡ b → high? o ≡ true → elim o [ None ↦ false | Some rs ↦ utf8_after rs s ] ≡ true → Piece (a ∷ s)
+    go None f b l h e = absurd (false≢true e)
+    go (Some rs) f true l h e =
         let k : a < 128 = ltb-true a 128 l in
         let z : rs ≡ [] = let q = following_low a k in cc in
         low_piece a s k (rw z at e)
-    go (some rs) f false l h e = high_piece a s rs (ltb-false a 128 l) f (tail rs s h e)
+    go (Some rs) f false l h e = high_piece a s rs (ltb-false a 128 l) f (tail rs s h e)
 
 -- one code point more
 characters_step : (t r : List ℕ) (n : ℕ) (p : Piece t) → characters n (characters_text p.back ++ (34 ∷ r)) ≡ got p.back r → characters (suc n) (characters_text t ++ (34 ∷ r)) ≡ got t r

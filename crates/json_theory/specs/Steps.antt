@@ -5,8 +5,7 @@
 --   elements_from p    what stands behind an element: "]", or "," and more elements
 --   items p            an element and what stands behind it
 -- Assumes nothing.
-use Rattle.std.specs.Prelude.{ℕ, suc, Bool, true, false, List, ◌∷◌, ◌++◌, length}
-use Rattle.std.proofs.Math.Option.{Option}
+use Rattle.std.specs.Prelude.{ℕ, suc, Bool, true, false, List, ◌∷◌, ◌++◌, length, Option}
 use Rattle.definitions.specs.Lists.{ascii}
 use Rattle.json_definitions.specs.Parser.{Got, Parser, pure, after, or_try, ◌>>=◌, lexeme, elements}
 use Rattle.json_definitions.specs.Strings.{characters}

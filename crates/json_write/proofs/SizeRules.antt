@@ -6,18 +6,15 @@
 --   ends_none, ends_some                                an array without elements, and with them
 --   head_sized                                          a line without its tokens' texts
 -- Assumes nothing.
+use Rattle.std.specs.Prelude.{Some, None, Option}
 use Prim.Native.Nat.{ℕ, zero, suc, ◌+◌, ◌*◌, ◌/◌, ◌≤◌, ◌<◌}
 use mathlib.Core.Path.{◌≡◌, refl, ap, ◌∙◌}
 use mathlib.Core.List.{List}
-use mathlib.Core.Option.{Option}
 use native.Mathlib.Decide.{dec_le}
 use native.Mathlib.Omega.{arith}
 use lib.ListN.{length, get_or, length-append}
 use Rattle.definitions.specs.Model.{Line, line, no_token, no_line}
 use Rattle.definitions.specs.Columns.{token_list}
-use Rattle.model.specs.Addresses.{address}
-use Rattle.model.specs.declared.columns.Address.{Address}
-use Rattle.model.specs.declared.columns.Address.TheVariants.{At, Missing}
 use Rattle.model.proofs.Decode.{length_tokens}
 use Rattle.json_definitions.specs.Writer.{decimal, kind_text, address_text}
 use Rattle.json_append.specs.Sizes.{total, Sized}
@@ -67,12 +64,12 @@ module _ (n d v : ℕ) (inv : d + length (decimal v) ≡ 1 + length (decimal n))
       let e = ap length (one_digit v h) in let m = decimal_most n g in
       record { is = omega arith; most = omega arith }
 
-module _ (a : Address) where
-  pub address_known : (v r : ℕ) → a ≡ At v → Sized (length (decimal v)) 20 r → Sized (length (address_text (address a))) 20 r
+module _ (a : Option ℕ) where
+  pub address_known : (v r : ℕ) → a ≡ Some v → Sized (length (decimal v)) 20 r → Sized (length (address_text a)) 20 r
   unfolding address_text
   address_known v r q s = rw q s
 
-  pub address_null : a ≡ Missing → Sized (length (address_text (address a))) 20 4
+  pub address_null : a ≡ None → Sized (length (address_text a)) 20 4
   unfolding address_text
   address_null q = rw q (record { is = refl; most = omega arith })
 

@@ -2,20 +2,18 @@
 --   columns l a t x    the lent columns
 --   lines_of l a t x   the listing that they stand for
 --   head_text l        a line's text up to its tokens
---   answer_of r        the number of the refusal, or the length of the text
 --   fourth w out       question 4 for the text w, and what the call then answers and leaves
 --   written r out      the answer and the lent text at exit
 -- Assumes nothing.
-use Rattle.std.specs.Prelude.{if◌then◌else◌, ℕ, List, ◌++◌, leb, length}
+use Rattle.std.specs.Prelude.{if◌then◌else◌, ℕ, List, ◌++◌, leb, length, Result}
 use Rattle.definitions.specs.Lists.{ascii}
 use Rattle.definitions.specs.Model.{Line}
 use Rattle.definitions.specs.Answers.{refused, accepted}
-use Rattle.definitions.specs.Answers as defined
 use Rattle.definitions.specs.Calls.{Columns, filled}
+use Rattle.questions.specs.Refusals.{answer_of}
+use Rattle.questions.specs.declared.Refusal.{Refusal}
 use Rattle.json_definitions.specs.Writer.{address_text, decimal}
 use Rattle.json_definitions.specs.JsonCalls.{Written, listing_of}
-use Rattle.json_write.specs.declared.Answer.{Answer}
-use Rattle.json_write.specs.declared.Answer.TheVariants.{Accepted, Refused}
 
 abbrev pub columns : List ℕ → List ℕ → List ℕ → List ℕ → Columns
 columns l a t x = record { lines = l; addresses = a; tokens = t; text = x }
@@ -26,11 +24,7 @@ lines_of l a t x = listing_of (columns l a t x)
 unfoldable pub head_text : Line → List ℕ
 head_text l = ascii "{\"address\":" ++ (address_text l.address ++ (ascii ",\"indent\":" ++ (decimal l.indent ++ ascii ",\"tokens\":")))
 
-abbrev pub answer_of : Answer → defined.Answer ℕ
-answer_of (Accepted n) = accepted n
-answer_of (Refused n) = refused n
-
-abbrev pub written : Answer → List ℕ → Written
+abbrev pub written : Result ℕ Refusal → List ℕ → Written
 written r out = record { answer = answer_of r; out = out }
 
 -- question 4 of the text w, and what is then written

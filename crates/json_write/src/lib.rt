@@ -16,62 +16,42 @@ ghost use Rattle.json_write.specs.Sizes.{Formed};
 
 use crate::lines::put_listing;
 use crate::sizes::listing_size;
-use questions::{Limits, question_1, question_2, question_3};
-
-#[derive(Drop)]
-pub enum Answer {
-    // How long the text is.
-    Accepted(usize),
-    // The question that is answered no.
-    Refused(usize),
-}
+use model::listing::Listing;
+use questions::{Limits, Refusal, question_1, question_2, question_3};
 
 // Question 4, and the text.
-fn write_formed(
-    lines: &[u32],
-    addresses: &[u64],
-    tokens: &[u32],
-    text: &[u8],
-    out: &mut [u8],
-) -> Answer
-    requires { Formed lines.now addresses.now tokens.now text.now }
+fn write_formed(code: &Listing, addresses: &[u64], out: &mut [u8]) -> Result<usize, Refusal>
+    requires { Formed code.now.lines.now addresses.now code.now.tokens.now code.now.text.now }
     ensures { written result out.new
-        ≡ fourth (write (lines_of lines.now addresses.now tokens.now text.now)) out.old }
+        ≡ fourth (write (lines_of code.now.lines.now addresses.now code.now.tokens.now code.now.text.now)) out.old }
 {
-    if out.len() < listing_size(lines, addresses, tokens, text) {
-        return Answer::Refused(4);
+    if out.len() < listing_size(code, addresses) {
+        return Err(Refusal::NoRoom);
     }
-    let e = put_listing(out, lines, addresses, tokens, text);
-    text::zero_bytes(out, e);
-    Answer::Accepted(e)
+    let e = put_listing(out, code, addresses);
+    text::zero(out, e);
+    Ok(e)
 }
 
-// Writes the listing of the columns as JSON text into `out`; what is behind the text is zero. Refused, nothing is written.
-pub fn write_json(
-    lines: &[u32],
-    addresses: &[u64],
-    tokens: &[u32],
-    text: &[u8],
-    out: &mut [u8],
-) -> Answer
+// Writes the listing of the columns as JSON text into `out`, and answers how long the text is; what is behind the text is zero. Refused, nothing is written.
+#[tactic(auto, unfolding(json_definitions::specs::JsonCalls::write_call, definitions::specs::Questions::refusal))]
+pub fn write_json(code: &Listing, addresses: &[u64], out: &mut [u8]) -> Result<usize, Refusal>
     ensures { written result out.new
-        ≡ write_call (columns lines.now addresses.now tokens.now text.now) out.old }
+        ≡ write_call (columns code.now.lines.now addresses.now code.now.tokens.now code.now.text.now) out.old }
 {
     let most = Limits {
         lines: 1024,
         tokens: 16384,
         text: 262144,
     };
-    if question_1(lines, tokens, text, most) {
-        if addresses.len() == lines.len() {
-            if question_2(lines, tokens, text) {
-                if question_3(tokens, text) {
-                    return write_formed(lines, addresses, tokens, text, out);
-                }
-                return Answer::Refused(3);
-            }
-        }
-        return Answer::Refused(2);
+    if !question_1(code, most) {
+        return Err(Refusal::TooLarge);
     }
-    Answer::Refused(1)
+    if addresses.len() != code.lines.len() || !question_2(code) {
+        return Err(Refusal::Malformed);
+    }
+    if !question_3(code) {
+        return Err(Refusal::NotUtf8);
+    }
+    write_formed(code, addresses, out)
 }

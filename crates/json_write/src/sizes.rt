@@ -3,15 +3,14 @@
 // Since the tokens cover the text, the bytes are counted without looking where a token ends. Contracts: sizes of specs/Sizes.antt.
 ghost use Rattle.std.specs.Prelude.{◌≡◌, ◌+◌, ◌≤◌, ◌<◌, length};
 ghost use Rattle.definitions.specs.Model.{line};
-ghost use Rattle.definitions.specs.Columns.{token_list};
-ghost use Rattle.model.specs.Addresses.{address};
+ghost use Rattle.model.specs.Listings.{tokens_of};
 ghost use Rattle.json_definitions.specs.Writer.{decimal, kind_text, address_text, write};
 ghost use Rattle.json_write.specs.Answers.{lines_of};
 ghost use Rattle.json_append.specs.Sizes.{total, Sized};
 ghost use Rattle.json_write.specs.Sizes.{ends, token_size, head_size, Formed};
 
 use json_append::sizes::text_size;
-use model::columns::{Address, address_of, indent, token_count, token_kind};
+use model::listing::Listing;
 
 // A token, without the bytes of its string.
 fn token_size(kind: usize) -> usize
@@ -30,15 +29,13 @@ fn token_size(kind: usize) -> usize
     }
 }
 
-fn tokens_size(tokens: &[u32], text: &[u8]) -> usize
-    requires { length tokens.now ≤ 16384 }
-    ensures { Sized (total token_size (token_list tokens.now text.now)) 393216 result }
+fn tokens_size(code: &Listing) -> usize
+    requires { length code.now.tokens.now ≤ 16384 }
+    ensures { Sized (total token_size (tokens_of code.now)) 393216 result }
 {
     let mut n: usize = 0;
-    let mut k = 0;
-    while k < tokens.len() {
-        n += token_size(token_kind(tokens, text, k));
-        k += 1;
+    for k in 0..code.tokens.len() {
+        n += token_size(code.token_kind(k));
     }
     n
 }
@@ -55,12 +52,12 @@ fn decimal_size(n: u64) -> usize
     d
 }
 
-fn address_size(a: Address) -> usize
-    ensures { Sized (length (address_text (address a))) 20 result }
+fn address_size(a: Option<u64>) -> usize
+    ensures { Sized (length (address_text a)) 20 result }
 {
     match a {
-        Address::At(v) => decimal_size(v),
-        Address::Missing => 4,
+        Some(v) => decimal_size(v),
+        None => 4,
     }
 }
 
@@ -77,25 +74,23 @@ pub fn wide(x: usize) -> u64
 }
 
 // Line i, without its tokens' texts.
-fn head_size(lines: &[u32], addresses: &[u64], tokens: &[u32], text: &[u8], i: usize) -> usize
-    requires { (i < length lines.now) × (length addresses.now ≡ length lines.now) }
-    ensures { Sized (head_size (line (lines_of lines.now addresses.now tokens.now text.now) i)) 75 result }
+fn head_size(code: &Listing, addresses: &[u64], i: usize) -> usize
+    requires { (i < length code.now.lines.now) × (length addresses.now ≡ length code.now.lines.now) }
+    ensures { Sized (head_size (line (lines_of code.now.lines.now addresses.now code.now.tokens.now code.now.text.now) i)) 75 result }
 {
-    let a = address_size(address_of(lines, addresses, tokens, text, i));
-    let d = decimal_size(wide(indent(lines, tokens, text, i)));
-    let e = ends(token_count(lines, tokens, text, i));
+    let a = address_size(code.address_of(addresses, i));
+    let d = decimal_size(wide(code.indent(i)));
+    let e = ends(code.token_count(i));
     33 + a + d + e
 }
 
-fn heads_size(lines: &[u32], addresses: &[u64], tokens: &[u32], text: &[u8]) -> usize
-    requires { (length lines.now ≤ 1024) × (length addresses.now ≡ length lines.now) }
-    ensures { Sized (total head_size (lines_of lines.now addresses.now tokens.now text.now)) 76800 result }
+fn heads_size(code: &Listing, addresses: &[u64]) -> usize
+    requires { (length code.now.lines.now ≤ 1024) × (length addresses.now ≡ length code.now.lines.now) }
+    ensures { Sized (total head_size (lines_of code.now.lines.now addresses.now code.now.tokens.now code.now.text.now)) 76800 result }
 {
     let mut n: usize = 0;
-    let mut i = 0;
-    while i < lines.len() {
-        n += head_size(lines, addresses, tokens, text, i);
-        i += 1;
+    for i in 0..code.lines.len() {
+        n += head_size(code, addresses, i);
     }
     n
 }
@@ -107,12 +102,12 @@ fn long(x: u32) -> usize
 }
 
 // The length of the text of the listing.
-pub fn listing_size(lines: &[u32], addresses: &[u64], tokens: &[u32], text: &[u8]) -> usize
-    requires { Formed lines.now addresses.now tokens.now text.now }
-    ensures { result ≡ length (write (lines_of lines.now addresses.now tokens.now text.now)) }
+pub fn listing_size(code: &Listing, addresses: &[u64]) -> usize
+    requires { Formed code.now.lines.now addresses.now code.now.tokens.now code.now.text.now }
+    ensures { result ≡ length (write (lines_of code.now.lines.now addresses.now code.now.tokens.now code.now.text.now)) }
 {
-    let h = heads_size(lines, addresses, tokens, text);
-    let t = tokens_size(tokens, text);
-    let x = long(text_size(text));
-    ends(lines.len()) + h + t + x
+    let h = heads_size(code, addresses);
+    let t = tokens_size(code);
+    let x = long(text_size(code.text));
+    ends(code.lines.len()) + h + t + x
 }

@@ -5,12 +5,12 @@
 --   indexed_start, indexed_label, indexed_other            the buckets before the first line, after a label, after another line
 --   lookup_start, lookup_found, lookup_next, lookup_end    the loop of `label_line`
 -- Assumes nothing.
+use Rattle.std.specs.Prelude.{Option, None, Some}
 use Prim.Native.Nat.{ℕ, zero, suc, ◌+◌, ◌-◌, ◌%◌, ◌<◌, ◌≤◌}
 use mathlib.Core.Path.{◌≡◌, refl, sym, ap, ◌∙◌}
 use mathlib.Core.Logic.{⊎_elim}
 use mathlib.Core.Bool.{Bool, true, false, cond, ◌&&◌}
 use mathlib.Core.List.{List}
-use mathlib.Core.Option.{Option, none, some}
 use native.Mathlib.Numerals.{add-one}
 use native.Mathlib.Decide.{ℕ_discrete}
 use native.Mathlib.Omega.{arith}
@@ -78,14 +78,14 @@ abbrev named : List ℕ → Line → Bool
 named s l = is_label l && (label l ≟ s)
 
 label_at : (L : List Line) (i : ℕ) (s : List ℕ) → i < length L
-    → label_line (take (i + 1) L) s ≡ cond (named s (line L i)) (some i) (label_line (take i L) s)
+    → label_line (take (i + 1) L) s ≡ cond (named s (line L i)) (Some i) (label_line (take i L) s)
 unfolding label_line
 label_at L i s h = go (named s (line L i)) refl
   where
     z : i + 1 - 1 ≡ i
     z = omega arith
 
-    go : (b : Bool) → named s (line L i) ≡ b → last_position (named s) (take (i + 1) L) ≡ cond b (some i) (last_position (named s) (take i L))
+    go : (b : Bool) → named s (line L i) ≡ b → last_position (named s) (take (i + 1) L) ≡ cond b (Some i) (last_position (named s) (take i L))
     go true e = sym (last_found (named s) L (i + 1) (last_position (named s) (take (i + 1) L)) refl no_line true (omega arith) (omega arith) (rw z (sym e)) refl) ∙ rw z
     go false e = last_next (named s) L (i + 1) (last_position (named s) (take (i + 1) L)) refl no_line false (omega arith) (omega arith) (rw z (sym e)) refl ∙ rw z
 
@@ -94,22 +94,22 @@ label_at L i s h = go (named s (line L i)) refl
 module _ (L : List Line) (s : List ℕ) where
   module _ (ns : List ℕ) (p n : ℕ) (r : Option ℕ) (inv : r ≡ lookup L ns p p s) (low : (j : ℕ) → j < n → get_or ns j 0 ≤ j) (le : p ≤ n) (z : p ≡ 0 → ⊥)
       (b : Bool) (t : List ℕ) (eb : b ≡ (t ≟ s)) (et : t ≡ (token (line L (p - 1)) 0).text) where
-    lookup_step : r ≡ cond b (some (p - 1)) (lookup L ns (get_or ns (p - 1) 0) (get_or ns (p - 1) 0) s)
+    lookup_step : r ≡ cond b (Some (p - 1)) (lookup L ns (get_or ns (p - 1) 0) (get_or ns (p - 1) 0) s)
     unfolding lookup linked find
     lookup_step =
         let e : p ≡ suc (p - 1) = omega arith in
         let q = low (p - 1) (omega arith) in
         inv ∙ ap (λ (x : ℕ). lookup L ns x x s) e
-        ∙ rw (eb, et) (ap (λ (hs : List ℕ). cond (label (line L (p - 1)) ≟ s) (some (p - 1)) (find (λ h. label (line L h) ≟ s) hs))
+        ∙ rw (eb, et) (ap (λ (hs : List ℕ). cond (label (line L (p - 1)) ≟ s) (Some (p - 1)) (find (λ h. label (line L h) ≟ s) hs))
         (linked_fuel ns (p - 1) (get_or ns (p - 1) 0) (get_or ns (p - 1) 0) q (omega arith) (λ j g. low j (omega arith))))
 
-    pub lookup_found : b ≡ true → some (p - 1) ≡ r
+    pub lookup_found : b ≡ true → Some (p - 1) ≡ r
     lookup_found e = sym (lookup_step ∙ rw e)
 
     pub lookup_next : b ≡ false → r ≡ lookup L ns (get_or ns (p - 1) 0) (get_or ns (p - 1) 0) s
     lookup_next e = lookup_step ∙ rw e
 
-pub lookup_end : (L : List Line) (s ns : List ℕ) (p : ℕ) (r : Option ℕ) → r ≡ lookup L ns p p s → p ≡ 0 → none ≡ r
+pub lookup_end : (L : List Line) (s ns : List ℕ) (p : ℕ) (r : Option ℕ) → r ≡ lookup L ns p p s → p ≡ 0 → None ≡ r
 unfolding lookup linked find
 lookup_end L s ns p r inv e = sym (inv ∙ rw e)
 
@@ -228,14 +228,14 @@ module _ (L : List Line) (hs ns : List ℕ) where
             ∙ ⊎_elim (λ k. ap (λ (v : ℕ). lookup L ns i v s) k) (λ k. ap (λ (v : ℕ). lookup L ns i v s) k ∙ behind_same x s (get_or hs b 0) (I.below b low) e) r
             ∙ ap (λ (v : ℕ). lookup L ns i (get_or hs v 0) s) (sym z) ∙ I.found s
 
-        front : (s : List ℕ) → bucket hs s ≡ b → (t : Bool) → (x ≟ s) ≡ t → cond t (some i) (lookup L (set ns i p) i p s) ≡ cond t (some i) (label_line (take i L) s)
+        front : (s : List ℕ) → bucket hs s ≡ b → (t : Bool) → (x ≟ s) ≡ t → cond t (Some i) (lookup L (set ns i p) i p s) ≡ cond t (Some i) (label_line (take i L) s)
         front s z true e = refl
         front s z false e = rest s z e
 
         go : (s : List ℕ) → Dec (bucket hs s ≡ b)
             → lookup L (set ns i p) (i + 1) (get_or (set hs b (i + 1)) (bucket hs s) 0) s ≡ label_line (take (i + 1) L) s
         go s (yes z) =
-            let last : label_line (take (suc i) L) s ≡ cond (named s (line L i)) (some i) (label_line (take i L) s) = rw (add-one i) at (label_at L i s h) in
+            let last : label_line (take (suc i) L) s ≡ cond (named s (line L i)) (Some i) (label_line (take i L) s) = rw (add-one i) at (label_at L i s h) in
             rw (z, get_or-set_same hs b (i + 1) 0 inside, add-one i, get_or-set_same ns i p 0 g)
             (rw y at (front s z (x ≟ s) refl)
             ∙ sym (last ∙ rw u))

@@ -5,11 +5,11 @@
 --   line_some, line_none                the label that the symbol behind a goto names
 --   leads_at                            where the gotos from the one at place k on lead
 -- Assumes nothing.
+use Rattle.std.specs.Prelude.{Option, None, Some}
 use Prim.Native.Nat.{ℕ, ◌+◌, ◌/◌, ◌<◌, ◌≤◌}
 use mathlib.Core.Path.{◌≡◌, refl, sym, ap, ◌∙◌}
 use mathlib.Core.Bool.{Bool, true, false, cond}
 use mathlib.Core.List.{List, ◌∷◌, map}
-use mathlib.Core.Option.{Option, none, some}
 use native.Mathlib.Decide.{dec_le}
 use native.Mathlib.Omega.{arith}
 use borrow.Author.Tests.{lt-ltb, le-ltb}
@@ -56,14 +56,14 @@ module _ (t x : List ℕ) (k e : ℕ) where
 
   module _ (r : Option (List ℕ)) (inv : r ≡ first_symbol (part k e (token_list t x))) where
     module _ (b : Bool) (h : k < e) (fits : e ≤ length t) (q : b ≡ eqb (get_or (token_list t x) k no_token).kind Symbol) where
-      symbol_step : r ≡ cond b (some (get_or (token_list t x) k no_token).text) (first_symbol (part (k + 1) e (token_list t x)))
+      symbol_step : r ≡ cond b (Some (get_or (token_list t x) k no_token).text) (first_symbol (part (k + 1) e (token_list t x)))
       unfolding first_symbol find
       symbol_step = inv ∙ rw (part_step no_token (token_list t x) k e h (omega (arith, length_tokens t x)), q) (go (eqb (get_or (token_list t x) k no_token).kind Symbol))
         where
           rest : Option Token
           rest = find (λ t. eqb t.kind Symbol) (part (k + 1) e (token_list t x))
 
-          go : (b : Bool) → (cond b (some (get_or (token_list t x) k no_token)) rest >>= λ t. some t.text) ≡ cond b (some (get_or (token_list t x) k no_token).text) (rest >>= λ t. some t.text)
+          go : (b : Bool) → (cond b (Some (get_or (token_list t x) k no_token)) rest >>= λ t. Some t.text) ≡ cond b (Some (get_or (token_list t x) k no_token).text) (rest >>= λ t. Some t.text)
           go true = refl
           go false = refl
 
@@ -83,7 +83,7 @@ pub ruleset seeking = (goto_found, goto_next, goto_end, symbol_found, symbol_nex
 -- One goto
 
 module _ (us : List Token) (k e : ℕ) (o : Option (List ℕ)) (g : List ℕ → Option ℕ) (q : symbol_at us k e ≡ o) where
-  pub line_none : e ≤ k → none ≡ (o >>= g)
+  pub line_none : e ≤ k → None ≡ (o >>= g)
   unfolding symbol_at
   line_none h = rw (← q, le-ltb k e h)
 

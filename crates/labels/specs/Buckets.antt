@@ -6,18 +6,14 @@
 --   behind L ns s p         the entry behind a label s that is put in front of the entry p: that behind p where p's label is named s too
 --   Follows L ns s p r      r is p, or that entry: either may be put behind it
 --   Indexed L hs ns i       the labels of the first i lines are in their buckets
---   line_of r               the line that the code answers
 -- Assumes nothing.
-use Rattle.std.specs.Prelude.{if◌then◌else◌, ℕ, zero, suc, ◌%◌, ◌<◌, ◌≤◌, ◌≡◌, ◌⊎◌, List, ltb, length, get_or, take}
-use Rattle.std.proofs.Math.Option.{Option, none, some}
+use Rattle.std.specs.Prelude.{if◌then◌else◌, ℕ, zero, suc, ◌%◌, ◌<◌, ◌≤◌, ◌≡◌, ◌⊎◌, List, ltb, length, get_or, take, Option, None, Some}
 use Rattle.definitions.specs.Lists.{find, ◌≟◌}
 use Rattle.definitions.specs.Model.{Line, line}
 use Rattle.definitions.specs.Statements.{label}
 use Rattle.definitions.specs.FlowGraph.{label_line}
 use Rattle.blocks.specs.Entries.{linked}
 use Rattle.names.specs.Hash.{hash}
-use Rattle.labels.specs.declared.Label.{Label}
-use Rattle.labels.specs.declared.Label.TheVariants.{At, Missing}
 
 unfoldable pub size : ℕ → ℕ
 size n = if ltb n 1024 then 255 else 1023
@@ -39,7 +35,3 @@ pub record Indexed (L : List Line) (hs ns : List ℕ) (i : ℕ) : Type 0 where
   pub below : (b : ℕ) → b < size (length hs) → get_or hs b 0 ≤ i
   pub back : (j : ℕ) → j < i → get_or ns j 0 ≤ j
   pub found : (s : List ℕ) → lookup L ns i (get_or hs (bucket hs s) 0) s ≡ label_line (take i L) s
-
-abbrev pub line_of : Label → Option ℕ
-line_of (At h) = some h
-line_of Missing = none

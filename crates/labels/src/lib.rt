@@ -12,25 +12,18 @@
 
 ghost use Rattle.std.specs.Prelude.{◌≡◌, true, false, ℕ, ◌+◌, ◌%◌, ◌≤◌, ◌<◌, length, get_or};
 ghost use Rattle.definitions.specs.Model.{line};
-ghost use Rattle.definitions.specs.Columns.{listing};
 ghost use Rattle.definitions.specs.Statements.{is_label};
 ghost use Rattle.definitions.specs.FlowGraph.{label_line};
-ghost use Rattle.labels.specs.Buckets.{size, bucket, behind, Follows, Indexed, line_of};
+ghost use Rattle.model.specs.Listings.{listing_of};
+ghost use Rattle.labels.specs.Buckets.{size, bucket, behind, Follows, Indexed};
 
 pub mod gotos;
 
-use model::columns::{text_at, token_count};
+use model::listing::Listing;
 use pseudo_opt::labels::is_label;
 
 // The first multiplier.
 const FIRST: u16 = 19241;
-
-// The line of a label.
-#[derive(Drop)]
-pub enum Label {
-    At(usize),
-    Missing,
-}
 
 // How many buckets there are.
 fn size(heads: &[u16]) -> usize
@@ -60,13 +53,10 @@ fn bucket(heads: &[u16], s: &[u8]) -> usize
 }
 
 // Line i is a label: of a line that has not two tokens only its word is read.
-fn has_label(lines: &[u32], tokens: &[u32], text: &[u8], i: usize) -> bool
-    ensures { result ≡ is_label (line (listing lines.now tokens.now text.now) i) }
+fn has_label(code: &Listing, i: usize) -> bool
+    ensures { result ≡ is_label (line (listing_of code.now) i) }
 {
-    if token_count(lines, tokens, text, i) != 2 {
-        return false;
-    }
-    is_label(lines, tokens, text, i)
+    code.token_count(i) == 2 && is_label(code, i)
 }
 
 // From the entry p on there are `most` labels or more. Nothing is promised of it: by a wrong answer labels would only be found more slowly.
@@ -88,80 +78,56 @@ fn is_long(nexts: &[u16], p: usize, most: usize) -> bool {
 }
 
 // The entry behind a label s that is put in front of the entry p: that behind p where p's label has the same name, as it would never be met.
-fn behind(lines: &[u32], tokens: &[u32], text: &[u8], nexts: &[u16], s: &[u8], p: u16) -> u16
+fn behind(code: &Listing, nexts: &[u16], s: &[u8], p: u16) -> u16
     requires { p ≤ length nexts.now }
-    ensures { result ≡ behind (listing lines.now tokens.now text.now) nexts.now s.now p }
+    ensures { result ≡ behind (listing_of code.now) nexts.now s.now p }
 {
     if p == 0 {
         return 0;
     }
     let h = p as usize - 1;
-    if text::equal(text_at(lines, tokens, text, h, 0), s) {
+    if text::equal(code.text_at(h, 0), s) {
         return nexts[h];
     }
     p
 }
 
 // The entry to put there: that one where the bucket is full, else p, so that names are compared only in full ones.
-fn link(
-    lines: &[u32],
-    tokens: &[u32],
-    text: &[u8],
-    nexts: &[u16],
-    s: &[u8],
-    p: u16,
-    most: usize,
-) -> u16
+fn link(code: &Listing, nexts: &[u16], s: &[u8], p: u16, most: usize) -> u16
     requires { p ≤ length nexts.now }
-    ensures { Follows (listing lines.now tokens.now text.now) nexts.now s.now p result }
+    ensures { Follows (listing_of code.now) nexts.now s.now p result }
 {
     if is_long(nexts, p as usize, most) {
-        return behind(lines, tokens, text, nexts, s, p);
+        return behind(code, nexts, s, p);
     }
     p
 }
 
 // The label of line i more; answers whether its bucket now holds more than `most` labels.
-fn index_label(
-    lines: &[u32],
-    tokens: &[u32],
-    text: &[u8],
-    heads: &mut [u16],
-    nexts: &mut [u16],
-    i: usize,
-    most: usize,
-) -> bool
-    requires i_in_bounds { (i < length lines.now) × (256 ≤ length heads.old) × (i < length nexts.old) × (i < 1024) }
-    requires i_value { is_label (line (listing lines.now tokens.now text.now) i) ≡ true }
-    requires indexed { Indexed (listing lines.now tokens.now text.now) heads.old nexts.old i }
-    ensures { let L = listing lines.now tokens.now text.now in
+fn index_label(code: &Listing, heads: &mut [u16], nexts: &mut [u16], i: usize, most: usize) -> bool
+    requires i_in_bounds { (i < length code.now.lines.now) × (256 ≤ length heads.old) × (i < length nexts.old) × (i < 1024) }
+    requires i_value { is_label (line (listing_of code.now) i) ≡ true }
+    requires indexed { Indexed (listing_of code.now) heads.old nexts.old i }
+    ensures { let L = listing_of code.now in
         Indexed L heads.new nexts.new (i + 1) }
 {
-    let s = text_at(lines, tokens, text, i, 0);
+    let s = code.text_at(i, 0);
     let b = bucket(heads, s);
-    let p = link(lines, tokens, text, nexts, s, heads[b], most);
+    let p = link(code, nexts, s, heads[b], most);
     nexts[i] = p;
     heads[b] = (i + 1) as u16;
     is_long(nexts, p as usize, most)
 }
 
 // Line i more; answers the same.
-fn index_line(
-    lines: &[u32],
-    tokens: &[u32],
-    text: &[u8],
-    heads: &mut [u16],
-    nexts: &mut [u16],
-    i: usize,
-    most: usize,
-) -> bool
-    requires i_in_bounds { (i < length lines.now) × (256 ≤ length heads.old) × (i < length nexts.old) × (i < 1024) }
-    requires indexed { Indexed (listing lines.now tokens.now text.now) heads.old nexts.old i }
-    ensures { let L = listing lines.now tokens.now text.now in
+fn index_line(code: &Listing, heads: &mut [u16], nexts: &mut [u16], i: usize, most: usize) -> bool
+    requires i_in_bounds { (i < length code.now.lines.now) × (256 ≤ length heads.old) × (i < length nexts.old) × (i < 1024) }
+    requires indexed { Indexed (listing_of code.now) heads.old nexts.old i }
+    ensures { let L = listing_of code.now in
         Indexed L heads.new nexts.new (i + 1) }
 {
-    if has_label(lines, tokens, text, i) {
-        index_label(lines, tokens, text, heads, nexts, i, most)
+    if has_label(code, i) {
+        index_label(code, heads, nexts, i, most)
     } else {
         nexts[i] = 0;
         false
@@ -171,31 +137,27 @@ fn index_line(
 // Puts the labels into their buckets for the multiplier m; answers whether all are there. Where there are more multipliers, it stops at a bucket
 // that holds more than `most`.
 fn index_all(
-    lines: &[u32],
-    tokens: &[u32],
-    text: &[u8],
+    code: &Listing,
     heads: &mut [u16],
     nexts: &mut [u16],
     m: u16,
     most: usize,
     more: bool,
 ) -> bool
-    requires in_bounds { (256 ≤ length heads.old) × (length lines.now ≤ length nexts.old) × (length lines.now ≤ 1024) }
+    requires in_bounds { (256 ≤ length heads.old) × (length code.now.lines.now ≤ length nexts.old) × (length code.now.lines.now ≤ 1024) }
     requires by_index { (b : ℕ) → b < size (length heads.old) → get_or heads.old b 0 ≡ 0 }
-    ensures indexed { let L = listing lines.now tokens.now text.now in
-        result ≡ true → Indexed L heads.new nexts.new (length lines.now) }
+    ensures indexed { let L = listing_of code.now in
+        result ≡ true → Indexed L heads.new nexts.new (length code.now.lines.now) }
     ensures value { more ≡ false → result ≡ true }
 {
     let c = size(heads);
     heads[c] = m;
-    let mut i = 0;
-    while i < lines.len() {
-        if index_line(lines, tokens, text, heads, nexts, i, most) {
+    for i in 0..code.lines.len() {
+        if index_line(code, heads, nexts, i, most) {
             if more {
                 return false;
             }
         }
-        i += 1;
     }
     true
 }
@@ -205,58 +167,49 @@ fn empty(heads: &mut [u16], n: usize)
     requires { n ≤ length heads.old }
     ensures { (b : ℕ) → b < n → get_or heads.new b 0 ≡ 0 }
 {
-    let mut k = 0;
-    while k < n {
+    for k in 0..n {
         heads[k] = 0;
-        k += 1;
     }
 }
 
 // Puts every label into its bucket. The buckets are empty, and there is an entry for each line. By the first multiplier, 500 labels such as
 // label_12, L7 or loc_401a3c are at most 3 to a bucket of 1,023, and 64 at most 2 to a bucket of 255.
-pub fn index(lines: &[u32], tokens: &[u32], text: &[u8], heads: &mut [u16], nexts: &mut [u16])
-    requires in_bounds { (256 ≤ length heads.old) × (length lines.now ≤ length nexts.old) × (length lines.now ≤ 1024) }
+pub fn index(code: &Listing, heads: &mut [u16], nexts: &mut [u16])
+    requires in_bounds { (256 ≤ length heads.old) × (length code.now.lines.now ≤ length nexts.old) × (length code.now.lines.now ≤ 1024) }
     requires by_index { (b : ℕ) → get_or heads.old b 0 ≡ 0 }
-    ensures { let L = listing lines.now tokens.now text.now in
-        Indexed L heads.new nexts.new (length lines.now) }
+    ensures { let L = listing_of code.now in
+        Indexed L heads.new nexts.new (length code.now.lines.now) }
 {
     let mut m = FIRST;
     let mut most: usize = 3;
     let mut left: usize = 7;
     while 0 < left {
-        if index_all(lines, tokens, text, heads, nexts, m, most, true) {
+        if index_all(code, heads, nexts, m, most, true) {
             return;
         }
         let c = size(heads);
         empty(heads, c);
-        m = names::next(m, text);
+        m = names::next(m, code.text);
         most = 10;
         left -= 1;
     }
-    index_all(lines, tokens, text, heads, nexts, m, most, false);
+    index_all(code, heads, nexts, m, most, false);
 }
 
 // The line of the label s, of equal ones the last.
-pub fn label_line(
-    lines: &[u32],
-    tokens: &[u32],
-    text: &[u8],
-    heads: &[u16],
-    nexts: &[u16],
-    s: &[u8],
-) -> Label
-    requires in_bounds { (256 ≤ length heads.now) × (length lines.now ≤ length nexts.now) }
-    requires indexed { Indexed (listing lines.now tokens.now text.now) heads.now nexts.now (length lines.now) }
-    ensures { line_of result ≡ label_line (listing lines.now tokens.now text.now) s.now }
+pub fn label_line(code: &Listing, heads: &[u16], nexts: &[u16], s: &[u8]) -> Option<usize>
+    requires in_bounds { (256 ≤ length heads.now) × (length code.now.lines.now ≤ length nexts.now) }
+    requires indexed { Indexed (listing_of code.now) heads.now nexts.now (length code.now.lines.now) }
+    ensures { result ≡ label_line (listing_of code.now) s.now }
 {
     let b = bucket(heads, s);
     let mut p = heads[b] as usize;
     while p != 0 {
         let h = p - 1;
-        if text::equal(text_at(lines, tokens, text, h, 0), s) {
-            return Label::At(h);
+        if text::equal(code.text_at(h, 0), s) {
+            return Some(h);
         }
         p = nexts[h] as usize;
     }
-    Label::Missing
+    None
 }

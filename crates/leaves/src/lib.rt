@@ -5,11 +5,8 @@
 
 #![tactic(auto)]
 
-use assignment::Assigned;
-use assignment::definition::Defined;
-use condition::Conditional;
 use family::Register;
-use pseudo_opt::Found;
+use model::listing::Listing;
 use questions::Limits;
 
 fn put(out: &mut [u64], k: usize, v: usize) {
@@ -33,10 +30,10 @@ fn put_register(out: &mut [u64], r: Register) {
     }
 }
 
-fn put_found(out: &mut [u64], f: Found) {
+fn put_found(out: &mut [u64], f: Option<usize>) {
     match f {
-        Found::At(k) => put_three(out, 1, k, 0),
-        Found::Nothing => put_three(out, 0, 0, 0),
+        Some(k) => put_three(out, 1, k, 0),
+        None => put_three(out, 0, 0, 0),
     }
 }
 
@@ -46,12 +43,20 @@ fn number(b: bool) -> usize {
 
 // The number of the first of questions 1 to 3 that is answered no, 0 for none.
 pub fn leaves_refusal(lines: &[u32], tokens: &[u32], text: &[u8]) -> usize {
+    let code = &Listing {
+        lines,
+        tokens,
+        text,
+    };
     let most = Limits {
         lines: 1024,
         tokens: 16384,
         text: 262144,
     };
-    questions::refusal(lines, tokens, text, most)
+    match questions::ask(code, most) {
+        Ok(()) => 0,
+        Err(refusal) => refusal.number(),
+    }
 }
 
 // Question 3 alone, of the whole text as one token.
@@ -68,50 +73,86 @@ pub fn leaves_same_family(a: &[u8], b: &[u8]) -> usize {
 }
 
 pub fn leaves_is_label(lines: &[u32], tokens: &[u32], text: &[u8], i: usize) -> usize {
-    number(pseudo_opt::labels::is_label(lines, tokens, text, i))
+    let code = &Listing {
+        lines,
+        tokens,
+        text,
+    };
+    number(pseudo_opt::labels::is_label(code, i))
 }
 
 pub fn leaves_has_kw(lines: &[u32], tokens: &[u32], text: &[u8], i: usize, kw: &[u8]) -> usize {
-    number(pseudo_opt::keywords::has_kw(lines, tokens, text, i, kw))
+    let code = &Listing {
+        lines,
+        tokens,
+        text,
+    };
+    number(pseudo_opt::keywords::has_kw(code, i, kw))
 }
 
 pub fn leaves_call_at(lines: &[u32], tokens: &[u32], text: &[u8], i: usize, out: &mut [u64]) {
-    put_found(out, pseudo_opt::calls::call_at(lines, tokens, text, i));
+    let code = &Listing {
+        lines,
+        tokens,
+        text,
+    };
+    put_found(out, pseudo_opt::calls::call_at(code, i));
 }
 
 // The place of the symbol that is the first goto's target, and the length of its bytes.
 pub fn leaves_goto_target(lines: &[u32], tokens: &[u32], text: &[u8], i: usize, out: &mut [u64]) {
-    put_found(out, pseudo_opt::labels::goto_symbol(lines, tokens, text, i));
-    put(
-        out,
-        2,
-        pseudo_opt::labels::goto_target(lines, tokens, text, i).len(),
-    );
+    let code = &Listing {
+        lines,
+        tokens,
+        text,
+    };
+    put_found(out, pseudo_opt::labels::goto_symbol(code, i));
+    put(out, 2, pseudo_opt::labels::goto_target(code, i).len());
 }
 
 pub fn leaves_assignment(lines: &[u32], tokens: &[u32], text: &[u8], i: usize, out: &mut [u64]) {
-    let Assigned::Side { from, to } = assignment::assignment(lines, tokens, text, i) else {
+    let code = &Listing {
+        lines,
+        tokens,
+        text,
+    };
+    let Some(side) = assignment::assignment(code, i) else {
         put_three(out, 0, 0, 0);
         return;
     };
-    put_three(out, 1, from, to);
+    put_three(out, 1, side.from, side.to);
 }
 
 // The length of the text of token k of a right side.
 pub fn leaves_expr_length(lines: &[u32], tokens: &[u32], text: &[u8], i: usize, k: usize) -> usize {
-    assignment::expr_text(lines, tokens, text, i, k).len()
+    let code = &Listing {
+        lines,
+        tokens,
+        text,
+    };
+    assignment::expr_text(code, i, k).len()
 }
 
 pub fn leaves_defines(lines: &[u32], tokens: &[u32], text: &[u8], i: usize, out: &mut [u64]) {
-    match assignment::definition::defines(lines, tokens, text, i) {
-        Defined::Family(r) => put_register(out, r),
-        Defined::Nothing => put_three(out, 0, 0, 0),
+    let code = &Listing {
+        lines,
+        tokens,
+        text,
+    };
+    match assignment::definition::defines(code, i) {
+        Some(r) => put_register(out, r),
+        None => put_three(out, 0, 0, 0),
     }
 }
 
 // The blocks that line i opens and closes.
 pub fn leaves_braces(lines: &[u32], tokens: &[u32], text: &[u8], i: usize, out: &mut [u64]) {
-    let b = braces::line_braces(lines, tokens, text, i);
+    let code = &Listing {
+        lines,
+        tokens,
+        text,
+    };
+    let b = braces::line_braces(code, i);
     put_three(out, 1, b.opens, b.closes);
 }
 
@@ -123,9 +164,14 @@ pub fn leaves_condition(
     kw: &[u8],
     out: &mut [u64],
 ) {
-    let Conditional::Cut { keyword, end } = condition::condition(lines, tokens, text, i, kw) else {
+    let code = &Listing {
+        lines,
+        tokens,
+        text,
+    };
+    let Some(cut) = condition::condition(code, i, kw) else {
         put_three(out, 0, 0, 0);
         return;
     };
-    put_three(out, 1, keyword, end);
+    put_three(out, 1, cut.keyword, cut.end);
 }

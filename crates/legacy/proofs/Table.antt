@@ -1,80 +1,37 @@
 -- The table of names and the place that a hash gives: what is computed once, over the whole table, and the rules for the functions that look
 -- into it.
---   two_bytes, three_bytes, byte_not, length_not    a text that is compared byte by byte
---   letters_two, letters_three            the name in a cell
+--   letters_is           the name in a cell
 --   below                what a test finds of every number below n
 --   cell_is              the cell at place p holds the name at place p
 --   place_start, place_least, place_only   an entry of the hashes is a place, that of the name with this hash
 --   place_found, place_none   the text is the name at that place; it is not, so it is no name
 --   first_row            the name of a family stands in the first column
 -- Assumes nothing.
+use Rattle.std.specs.Prelude.{Option, None, Some}
+use Rattle.std.specs.Option.{option_map}
 use mathlib.Core.Path.{◌≡◌, refl, sym, ap, ◌∙◌}
 use mathlib.Core.Bool.{Bool, true, false, ◌&&◌, cond}
 use mathlib.Core.List.{List, [], ◌∷◌}
-use mathlib.Core.Option.{Option, none, some, map}
 use Prim.Native.Nat.{ℕ, zero, suc, ◌+◌, ◌*◌, ◌-◌, ◌≤◌, ◌<◌}
 use native.Mathlib.Nat.{add-zero, add-suc, suc-add, zero-add, le_of_suc-le-suc, not-suc-le-zero}
 use lib.Dec.{eqb, leb, ltb}
 use native.Mathlib.Omega.{arith}
-use borrow.Author.Tests.{eq-eqb, ne_eqb, eqb-true, lt-ltb, leb-true, ltb-true}
+use borrow.Author.Tests.{eqb-true, leb-true, ltb-true}
 use lib.ListN.{length, get_or, take}
+use lib.Seq.{take_all}
 use Rattle.definitions.specs.Lists.{◌≟◌, all, range, up_to, position, concat}
 use Rattle.definitions.specs.Family.{legacy}
-use Rattle.text.proofs.Texts.{≟_eq, ≟_length}
-use Rattle.legacy.specs.Table.{letters, all_names, name_at, hash, found, row_name}
-
--- A text, byte by byte
-
-two_is : (s : List ℕ) (a b : ℕ) → length s ≡ 2 → (s ≟ a ∷ b ∷ []) ≡ (eqb (get_or s 0 0) a && eqb (get_or s 1 0) b)
-unfolding ◌≟◌
-two_is [] a b h = absurd (omega arith)
-two_is (x ∷ []) a b h = absurd (omega arith)
-two_is (x ∷ y ∷ []) a b h = go (eqb x a) (eqb y b)
-  where
-    go : (p q : Bool) → (p && (q && true)) ≡ (p && q)
-    go true true = refl
-    go true false = refl
-    go false q = refl
-two_is (x ∷ y ∷ z ∷ s) a b h = absurd (omega arith)
-
-three_is : (s : List ℕ) (a b c : ℕ) → length s ≡ 3 → (s ≟ a ∷ b ∷ c ∷ []) ≡ (eqb (get_or s 0 0) a && (eqb (get_or s 1 0) b && eqb (get_or s 2 0) c))
-unfolding ◌≟◌
-three_is [] a b c h = absurd (omega arith)
-three_is (x ∷ s) a b c h = ap (eqb x a &&◌) (two_is s b c (omega arith))
-
-module _ (s : List ℕ) (r : Bool) (a b : ℕ) where
-  pub two_bytes : length s ≡ 2 → r ≡ (eqb (get_or s 0 0) a && eqb (get_or s 1 0) b) → r ≡ (s ≟ a ∷ b ∷ [])
-  two_bytes h e = e ∙ sym (two_is s a b h)
-
-  pub three_bytes : (c : ℕ) → length s ≡ 3 → r ≡ (eqb (get_or s 0 0) a && (eqb (get_or s 1 0) b && eqb (get_or s 2 0) c)) → r ≡ (s ≟ a ∷ b ∷ c ∷ [])
-  three_bytes c h e = e ∙ sym (three_is s a b c h)
-
-pub byte_not : (a b : ℕ) (y : Bool) → (a ≡ b → ⊥) → false ≡ (eqb a b && y)
-byte_not a b y h = rw (ne_eqb a b h)
-
-pub length_not : (s t : List ℕ) → (length s ≡ length t → ⊥) → false ≡ (s ≟ t)
-length_not s t h = sym (≟_length s t h)
+use Rattle.text.proofs.Texts.{≟_eq}
+use Rattle.legacy.specs.Table.{letters, all_names, name_at, hash, row_name}
 
 -- The name in a cell
 
-module _ (s cell : List ℕ) (r : Bool) (h : length cell ≡ 3) where
-  pub letters_two : get_or cell 2 0 ≡ 0 → r ≡ (s ≟ get_or cell 0 0 ∷ get_or cell 1 0 ∷ []) → r ≡ (s ≟ letters cell)
-  letters_two g e = rw (eq-eqb (get_or cell 2 0) 0 g) (e ∙ ap (s ≟◌) (two cell h))
-    where
-      two : (c : List ℕ) → length c ≡ 3 → get_or c 0 0 ∷ get_or c 1 0 ∷ [] ≡ take 2 c
-      two [] h = absurd (omega arith)
-      two (x ∷ []) h = absurd (omega arith)
-      two (x ∷ y ∷ c) h = refl
-
-  pub letters_three : (get_or cell 2 0 ≡ 0 → ⊥) → r ≡ (s ≟ get_or cell 0 0 ∷ get_or cell 1 0 ∷ get_or cell 2 0 ∷ []) → r ≡ (s ≟ letters cell)
-  letters_three g e = rw (ne_eqb (get_or cell 2 0) 0 g) (e ∙ ap (s ≟◌) (three cell h))
-    where
-      three : (c : List ℕ) → length c ≡ 3 → get_or c 0 0 ∷ get_or c 1 0 ∷ get_or c 2 0 ∷ [] ≡ c
-      three [] h = absurd (omega arith)
-      three (x ∷ []) h = absurd (omega arith)
-      three (x ∷ y ∷ []) h = absurd (omega arith)
-      three (x ∷ y ∷ z ∷ []) h = refl
-      three (x ∷ y ∷ z ∷ w ∷ c) h = absurd (omega arith)
+pub letters_is : (s cell : List ℕ) (n : ℕ) → length cell ≡ 3 → n ≡ cond (eqb (get_or cell 2 0) 0) 2 3 → (s ≟ take n cell) ≡ (s ≟ letters cell)
+letters_is s cell n h e = rw e (go (eqb (get_or cell 2 0) 0))
+  where
+    go : (b : Bool) → (s ≟ take (cond b 2 3) cell) ≡ (s ≟ cond b (take 2 cell) cell)
+    go true = refl
+    go false = rw (take_all 3 cell (omega arith))
 
 -- A test of every number below n
 
@@ -125,34 +82,34 @@ module _ (t : List ℕ) (h c : ℕ) (e : c ≡ get_or t h 0) where
 
 -- The place of a text among the names
 
-pub position_at : {A : Type 0} (p : A → Bool) (d : A) (xs : List A) (k : ℕ) → position p xs ≡ some k → (k < length xs) × (p (get_or xs k d) ≡ true)
+pub position_at : {A : Type 0} (p : A → Bool) (d : A) (xs : List A) (k : ℕ) → position p xs ≡ Some k → (k < length xs) × (p (get_or xs k d) ≡ true)
 unfolding position
 position_at p d [] k e = let z : ◌≡◌ {A = ℕ} 0 1 = cc in absurd (omega arith)
 position_at {A} p d (x ∷ xs) k e = go (p x) refl e (position_at p d xs)
   where
-    later : (o : Option ℕ) → position p xs ≡ o → map suc o ≡ some k
-        → ((j : ℕ) → position p xs ≡ some j → (j < length xs) × (p (get_or xs j d) ≡ true)) → (k < suc (length xs)) × (p (get_or (x ∷ xs) k d) ≡ true)
-    later none f g h = let z : ◌≡◌ {A = ℕ} 0 1 = cc in absurd (omega arith)
-    later (some j) f g h =
+    later : (o : Option ℕ) → position p xs ≡ o → option_map suc o ≡ Some k
+        → ((j : ℕ) → position p xs ≡ Some j → (j < length xs) × (p (get_or xs j d) ≡ true)) → (k < suc (length xs)) × (p (get_or (x ∷ xs) k d) ≡ true)
+    later None f g h = let z : ◌≡◌ {A = ℕ} 0 1 = cc in absurd (omega arith)
+    later (Some j) f g h =
         let z : suc j ≡ k = cc in
         let y = h j f in
         (omega arith, rw (← z) y.1)
 
-    go : (b : Bool) → p x ≡ b → cond b (some 0) (map suc (position p xs)) ≡ some k
-        → ((j : ℕ) → position p xs ≡ some j → (j < length xs) × (p (get_or xs j d) ≡ true)) → (k < suc (length xs)) × (p (get_or (x ∷ xs) k d) ≡ true)
+    go : (b : Bool) → p x ≡ b → cond b (Some 0) (option_map suc (position p xs)) ≡ Some k
+        → ((j : ℕ) → position p xs ≡ Some j → (j < length xs) × (p (get_or xs j d) ≡ true)) → (k < suc (length xs)) × (p (get_or (x ∷ xs) k d) ≡ true)
     go true f g h = let z : 0 ≡ k = cc in (omega arith, rw (← z) f)
     go false f g h = later (position p xs) refl g h
 
 is_some_of : Option ℕ → ℕ → Bool
-is_some_of none k = false
-is_some_of (some j) k = eqb j k
+is_some_of None k = false
+is_some_of (Some j) k = eqb j k
 
-some_of : (o : Option ℕ) (k : ℕ) → is_some_of o k ≡ true → some k ≡ o
+some_of : (o : Option ℕ) (k : ℕ) → is_some_of o k ≡ true → Some k ≡ o
 unfolding is_some_of
-some_of none k e = let z : ◌≡◌ {A = ℕ} 0 1 = cc in absurd (omega arith)
-some_of (some j) k e = ap some (sym (eqb-true j k e))
+some_of None k e = let z : ◌≡◌ {A = ℕ} 0 1 = cc in absurd (omega arith)
+some_of (Some j) k e = ap Some (sym (eqb-true j k e))
 
-own_place : (p : ℕ) → p < 36 → some p ≡ position (name_at p ≟◌) all_names
+own_place : (p : ℕ) → p < 36 → Some p ≡ position (name_at p ≟◌) all_names
 unfolding all range ◌≟◌ concat legacy all_names position is_some_of
 own_place p h = some_of (position (name_at p ≟◌) all_names) p (below (λ p. is_some_of (position (name_at p ≟◌) all_names) p) 36 p refl h)
 
@@ -161,20 +118,18 @@ unfolding concat legacy all_names
 name_count = refl
 
 module _ (s : List ℕ) (p : ℕ) (b : Bool) (e : b ≡ (s ≟ name_at p)) where
-  pub place_found : p < 36 → b ≡ true → found 36 p ≡ position (s ≟◌) all_names
-  place_found h f = rw (lt-ltb p 36 h, ≟_eq s (name_at p) (sym e ∙ f)) (own_place p h)
+  pub place_found : p < 36 → b ≡ true → Some p ≡ position (s ≟◌) all_names
+  place_found h f = rw (≟_eq s (name_at p) (sym e ∙ f)) (own_place p h)
 
-  pub place_none : (h : ℕ) → h ≡ hash s → ((q : ℕ) → q < 36 → hash (name_at q) ≡ h → p ≡ q) → b ≡ false → found 36 36 ≡ position (s ≟◌) all_names
+  pub place_none : (h : ℕ) → h ≡ hash s → ((q : ℕ) → q < 36 → hash (name_at q) ≡ h → p ≡ q) → b ≡ false → None ≡ position (s ≟◌) all_names
   place_none h g only f = go (position (s ≟◌) all_names) refl
     where
-      go : (o : Option ℕ) → position (s ≟◌) all_names ≡ o → none ≡ o
-      go none q = refl
-      go (some k) q =
+      go : (o : Option ℕ) → position (s ≟◌) all_names ≡ o → None ≡ o
+      go None q = refl
+      go (Some k) q =
           let y = position_at (s ≟◌) [] all_names k q in
           let same : s ≡ name_at k = ≟_eq s (name_at k) y.1 in
           let z : p ≡ k = only k (omega (arith, name_count)) (sym (g ∙ ap hash same)) in
           let w : (s ≟ name_at p) ≡ true = rw z y.1 in
           let x : ◌≡◌ {A = ℕ} 0 1 = cc in
           absurd (omega arith)
-
-pub ruleset table_rules = (two_bytes, three_bytes, byte_not, length_not, letters_two, letters_three, place_found, place_none)

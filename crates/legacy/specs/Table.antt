@@ -3,11 +3,9 @@
 --   all_names            the legacy names, row by row, and behind them ah bh ch dh
 --   name_at p            the name at place p of them
 --   hash s               a number that tells these names from each other
---   found n k            k, where it is below n
 --   row_name i           the name of the family in row i of the table
 -- Assumes nothing.
-use Rattle.std.specs.Prelude.{if◌then◌else◌, ℕ, ◌+◌, ◌*◌, ◌/◌, ◌%◌, List, [], ◌∷◌, ◌++◌, eqb, ltb, take, get_or}
-use Rattle.std.proofs.Math.Option.{Option, none, some}
+use Rattle.std.specs.Prelude.{if◌then◌else◌, Some, None, ℕ, ◌+◌, ◌*◌, ◌/◌, ◌%◌, List, [], ◌∷◌, ◌++◌, eqb, take, get_or, Option}
 use Rattle.definitions.specs.Lists.{concat, ascii}
 use Rattle.definitions.specs.Family.{legacy}
 
@@ -22,9 +20,6 @@ name_at p = get_or all_names p []
 
 unfoldable pub hash : List ℕ → ℕ
 hash s = (20 * get_or s 0 0 + 7 * get_or s 1 0 + 12 * get_or s 2 0) / 4 % 64
-
-abbrev pub found : ℕ → ℕ → Option ℕ
-found n k = if ltb k n then some k else none
 
 abbrev pub row_name : ℕ → List ℕ
 row_name i = get_or (get_or legacy i []) 0 []

@@ -5,9 +5,9 @@
 
 #![tactic(auto)]
 
-ghost use Rattle.std.specs.Prelude.{◌≡◌, [], ◌∷◌, ℕ, ◌<◌, get_or};
+ghost use Rattle.std.specs.Prelude.{◌≡◌, ℕ, ◌<◌, IfSome};
 ghost use Rattle.definitions.specs.Lists.{◌≟◌, position};
-ghost use Rattle.legacy.specs.Table.{letters, all_names, name_at, hash, found, row_name};
+ghost use Rattle.legacy.specs.Table.{letters, all_names, name_at, hash, row_name};
 
 use text::byte;
 
@@ -20,44 +20,12 @@ const NAMES: [[u8; 3]; 36] = [
     *b"sp\0", *b"spl", *b"ah\0", *b"bh\0", *b"ch\0", *b"dh\0",
 ];
 
-// The text is these two bytes.
-fn is_two(s: &[u8], a: u8, b: u8) -> bool
-    ensures { result ≡ (s.now ≟ a ∷ b ∷ []) }
-{
-    if s.len() != 2 {
-        return false;
-    }
-    if s[0] != a {
-        return false;
-    }
-    s[1] == b
-}
-
-// The text is these three bytes.
-fn is_three(s: &[u8], a: u8, b: u8, c: u8) -> bool
-    ensures { result ≡ (s.now ≟ a ∷ b ∷ c ∷ []) }
-{
-    if s.len() != 3 {
-        return false;
-    }
-    if s[0] != a {
-        return false;
-    }
-    if s[1] != b {
-        return false;
-    }
-    s[2] == c
-}
-
 // The text is the name in a cell of the table.
 fn is_name(cell: [u8; 3], s: &[u8]) -> bool
     ensures { result ≡ (s.now ≟ letters cell) }
 {
-    if cell[2] == 0 {
-        is_two(s, cell[0], cell[1])
-    } else {
-        is_three(s, cell[0], cell[1], cell[2])
-    }
+    let n = if cell[2] == 0 { 2 } else { 3 };
+    s == &cell[..n]
 }
 
 // The text is the name at place p of the table.
@@ -97,13 +65,11 @@ fn place_of(h: usize) -> usize
     ) - 48
 }
 
-// The place of a name in the table, 36 where it is not there.
-pub fn place(s: &[u8]) -> usize
-    ensures { found 36 result ≡ position (s.now ≟◌) all_names }
+// The place of a name in the table.
+pub fn place(s: &[u8]) -> Option<usize>
+    ensures found { result ≡ position (s.now ≟◌) all_names }
+    ensures below { IfSome result (λ p. p < 36) }
 {
     let p = place_of(hash(s));
-    if is_at(p, s) {
-        return p;
-    }
-    36
+    if is_at(p, s) { Some(p) } else { None }
 }

@@ -9,12 +9,12 @@
 ghost use Rattle.std.specs.Prelude.{◌≡◌, cond, ◌||◌, ℕ, ◌≤◌, length, get_or};
 ghost use Rattle.definitions.specs.Lists.{◌≟◌, ascii};
 ghost use Rattle.definitions.specs.Model.{line, no_token};
-ghost use Rattle.definitions.specs.Columns.{token_list, listing};
 ghost use Rattle.definitions.specs.Statements.{has_kw};
 ghost use Rattle.definitions.specs.FlowGraph.{is_loop, is_switch};
+ghost use Rattle.model.specs.Listings.{listing_of, tokens_of};
 ghost use Rattle.line_keywords.specs.Masks.{class, key, mask, Masks};
 
-use model::columns::{line_end, line_start, token_kind, token_text};
+use model::listing::Listing;
 
 // Masks
 
@@ -53,41 +53,37 @@ fn class(s: &[u8]) -> u8
 }
 
 // The bits of token k of all.
-fn key(tokens: &[u32], text: &[u8], k: usize) -> u8
-    ensures { result ≡ key (get_or (token_list tokens.now text.now) k no_token) }
+fn key(code: &Listing, k: usize) -> u8
+    ensures { result ≡ key (get_or (tokens_of code.now) k no_token) }
 {
-    if token_kind(tokens, text, k) == 3 {
-        class(token_text(tokens, text, k))
+    if code.token_kind(k) == 3 {
+        class(code.token_text(k))
     } else {
         0
     }
 }
 
 // The bits of line i.
-fn mask(lines: &[u32], tokens: &[u32], text: &[u8], i: usize) -> u8
-    ensures { result ≡ mask (line (listing lines.now tokens.now text.now) i) }
+fn mask(code: &Listing, i: usize) -> u8
+    ensures { result ≡ mask (line (listing_of code.now) i) }
 {
-    let s = line_start(lines, i);
-    let e = line_end(lines, tokens, i);
+    let s = code.line_start(i);
+    let e = code.line_end(i);
     let mut m = 0;
-    let mut k = s;
-    while k < e {
-        m = m | key(tokens, text, k);
-        k += 1;
+    for k in s..e {
+        m = m | key(code, k);
     }
     m
 }
 
 // The bits of every line. The column is empty, and there is an entry for each line.
-pub fn masks(lines: &[u32], tokens: &[u32], text: &[u8], masks: &mut [u8])
-    requires lines_in_bounds { length lines.now ≤ length masks.old }
+pub fn masks(code: &Listing, masks: &mut [u8])
+    requires lines_in_bounds { length code.now.lines.now ≤ length masks.old }
     requires by_index { (b : ℕ) → get_or masks.old b 0 ≡ 0 }
-    ensures { Masks (listing lines.now tokens.now text.now) masks.new }
+    ensures { Masks (listing_of code.now) masks.new }
 {
-    let mut i = 0;
-    while i < lines.len() {
-        masks[i] = mask(lines, tokens, text, i);
-        i += 1;
+    for i in 0..code.lines.len() {
+        masks[i] = mask(code, i);
     }
 }
 
@@ -100,61 +96,61 @@ fn at(masks: &[u8], i: usize) -> u8
     if i < masks.len() { masks[i] } else { 0 }
 }
 
-pub fn has_goto(lines: &[u32], tokens: &[u32], text: &[u8], masks: &[u8], i: usize) -> bool
-    requires { Masks (listing lines.now tokens.now text.now) masks.now }
-    ensures { result ≡ has_kw (line (listing lines.now tokens.now text.now) i) (ascii "goto") }
+pub fn has_goto(code: &Listing, masks: &[u8], i: usize) -> bool
+    requires { Masks (listing_of code.now) masks.now }
+    ensures { result ≡ has_kw (line (listing_of code.now) i) (ascii "goto") }
 {
     at(masks, i) / 2 % 2 == 1
 }
 
-pub fn has_else(lines: &[u32], tokens: &[u32], text: &[u8], masks: &[u8], i: usize) -> bool
-    requires { Masks (listing lines.now tokens.now text.now) masks.now }
-    ensures { result ≡ has_kw (line (listing lines.now tokens.now text.now) i) (ascii "else") }
+pub fn has_else(code: &Listing, masks: &[u8], i: usize) -> bool
+    requires { Masks (listing_of code.now) masks.now }
+    ensures { result ≡ has_kw (line (listing_of code.now) i) (ascii "else") }
 {
     at(masks, i) / 4 % 2 == 1
 }
 
-pub fn is_loop(lines: &[u32], tokens: &[u32], text: &[u8], masks: &[u8], i: usize) -> bool
-    requires { Masks (listing lines.now tokens.now text.now) masks.now }
-    ensures { result ≡ is_loop (line (listing lines.now tokens.now text.now) i) }
+pub fn is_loop(code: &Listing, masks: &[u8], i: usize) -> bool
+    requires { Masks (listing_of code.now) masks.now }
+    ensures { result ≡ is_loop (line (listing_of code.now) i) }
 {
     at(masks, i) / 8 % 2 == 1
 }
 
-pub fn has_do(lines: &[u32], tokens: &[u32], text: &[u8], masks: &[u8], i: usize) -> bool
-    requires { Masks (listing lines.now tokens.now text.now) masks.now }
-    ensures { result ≡ has_kw (line (listing lines.now tokens.now text.now) i) (ascii "do") }
+pub fn has_do(code: &Listing, masks: &[u8], i: usize) -> bool
+    requires { Masks (listing_of code.now) masks.now }
+    ensures { result ≡ has_kw (line (listing_of code.now) i) (ascii "do") }
 {
     at(masks, i) % 2 == 1
 }
 
-pub fn is_switch(lines: &[u32], tokens: &[u32], text: &[u8], masks: &[u8], i: usize) -> bool
-    requires { Masks (listing lines.now tokens.now text.now) masks.now }
-    ensures { result ≡ is_switch (line (listing lines.now tokens.now text.now) i) }
+pub fn is_switch(code: &Listing, masks: &[u8], i: usize) -> bool
+    requires { Masks (listing_of code.now) masks.now }
+    ensures { result ≡ is_switch (line (listing_of code.now) i) }
 {
     at(masks, i) / 16 % 2 == 1
 }
 
 // A break or continue.
-pub fn leaves_block(lines: &[u32], tokens: &[u32], text: &[u8], masks: &[u8], i: usize) -> bool
-    requires { Masks (listing lines.now tokens.now text.now) masks.now }
-    ensures { let L = listing lines.now tokens.now text.now in
+pub fn leaves_block(code: &Listing, masks: &[u8], i: usize) -> bool
+    requires { Masks (listing_of code.now) masks.now }
+    ensures { let L = listing_of code.now in
         result ≡ (has_kw (line L i) (ascii "break") || has_kw (line L i) (ascii "continue")) }
 {
     at(masks, i) / 32 % 2 == 1
 }
 
-pub fn has_continue(lines: &[u32], tokens: &[u32], text: &[u8], masks: &[u8], i: usize) -> bool
-    requires { Masks (listing lines.now tokens.now text.now) masks.now }
-    ensures { result ≡ has_kw (line (listing lines.now tokens.now text.now) i) (ascii "continue") }
+pub fn has_continue(code: &Listing, masks: &[u8], i: usize) -> bool
+    requires { Masks (listing_of code.now) masks.now }
+    ensures { result ≡ has_kw (line (listing_of code.now) i) (ascii "continue") }
 {
     at(masks, i) / 128 % 2 == 1
 }
 
 // A case or default, wherever it stands on the line.
-pub fn has_case(lines: &[u32], tokens: &[u32], text: &[u8], masks: &[u8], i: usize) -> bool
-    requires { Masks (listing lines.now tokens.now text.now) masks.now }
-    ensures { let L = listing lines.now tokens.now text.now in
+pub fn has_case(code: &Listing, masks: &[u8], i: usize) -> bool
+    requires { Masks (listing_of code.now) masks.now }
+    ensures { let L = listing_of code.now in
         result ≡ (has_kw (line L i) (ascii "case") || has_kw (line L i) (ascii "default")) }
 {
     at(masks, i) / 64 % 2 == 1

@@ -11,13 +11,12 @@
 --   leads_yes, leads_no, leads_start, leads_next, leads_fail, leads_end, leads_none   whether there is one for every goto
 --   line_drawn                                       all kinds
 -- Assumes nothing.
-use Rattle.std.specs.Prelude.{if◌then◌else◌}
+use Rattle.std.specs.Prelude.{if◌then◌else◌, Option, None, Some}
 use Prim.Native.Nat.{ℕ, zero, suc, ◌+◌, ◌-◌, ◌<◌, ◌≤◌}
 use mathlib.Core.Path.{◌≡◌, refl, sym, ap, ◌∙◌, fun_ext}
 use mathlib.Core.Logic.{inl, inr}
 use mathlib.Core.Bool.{Bool, true, false, cond, ◌&&◌, ◌||◌, and-false, or-false, and-or_distrib_left}
 use mathlib.Core.List.{List, [], ◌∷◌, ◌++◌, map}
-use mathlib.Core.Option.{Option, none, some}
 use native.Mathlib.Numerals.{add-one}
 use native.Mathlib.Decide.{ℕ_discrete}
 use native.Mathlib.Omega.{arith}
@@ -37,10 +36,7 @@ use Rattle.theory.proofs.ListLaws.{any_found, any_here, member_filter, range_mem
 use Rattle.bits.specs.Edges.{Added}
 use Rattle.blocks.specs.Entries.{place, linked}
 use Rattle.blocks.specs.Structure.{Ended, Enclosed}
-use Rattle.labels.specs.Buckets.{line_of}
 use Rattle.labels.specs.Gotos.{targets_at, goto_line}
-use Rattle.labels.specs.declared.Label.{Label}
-use Rattle.labels.specs.declared.Label.TheVariants.{At, Missing}
 use Rattle.line_steps.specs.Drawing.{Drawing, Drawn, from, after, left, lefts, back, own, line_edges}
 use Rattle.blocks.proofs.Links.{place_some, linked_fuel, linked_below}
 use Rattle.line_steps.proofs.Drawings.{drawn_none, drawn_as, drawn_both, drawn_step, drawing_start, drawing_next, drawing_end, member_append}
@@ -95,22 +91,22 @@ after_some (suc e) z = refl
 pub after_none : (n r i e : ℕ) (l : List ℕ) → e ≡ 0 → Drawn n r l l (from i (after e))
 after_none n r i e l z = from_nil n r i (after e) l (rw z)
 
-past_of : (b : Blocks) (h : ℕ) (o : Option ℕ) → end_of b h ≡ o → past_end b h ≡ (elim o as (λ x. List ℕ) [ none ↦ [] | some c ↦ (c + 1) ∷ [] ])
+past_of : (b : Blocks) (h : ℕ) (o : Option ℕ) → end_of b h ≡ o → past_end b h ≡ (elim o as (λ x. List ℕ) [ None ↦ [] | Some c ↦ (c + 1) ∷ [] ])
 unfolding past_end
-past_of b h o e = ap (λ (o : Option ℕ). elim o as (λ x. List ℕ) [ none ↦ [] | some c ↦ (c + 1) ∷ [] ]) e
+past_of b h o e = ap (λ (o : Option ℕ). elim o as (λ x. List ℕ) [ None ↦ [] | Some c ↦ (c + 1) ∷ [] ]) e
 
 module _ (L : List Line) (b : Blocks) (es : List ℕ) (E : Ended L b es) (h : ℕ) (hh : h < length L) where
   pub past_end_entry : past_end b h ≡ after (get_or es h 0)
   past_end_entry = go (get_or es h 0) (E.ended h hh)
     where
       go : (e : ℕ) → place e ≡ end_of b h → past_end b h ≡ after e
-      go zero q = past_of b h none (sym q)
-      go (suc c) q = past_of b h (some c) (sym q) ∙ ap (λ (x : ℕ). x ∷ []) (omega arith)
+      go zero q = past_of b h None (sym q)
+      go (suc c) q = past_of b h (Some c) (sym q) ∙ ap (λ (x : ℕ). x ∷ []) (omega arith)
 
-  end_some : (get_or es h 0 ≡ 0 → ⊥) → end_of b h ≡ some (get_or es h 0 - 1)
+  end_some : (get_or es h 0 ≡ 0 → ⊥) → end_of b h ≡ Some (get_or es h 0 - 1)
   end_some z = sym (E.ended h hh) ∙ place_some (get_or es h 0) z
 
-  end_none : get_or es h 0 ≡ 0 → end_of b h ≡ none
+  end_none : get_or es h 0 ≡ 0 → end_of b h ≡ None
   end_none z = sym (E.ended h hh) ∙ rw z
 
   pub end_inside : (get_or es h 0 ≡ 0 → ⊥) → get_or es h 0 - 1 < length L
@@ -118,8 +114,8 @@ module _ (L : List Line) (b : Blocks) (es : List ℕ) (E : Ended L b es) (h : �
 
   -- Back to the opener of a loop
 
-  closes_of : (o : Option ℕ) (p : ℕ) → end_of b h ≡ o → closes b p h ≡ (elim o as (λ x. Bool) [ none ↦ false | some c ↦ eqb c p ])
-  closes_of o p e = ap (λ (o : Option ℕ). elim o as (λ x. Bool) [ none ↦ false | some c ↦ eqb c p ]) e
+  closes_of : (o : Option ℕ) (p : ℕ) → end_of b h ≡ o → closes b p h ≡ (elim o as (λ x. Bool) [ None ↦ false | Some c ↦ eqb c p ])
+  closes_of o p e = ap (λ (o : Option ℕ). elim o as (λ x. Bool) [ None ↦ false | Some c ↦ eqb c p ]) e
 
   back_at : (p q : ℕ) → back L b h p q ≡ (eqb q h && (closes b p h && is_loop (line L h)))
   unfolding loops_back
@@ -142,13 +138,13 @@ module _ (L : List Line) (b : Blocks) (es : List ℕ) (E : Ended L b es) (h : �
         flip false y w e = sym (and-false w)
 
         same : (p q : ℕ) → back L b h p q ≡ from (get_or es h 0 - 1) (h ∷ []) p q
-        same p q = back_at p q ∙ rw (closes_of (some (get_or es h 0 - 1)) p (end_some z), ← u, v) (flip (eqb q h) (eqb (get_or es h 0 - 1) p) (eqb p (get_or es h 0 - 1)) (eqb_sym (get_or es h 0 - 1) p))
+        same p q = back_at p q ∙ rw (closes_of (Some (get_or es h 0 - 1)) p (end_some z), ← u, v) (flip (eqb q h) (eqb (get_or es h 0 - 1) p) (eqb p (get_or es h 0 - 1)) (eqb_sym (get_or es h 0 - 1) p))
 
     pub back_other : (l : List ℕ) (t : Bool) → t ≡ is_loop (line L h) → t ≡ false → Drawn n r l l (back L b h)
     back_other l t u v = drawn_none n r l (back L b h) (λ p q hp hq. back_at p q ∙ rw (← u, v, and-false (closes b p h)) (and-false (eqb q h)))
 
     pub back_none : (l : List ℕ) → get_or es h 0 ≡ 0 → Drawn n r l l (back L b h)
-    back_none l z = drawn_none n r l (back L b h) (λ p q hp hq. back_at p q ∙ rw (closes_of none p (end_none z)) (and-false (eqb q h)))
+    back_none l z = drawn_none n r l (back L b h) (λ p q hp hq. back_at p q ∙ rw (closes_of None p (end_none z)) (and-false (eqb q h)))
 
 -- To the cases of a switch
 
@@ -175,26 +171,26 @@ filter_none p (x ∷ xs) e = rw (e x) (filter_none p xs e)
 
 module _ (L : List Line) (b : Blocks) (es : List ℕ) (E : Ended L b es) (h : ℕ) (hh : h < length L) where
   between : (o : Option ℕ) → end_of b h ≡ o
-      → cases L b h ≡ (elim o as (λ x. List ℕ) [ none ↦ [] | some c ↦ filter (λ j. is_switch (line L h) && is_case (line L j)) (range (h + 1) (c - (h + 1))) ])
+      → cases L b h ≡ (elim o as (λ x. List ℕ) [ None ↦ [] | Some c ↦ filter (λ j. is_switch (line L h) && is_case (line L j)) (range (h + 1) (c - (h + 1))) ])
   unfolding cases
-  between o e = ap (λ (o : Option ℕ). elim o as (λ x. List ℕ) [ none ↦ [] | some c ↦ filter (λ j. is_switch (line L h) && is_case (line L j)) (range (h + 1) (c - (h + 1))) ]) e
+  between o e = ap (λ (o : Option ℕ). elim o as (λ x. List ℕ) [ None ↦ [] | Some c ↦ filter (λ j. is_switch (line L h) && is_case (line L j)) (range (h + 1) (c - (h + 1))) ]) e
 
   module _ (n r : ℕ) where
     module _ (t : Bool) (u : t ≡ is_switch (line L h)) where
       pub cases_some : (l₀ l : List ℕ) → (get_or es h 0 ≡ 0 → ⊥) → t ≡ true
           → Drawn n r l₀ l (from h (filter (λ j. is_case (line L j)) (range (h + 1) (get_or es h 0 - 1 - (h + 1))))) → Drawn n r l₀ l (from h (cases L b h))
       cases_some l₀ l z v D =
-          rw (between (some (get_or es h 0 - 1)) (end_some L b es E h hh z)
+          rw (between (Some (get_or es h 0 - 1)) (end_some L b es E h hh z)
           ∙ ap (λ (t : Bool). filter (λ j. t && is_case (line L j)) (range (h + 1) (get_or es h 0 - 1 - (h + 1)))) (sym u ∙ v)) D
 
       pub cases_other : (l : List ℕ) → (get_or es h 0 ≡ 0 → ⊥) → t ≡ false → Drawn n r l l (from h (cases L b h))
       cases_other l z v =
           from_nil n r h (cases L b h) l
-          (between (some (get_or es h 0 - 1)) (end_some L b es E h hh z)
+          (between (Some (get_or es h 0 - 1)) (end_some L b es E h hh z)
           ∙ filter_none (λ j. is_switch (line L h) && is_case (line L j)) (range (h + 1) (get_or es h 0 - 1 - (h + 1))) (λ j. rw (← u, v)))
 
     pub cases_none : (l : List ℕ) → get_or es h 0 ≡ 0 → Drawn n r l l (from h (cases L b h))
-    cases_none l z = from_nil n r h (cases L b h) l (between none (end_none L b es E h hh z))
+    cases_none l z = from_nil n r h (cases L b h) l (between None (end_none L b es E h hh z))
 
 -- Out of blocks
 
@@ -306,18 +302,18 @@ module _ (L : List Line) (b : Blocks) (es ps : List ℕ) (E : Ended L b es) (P :
 
 -- To labels
 
-module _ (n r i : ℕ) (f : Label) (o : Option ℕ) (e : line_of f ≡ o) where
-  pub jump_some : (l₀ l : List ℕ) (q : ℕ) → f ≡ At q → Drawn n r l₀ l (from i (q ∷ [])) → Drawn n r l₀ l (from i (to_list o))
+module _ (n r i : ℕ) (f : Option ℕ) (o : Option ℕ) (e : f ≡ o) where
+  pub jump_some : (l₀ l : List ℕ) (q : ℕ) → f ≡ Some q → Drawn n r l₀ l (from i (q ∷ [])) → Drawn n r l₀ l (from i (to_list o))
   jump_some l₀ l q z D = rw (← e, z) D
 
-  pub jump_none : (l : List ℕ) → f ≡ Missing → Drawn n r l l (from i (to_list o))
+  pub jump_none : (l : List ℕ) → f ≡ None → Drawn n r l l (from i (to_list o))
   jump_none l z = from_nil n r i (to_list o) l (rw (← e, z))
 
-module _ (f : Label) (o : Option ℕ) (e : line_of f ≡ o) where
-  pub leads_yes : (q : ℕ) → f ≡ At q → true ≡ is_some o
+module _ (f : Option ℕ) (o : Option ℕ) (e : f ≡ o) where
+  pub leads_yes : (q : ℕ) → f ≡ Some q → true ≡ is_some o
   leads_yes q z = rw (← e, z)
 
-  pub leads_no : f ≡ Missing → false ≡ is_some o
+  pub leads_no : f ≡ None → false ≡ is_some o
   leads_no z = rw (← e, z)
 
 -- where the gotos from the one at place k on lead

@@ -5,83 +5,65 @@
 ghost use Rattle.std.specs.Prelude.{◌≡◌, ◌&&◌, ◌||◌, eqb};
 ghost use Rattle.definitions.specs.Lists.{any, contains};
 ghost use Rattle.definitions.specs.Model.{token, line, Punct};
-ghost use Rattle.definitions.specs.Columns.{listing};
 ghost use Rattle.definitions.specs.FlowGraph.{is_else_close, is_loop, is_switch, is_case};
+ghost use Rattle.model.specs.Listings.{listing_of};
 ghost use Rattle.line_keywords.specs.Masks.{Masks};
 
 use line_keywords::{has_case, has_else, is_loop, is_switch};
-use model::columns::{kind, text_at, token_count};
+use model::listing::Listing;
 use pseudo_opt::keywords::is_kw;
 
 // Token j of line i is a punct that contains `}`.
-fn is_close(lines: &[u32], tokens: &[u32], text: &[u8], i: usize, j: usize) -> bool
-    ensures { let L = listing lines.now tokens.now text.now in
+fn is_close(code: &Listing, i: usize, j: usize) -> bool
+    ensures { let L = listing_of code.now in
         result ≡ (eqb (token (line L i) j).kind Punct && contains 125 (token (line L i) j).text) }
 {
-    if kind(lines, tokens, text, i, j) != 6 {
+    if code.kind(i, j) != 6 {
         return false;
     }
-    text::contains(text_at(lines, tokens, text, i, j), b'}')
+    text::contains(code.text_at(i, j), b'}')
 }
 
-fn has_close(lines: &[u32], tokens: &[u32], text: &[u8], i: usize) -> bool
-    ensures { let L = listing lines.now tokens.now text.now in
+fn has_close(code: &Listing, i: usize) -> bool
+    ensures { let L = listing_of code.now in
         result ≡ any (λ t. eqb t.kind Punct && contains 125 t.text) (line L i).tokens }
 {
-    let n = token_count(lines, tokens, text, i);
-    let mut j = 0;
-    while j < n {
-        if is_close(lines, tokens, text, i, j) {
+    let n = code.token_count(i);
+    for j in 0..n {
+        if is_close(code, i, j) {
             return true;
         }
-        j += 1;
     }
     false
 }
 
-pub fn is_else_close(lines: &[u32], tokens: &[u32], text: &[u8], masks: &[u8], i: usize) -> bool
-    requires { Masks (listing lines.now tokens.now text.now) masks.now }
-    ensures { result ≡ is_else_close (line (listing lines.now tokens.now text.now) i) }
+pub fn is_else_close(code: &Listing, masks: &[u8], i: usize) -> bool
+    requires { Masks (listing_of code.now) masks.now }
+    ensures { result ≡ is_else_close (line (listing_of code.now) i) }
 {
-    if has_else(lines, tokens, text, masks, i) {
-        has_close(lines, tokens, text, i)
-    } else {
-        false
-    }
+    has_else(code, masks, i) && has_close(code, i)
 }
 
 // A loop or a switch: what a break or continue leaves.
-pub fn is_left(lines: &[u32], tokens: &[u32], text: &[u8], masks: &[u8], i: usize) -> bool
-    requires { Masks (listing lines.now tokens.now text.now) masks.now }
-    ensures { let L = listing lines.now tokens.now text.now in
+pub fn is_left(code: &Listing, masks: &[u8], i: usize) -> bool
+    requires { Masks (listing_of code.now) masks.now }
+    ensures { let L = listing_of code.now in
         result ≡ (is_loop (line L i) || is_switch (line L i)) }
 {
-    if is_loop(lines, tokens, text, masks, i) {
-        true
-    } else {
-        is_switch(lines, tokens, text, masks, i)
-    }
+    is_loop(code, masks, i) || is_switch(code, masks, i)
 }
 
 // Line i starts with a case or default.
-fn starts_case(lines: &[u32], tokens: &[u32], text: &[u8], i: usize) -> bool
-    ensures { result ≡ is_case (line (listing lines.now tokens.now text.now) i) }
+fn starts_case(code: &Listing, i: usize) -> bool
+    ensures { result ≡ is_case (line (listing_of code.now) i) }
 {
-    if is_kw(lines, tokens, text, i, 0, b"case") {
-        true
-    } else {
-        is_kw(lines, tokens, text, i, 0, b"default")
-    }
+    is_kw(code, i, 0, b"case") || is_kw(code, i, 0, b"default")
 }
 
 // The same, asked only of a line that has a case or default.
-pub fn is_case(lines: &[u32], tokens: &[u32], text: &[u8], masks: &[u8], i: usize) -> bool
-    requires { Masks (listing lines.now tokens.now text.now) masks.now }
-    ensures { result ≡ is_case (line (listing lines.now tokens.now text.now) i) }
+pub fn is_case(code: &Listing, masks: &[u8], i: usize) -> bool
+    requires { Masks (listing_of code.now) masks.now }
+    ensures { result ≡ is_case (line (listing_of code.now) i) }
 {
-    if has_case(lines, tokens, text, masks, i) {
-        starts_case(lines, tokens, text, i)
-    } else {
-        false
-    }
+    has_case(code, masks, i) && starts_case(code, i)
 }

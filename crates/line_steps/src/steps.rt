@@ -8,8 +8,8 @@
 ghost use Rattle.std.specs.Prelude.{if◌then◌else◌, ◌≡◌, true, cond, [], ◌∷◌, ◌++◌, ◌+◌, ◌-◌, ◌≤◌, ◌<◌, length, get_or};
 ghost use Rattle.definitions.specs.Lists.{is_some, all, filter, range, to_list};
 ghost use Rattle.definitions.specs.Model.{line};
-ghost use Rattle.definitions.specs.Columns.{token_list, listing};
 ghost use Rattle.definitions.specs.FlowGraph.{is_else_close, is_case, chain_end, falls, past_end, cases, leads, jumps, leaves};
+ghost use Rattle.model.specs.Listings.{listing_of, tokens_of};
 ghost use Rattle.bits.specs.Edges.{Matrices};
 ghost use Rattle.line_keywords.specs.Masks.{Masks};
 ghost use Rattle.blocks.specs.Entries.{linked};
@@ -20,10 +20,9 @@ ghost use Rattle.line_steps.specs.Drawing.{Drawn, from, after, left, lefts, back
 ghost use Rattle.line_steps.specs.Read.{Read};
 
 use crate::keywords::{is_case, is_else_close, is_left};
-use labels::Label;
 use labels::gotos::{goto_line, next_goto};
 use line_keywords::{has_goto, is_loop, is_switch, leaves_block};
-use model::columns::{line_end, line_start};
+use model::listing::Listing;
 
 // The step from line p to line q, unless it leads past the last line.
 fn step(space: &mut [u64], n: usize, r: usize, p: usize, q: usize)
@@ -38,19 +37,12 @@ fn step(space: &mut [u64], n: usize, r: usize, p: usize, q: usize)
 // Falling to the next line
 
 // The entry of the close of the block at an else-close.
-fn else_end(
-    lines: &[u32],
-    tokens: &[u32],
-    text: &[u8],
-    masks: &[u8],
-    ends: &[u16],
-    c: usize,
-) -> usize
-    requires { (c < length lines.now) × (length lines.now ≤ length ends.now) × Masks (listing lines.now tokens.now text.now) masks.now }
-    ensures { let L = listing lines.now tokens.now text.now in
+fn else_end(code: &Listing, masks: &[u8], ends: &[u16], c: usize) -> usize
+    requires { (c < length code.now.lines.now) × (length code.now.lines.now ≤ length ends.now) × Masks (listing_of code.now) masks.now }
+    ensures { let L = listing_of code.now in
         result ≡ cond (is_else_close (line L c)) (get_or ends.now c 0) 0 }
 {
-    if is_else_close(lines, tokens, text, masks, c) {
+    if is_else_close(code, masks, c) {
         ends[c] as usize
     } else {
         0
@@ -58,51 +50,37 @@ fn else_end(
 }
 
 // The last close of the chain in which line c closes a block.
-fn chain_end(
-    lines: &[u32],
-    tokens: &[u32],
-    text: &[u8],
-    masks: &[u8],
-    ends: &[u16],
-    c: usize,
-) -> usize
-    requires c_in_bounds { (c < length lines.now) × (length lines.now ≤ length ends.now) × Masks (listing lines.now tokens.now text.now) masks.now }
-    requires fact { let L = listing lines.now tokens.now text.now in Ended L (blocks_of L) ends.now }
-    ensures { let L = listing lines.now tokens.now text.now in
-        (result ≡ chain_end L (blocks_of L) (length L) c) × (result < length lines.now) }
+fn chain_end(code: &Listing, masks: &[u8], ends: &[u16], c: usize) -> usize
+    requires c_in_bounds { (c < length code.now.lines.now) × (length code.now.lines.now ≤ length ends.now) × Masks (listing_of code.now) masks.now }
+    requires fact { let L = listing_of code.now in Ended L (blocks_of L) ends.now }
+    ensures { let L = listing_of code.now in
+        (result ≡ chain_end L (blocks_of L) (length L) c) × (result < length code.now.lines.now) }
 {
     let mut at = c;
-    let mut e = else_end(lines, tokens, text, masks, ends, c);
+    let mut e = else_end(code, masks, ends, c);
     while e != 0 {
         at = e - 1;
-        e = else_end(lines, tokens, text, masks, ends, at);
+        e = else_end(code, masks, ends, at);
     }
     at
 }
 
 // Where line i falls to.
-fn falls_to(
-    lines: &[u32],
-    tokens: &[u32],
-    text: &[u8],
-    masks: &[u8],
-    ends: &[u16],
-    i: usize,
-) -> usize
-    requires i_in_bounds { (i < length lines.now) × (length lines.now ≤ length ends.now) × Masks (listing lines.now tokens.now text.now) masks.now }
-    requires fact { let L = listing lines.now tokens.now text.now in Ended L (blocks_of L) ends.now }
-    ensures { let L = listing lines.now tokens.now text.now in
+fn falls_to(code: &Listing, masks: &[u8], ends: &[u16], i: usize) -> usize
+    requires i_in_bounds { (i < length code.now.lines.now) × (length code.now.lines.now ≤ length ends.now) × Masks (listing_of code.now) masks.now }
+    requires fact { let L = listing_of code.now in Ended L (blocks_of L) ends.now }
+    ensures { let L = listing_of code.now in
         falls L (blocks_of L) i ≡ result ∷ [] }
 {
     let next = i + 1;
-    if lines.len() <= next {
+    if code.lines.len() <= next {
         return next;
     }
-    let e = else_end(lines, tokens, text, masks, ends, next);
+    let e = else_end(code, masks, ends, next);
     if e == 0 {
         return next;
     }
-    chain_end(lines, tokens, text, masks, ends, e - 1) + 1
+    chain_end(code, masks, ends, e - 1) + 1
 }
 
 // Past the end of a block, and back to its opener
@@ -119,95 +97,57 @@ fn past_end(ends: &[u16], space: &mut [u64], n: usize, r: usize, i: usize, h: us
 }
 
 // The step from the close of the loop that line h opens to line h.
-fn loops_back(
-    lines: &[u32],
-    tokens: &[u32],
-    text: &[u8],
-    masks: &[u8],
-    ends: &[u16],
-    space: &mut [u64],
-    r: usize,
-    h: usize,
-)
-    requires matrices { Matrices (length lines.now) r space.old × (h < length lines.now) × (length lines.now ≤ length ends.now) × Masks (listing lines.now tokens.now text.now) masks.now }
-    requires fact { let L = listing lines.now tokens.now text.now in Ended L (blocks_of L) ends.now }
-    ensures { let L = listing lines.now tokens.now text.now in
-        Drawn (length lines.now) r space.old space.new (back L (blocks_of L) h) }
+fn loops_back(code: &Listing, masks: &[u8], ends: &[u16], space: &mut [u64], r: usize, h: usize)
+    requires matrices { Matrices (length code.now.lines.now) r space.old × (h < length code.now.lines.now) × (length code.now.lines.now ≤ length ends.now) × Masks (listing_of code.now) masks.now }
+    requires fact { let L = listing_of code.now in Ended L (blocks_of L) ends.now }
+    ensures { let L = listing_of code.now in
+        Drawn (length code.now.lines.now) r space.old space.new (back L (blocks_of L) h) }
 {
     let e = ends[h] as usize;
     if e != 0 {
-        if is_loop(lines, tokens, text, masks, h) {
-            bits::add_edge(space, lines.len(), r, e - 1, h);
+        if is_loop(code, masks, h) {
+            bits::add_edge(space, code.lines.len(), r, e - 1, h);
         }
     }
 }
 
 // Cases of a switch
 
-fn case_step(
-    lines: &[u32],
-    tokens: &[u32],
-    text: &[u8],
-    masks: &[u8],
-    space: &mut [u64],
-    r: usize,
-    h: usize,
-    j: usize,
-)
-    requires { Matrices (length lines.now) r space.old × (h < length lines.now) × Masks (listing lines.now tokens.now text.now) masks.now }
-    ensures { let L = listing lines.now tokens.now text.now in
-        let n = length lines.now in
+fn case_step(code: &Listing, masks: &[u8], space: &mut [u64], r: usize, h: usize, j: usize)
+    requires { Matrices (length code.now.lines.now) r space.old × (h < length code.now.lines.now) × Masks (listing_of code.now) masks.now }
+    ensures { let L = listing_of code.now in
+        let n = length code.now.lines.now in
         Drawn n r space.old space.new (from h (if is_case (line L j) then j ∷ [] else [])) }
 {
-    if is_case(lines, tokens, text, masks, j) {
-        step(space, lines.len(), r, h, j);
+    if is_case(code, masks, j) {
+        step(space, code.lines.len(), r, h, j);
     }
 }
 
 // The steps from line h to each case or default between it and line c.
-fn case_steps(
-    lines: &[u32],
-    tokens: &[u32],
-    text: &[u8],
-    masks: &[u8],
-    space: &mut [u64],
-    r: usize,
-    h: usize,
-    c: usize,
-)
-    requires { Matrices (length lines.now) r space.old × (h < length lines.now) × Masks (listing lines.now tokens.now text.now) masks.now }
-    ensures { let L = listing lines.now tokens.now text.now in
-        let n = length lines.now in
+fn case_steps(code: &Listing, masks: &[u8], space: &mut [u64], r: usize, h: usize, c: usize)
+    requires { Matrices (length code.now.lines.now) r space.old × (h < length code.now.lines.now) × Masks (listing_of code.now) masks.now }
+    ensures { let L = listing_of code.now in
+        let n = length code.now.lines.now in
         Drawn n r space.old space.new (from h (filter (λ j. is_case (line L j)) (range (h + 1) (c - (h + 1))))) }
 {
-    let mut j = h + 1;
-    while j < c {
-        case_step(lines, tokens, text, masks, space, r, h, j);
-        j += 1;
+    for j in h + 1..c {
+        case_step(code, masks, space, r, h, j);
     }
 }
 
 // The steps from a switch at line h to its cases.
-fn cases(
-    lines: &[u32],
-    tokens: &[u32],
-    text: &[u8],
-    masks: &[u8],
-    ends: &[u16],
-    space: &mut [u64],
-    r: usize,
-    h: usize,
-)
-    requires matrices { Matrices (length lines.now) r space.old × (h < length lines.now) × (length lines.now ≤ length ends.now) × Masks (listing lines.now tokens.now text.now) masks.now }
-    requires fact { let L = listing lines.now tokens.now text.now in Ended L (blocks_of L) ends.now }
-    ensures { let L = listing lines.now tokens.now text.now in
-        let n = length lines.now in
+fn cases(code: &Listing, masks: &[u8], ends: &[u16], space: &mut [u64], r: usize, h: usize)
+    requires matrices { Matrices (length code.now.lines.now) r space.old × (h < length code.now.lines.now) × (length code.now.lines.now ≤ length ends.now) × Masks (listing_of code.now) masks.now }
+    requires fact { let L = listing_of code.now in Ended L (blocks_of L) ends.now }
+    ensures { let L = listing_of code.now in
+        let n = length code.now.lines.now in
         Drawn n r space.old space.new (from h (cases L (blocks_of L) h)) }
 {
     let e = ends[h] as usize;
     if e != 0 {
-        if is_switch(lines, tokens, text, masks, h) {
-            case_steps(lines, tokens, text, masks, space, r, h, e - 1);
+        if is_switch(code, masks, h) {
+            case_steps(code, masks, space, r, h, e - 1);
         }
     }
 }
@@ -216,9 +156,7 @@ fn cases(
 
 // The steps of a break or continue at line i within the block that line h opens.
 fn leave(
-    lines: &[u32],
-    tokens: &[u32],
-    text: &[u8],
+    code: &Listing,
     masks: &[u8],
     ends: &[u16],
     space: &mut [u64],
@@ -226,22 +164,20 @@ fn leave(
     i: usize,
     h: usize,
 )
-    requires { Matrices (length lines.now) r space.old × (i < length lines.now) × (h < length ends.now) × Masks (listing lines.now tokens.now text.now) masks.now }
-    ensures { let L = listing lines.now tokens.now text.now in
-        let n = length lines.now in
+    requires { Matrices (length code.now.lines.now) r space.old × (i < length code.now.lines.now) × (h < length ends.now) × Masks (listing_of code.now) masks.now }
+    ensures { let L = listing_of code.now in
+        let n = length code.now.lines.now in
         Drawn n r space.old space.new (from i (left L ends.now h)) }
 {
-    if is_left(lines, tokens, text, masks, h) {
-        step(space, lines.len(), r, i, h);
-        past_end(ends, space, lines.len(), r, i, h);
+    if is_left(code, masks, h) {
+        step(space, code.lines.len(), r, i, h);
+        past_end(ends, space, code.lines.len(), r, i, h);
     }
 }
 
 // The same for every block around line i.
 fn leave_all(
-    lines: &[u32],
-    tokens: &[u32],
-    text: &[u8],
+    code: &Listing,
     masks: &[u8],
     ends: &[u16],
     parents: &[u16],
@@ -249,26 +185,24 @@ fn leave_all(
     r: usize,
     i: usize,
 )
-    requires fact { let n = length lines.now in
-        Matrices n r space.old × (i < n) × (n ≤ length ends.now) × (n ≤ length parents.now) × Masks (listing lines.now tokens.now text.now) masks.now }
-    requires fact_2 { let L = listing lines.now tokens.now text.now in Enclosed L (blocks_of L) parents.now }
-    ensures { let L = listing lines.now tokens.now text.now in
-        let n = length lines.now in
+    requires fact { let n = length code.now.lines.now in
+        Matrices n r space.old × (i < n) × (n ≤ length ends.now) × (n ≤ length parents.now) × Masks (listing_of code.now) masks.now }
+    requires fact_2 { let L = listing_of code.now in Enclosed L (blocks_of L) parents.now }
+    ensures { let L = listing_of code.now in
+        let n = length code.now.lines.now in
         Drawn n r space.old space.new (from i (lefts L ends.now (linked parents.now i (get_or parents.now i 0)))) }
 {
     let mut p = parents[i] as usize;
     while p != 0 {
         let h = p - 1;
-        leave(lines, tokens, text, masks, ends, space, r, i, h);
+        leave(code, masks, ends, space, r, i, h);
         p = parents[h] as usize;
     }
 }
 
 // The steps of line i where it has a break or continue.
 fn leaves(
-    lines: &[u32],
-    tokens: &[u32],
-    text: &[u8],
+    code: &Listing,
     masks: &[u8],
     ends: &[u16],
     parents: &[u16],
@@ -276,16 +210,16 @@ fn leaves(
     r: usize,
     i: usize,
 )
-    requires fact { let n = length lines.now in
-        Matrices n r space.old × (i < n) × (n ≤ length ends.now) × (n ≤ length parents.now) × Masks (listing lines.now tokens.now text.now) masks.now }
-    requires fact_2 { let L = listing lines.now tokens.now text.now in Ended L (blocks_of L) ends.now }
-    requires fact_3 { let L = listing lines.now tokens.now text.now in Enclosed L (blocks_of L) parents.now }
-    ensures { let L = listing lines.now tokens.now text.now in
-        let n = length lines.now in
+    requires fact { let n = length code.now.lines.now in
+        Matrices n r space.old × (i < n) × (n ≤ length ends.now) × (n ≤ length parents.now) × Masks (listing_of code.now) masks.now }
+    requires fact_2 { let L = listing_of code.now in Ended L (blocks_of L) ends.now }
+    requires fact_3 { let L = listing_of code.now in Enclosed L (blocks_of L) parents.now }
+    ensures { let L = listing_of code.now in
+        let n = length code.now.lines.now in
         Drawn n r space.old space.new (from i (leaves L (blocks_of L) i)) }
 {
-    if leaves_block(lines, tokens, text, masks, i) {
-        leave_all(lines, tokens, text, masks, ends, parents, space, r, i);
+    if leaves_block(code, masks, i) {
+        leave_all(code, masks, ends, parents, space, r, i);
     }
 }
 
@@ -293,9 +227,7 @@ fn leaves(
 
 // The step of a goto of line i, behind which the line's tokens stand from place b up to place e. False where it leads to no label.
 fn jump_step(
-    lines: &[u32],
-    tokens: &[u32],
-    text: &[u8],
+    code: &Listing,
     heads: &[u16],
     nexts: &[u16],
     space: &mut [u64],
@@ -304,48 +236,46 @@ fn jump_step(
     b: usize,
     e: usize,
 ) -> bool
-    requires fact { let n = length lines.now in
-        Matrices n r space.old × (i < n) × (256 ≤ length heads.now) × (n ≤ length nexts.now) × (e ≤ length tokens.now) }
-    requires indexed { Indexed (listing lines.now tokens.now text.now) heads.now nexts.now (length lines.now) }
-    ensures result_value { let L = listing lines.now tokens.now text.now in
-        result ≡ is_some (goto_line L (token_list tokens.now text.now) b e) }
-    ensures fact_2 { let L = listing lines.now tokens.now text.now in
-        let n = length lines.now in
-        Drawn n r space.old space.new (from i (to_list (goto_line L (token_list tokens.now text.now) b e))) }
+    requires fact { let n = length code.now.lines.now in
+        Matrices n r space.old × (i < n) × (256 ≤ length heads.now) × (n ≤ length nexts.now) × (e ≤ length code.now.tokens.now) }
+    requires indexed { Indexed (listing_of code.now) heads.now nexts.now (length code.now.lines.now) }
+    ensures result_value { let L = listing_of code.now in
+        result ≡ is_some (goto_line L (tokens_of code.now) b e) }
+    ensures fact_2 { let L = listing_of code.now in
+        let n = length code.now.lines.now in
+        Drawn n r space.old space.new (from i (to_list (goto_line L (tokens_of code.now) b e))) }
 {
-    match goto_line(lines, tokens, text, heads, nexts, b, e) {
-        Label::At(q) => {
-            step(space, lines.len(), r, i, q);
+    match goto_line(code, heads, nexts, b, e) {
+        Some(q) => {
+            step(space, code.lines.len(), r, i, q);
             true
         }
-        Label::Missing => false,
+        None => false,
     }
 }
 
 // The steps of line i to the labels of its gotos, goto by goto. False where a goto leads to no label.
 fn token_jumps(
-    lines: &[u32],
-    tokens: &[u32],
-    text: &[u8],
+    code: &Listing,
     heads: &[u16],
     nexts: &[u16],
     space: &mut [u64],
     r: usize,
     i: usize,
 ) -> bool
-    requires fact { let n = length lines.now in
+    requires fact { let n = length code.now.lines.now in
         Matrices n r space.old × (i < n) × (256 ≤ length heads.now) × (n ≤ length nexts.now) }
-    requires indexed { Indexed (listing lines.now tokens.now text.now) heads.now nexts.now (length lines.now) }
-    ensures value { result ≡ all is_some (leads (listing lines.now tokens.now text.now) i) }
-    ensures fact_2 { let L = listing lines.now tokens.now text.now in
-        (result ≡ true → Drawn (length lines.now) r space.old space.new (from i (jumps L i))) }
+    requires indexed { Indexed (listing_of code.now) heads.now nexts.now (length code.now.lines.now) }
+    ensures value { result ≡ all is_some (leads (listing_of code.now) i) }
+    ensures fact_2 { let L = listing_of code.now in
+        (result ≡ true → Drawn (length code.now.lines.now) r space.old space.new (from i (jumps L i))) }
 {
-    let e = line_end(lines, tokens, i);
-    let mut k = next_goto(tokens, text, line_start(lines, i), e);
+    let e = code.line_end(i);
+    let mut k = next_goto(code, code.line_start(i), e);
     while k < e {
         let b = k + 1;
-        if jump_step(lines, tokens, text, heads, nexts, space, r, i, b, e) {
-            k = next_goto(tokens, text, b, e);
+        if jump_step(code, heads, nexts, space, r, i, b, e) {
+            k = next_goto(code, b, e);
         } else {
             return false;
         }
@@ -355,9 +285,7 @@ fn token_jumps(
 
 // The same, asked only of a line that has a goto.
 fn jumps(
-    lines: &[u32],
-    tokens: &[u32],
-    text: &[u8],
+    code: &Listing,
     masks: &[u8],
     heads: &[u16],
     nexts: &[u16],
@@ -365,15 +293,15 @@ fn jumps(
     r: usize,
     i: usize,
 ) -> bool
-    requires fact { let n = length lines.now in
-        Matrices n r space.old × (i < n) × (256 ≤ length heads.now) × (n ≤ length nexts.now) × Masks (listing lines.now tokens.now text.now) masks.now }
-    requires indexed { Indexed (listing lines.now tokens.now text.now) heads.now nexts.now (length lines.now) }
-    ensures value { result ≡ all is_some (leads (listing lines.now tokens.now text.now) i) }
-    ensures fact_2 { let L = listing lines.now tokens.now text.now in
-        (result ≡ true → Drawn (length lines.now) r space.old space.new (from i (jumps L i))) }
+    requires fact { let n = length code.now.lines.now in
+        Matrices n r space.old × (i < n) × (256 ≤ length heads.now) × (n ≤ length nexts.now) × Masks (listing_of code.now) masks.now }
+    requires indexed { Indexed (listing_of code.now) heads.now nexts.now (length code.now.lines.now) }
+    ensures value { result ≡ all is_some (leads (listing_of code.now) i) }
+    ensures fact_2 { let L = listing_of code.now in
+        (result ≡ true → Drawn (length code.now.lines.now) r space.old space.new (from i (jumps L i))) }
 {
-    if has_goto(lines, tokens, text, masks, i) {
-        token_jumps(lines, tokens, text, heads, nexts, space, r, i)
+    if has_goto(code, masks, i) {
+        token_jumps(code, heads, nexts, space, r, i)
     } else {
         true
     }
@@ -382,34 +310,23 @@ fn jumps(
 // All kinds
 
 // The steps of line i that its blocks tell: falling, past the end, to cases.
-fn block_steps(
-    lines: &[u32],
-    tokens: &[u32],
-    text: &[u8],
-    masks: &[u8],
-    ends: &[u16],
-    space: &mut [u64],
-    r: usize,
-    i: usize,
-)
-    requires matrices { Matrices (length lines.now) r space.old × (i < length lines.now) × (length lines.now ≤ length ends.now) × Masks (listing lines.now tokens.now text.now) masks.now }
-    requires fact { let L = listing lines.now tokens.now text.now in Ended L (blocks_of L) ends.now }
-    ensures { let L = listing lines.now tokens.now text.now in
-        let n = length lines.now in
+fn block_steps(code: &Listing, masks: &[u8], ends: &[u16], space: &mut [u64], r: usize, i: usize)
+    requires matrices { Matrices (length code.now.lines.now) r space.old × (i < length code.now.lines.now) × (length code.now.lines.now ≤ length ends.now) × Masks (listing_of code.now) masks.now }
+    requires fact { let L = listing_of code.now in Ended L (blocks_of L) ends.now }
+    ensures { let L = listing_of code.now in
+        let n = length code.now.lines.now in
         Drawn n r space.old space.new (from i (falls L (blocks_of L) i ++ past_end (blocks_of L) i ++ cases L (blocks_of L) i)) }
 {
-    let n = lines.len();
-    let t = falls_to(lines, tokens, text, masks, ends, i);
+    let n = code.lines.len();
+    let t = falls_to(code, masks, ends, i);
     step(space, n, r, i, t);
     past_end(ends, space, n, r, i, i);
-    cases(lines, tokens, text, masks, ends, space, r, i);
+    cases(code, masks, ends, space, r, i);
 }
 
 // All edges that line i draws. False where a goto of it leads to no label.
 pub fn line_steps(
-    lines: &[u32],
-    tokens: &[u32],
-    text: &[u8],
+    code: &Listing,
     masks: &[u8],
     ends: &[u16],
     parents: &[u16],
@@ -419,16 +336,16 @@ pub fn line_steps(
     r: usize,
     i: usize,
 ) -> bool
-    requires matrices { Matrices (length lines.now) r space.old × (i < length lines.now) }
-    requires read { Read lines.now tokens.now text.now masks.now ends.now parents.now heads.now nexts.now }
-    ensures value { result ≡ all is_some (leads (listing lines.now tokens.now text.now) i) }
-    ensures fact { let L = listing lines.now tokens.now text.now in
-        (result ≡ true → Drawn (length lines.now) r space.old space.new (line_edges L (blocks_of L) i)) }
+    requires matrices { Matrices (length code.now.lines.now) r space.old × (i < length code.now.lines.now) }
+    requires read { Read code.now.lines.now code.now.tokens.now code.now.text.now masks.now ends.now parents.now heads.now nexts.now }
+    ensures value { result ≡ all is_some (leads (listing_of code.now) i) }
+    ensures fact { let L = listing_of code.now in
+        (result ≡ true → Drawn (length code.now.lines.now) r space.old space.new (line_edges L (blocks_of L) i)) }
 {
-    block_steps(lines, tokens, text, masks, ends, space, r, i);
-    if jumps(lines, tokens, text, masks, heads, nexts, space, r, i) {
-        leaves(lines, tokens, text, masks, ends, parents, space, r, i);
-        loops_back(lines, tokens, text, masks, ends, space, r, i);
+    block_steps(code, masks, ends, space, r, i);
+    if jumps(code, masks, heads, nexts, space, r, i) {
+        leaves(code, masks, ends, parents, space, r, i);
+        loops_back(code, masks, ends, space, r, i);
         true
     } else {
         false

@@ -2,11 +2,11 @@
 --   none-*    no element passes: of joined lists, of a changed list, of a weaker test
 --   all-*     every element passes: of joined lists, of halves, of a changed or filtered list, with the first or the last element changed
 -- Assumes nothing.
+use Rattle.std.specs.Prelude.{Some}
 use Prim.Native.Nat.{ℕ}
 use mathlib.Core.Path.{◌≡◌, refl}
 use mathlib.Core.Bool.{Bool, true, false, ◌&&◌, ◌||◌}
 use mathlib.Core.List.{List, [], ◌∷◌, ◌++◌, map}
-use mathlib.Core.Option.{some}
 use lib.ListN.{take, drop, take-append-drop}
 use Rattle.definitions.specs.Lists.{any, all, filter, first, last, on_first, on_last}
 use Rattle.loop_theory.proofs.Cases.{and_split, or_split, if_has}
@@ -83,13 +83,13 @@ module _ {A : Type 0} (p : A → Bool) where
       let rest = all_filter q xs s.1 in
       if_has (λ ys. all p ys ≡ true) (q x) (λ _. both s.0 rest) (λ _. rest)
 
-  pub all_on_first : (f : A → A) (xs : List A) → ((x : A) → first xs ≡ some x → p x ≡ true → p (f x) ≡ true)
+  pub all_on_first : (f : A → A) (xs : List A) → ((x : A) → first xs ≡ Some x → p x ≡ true → p (f x) ≡ true)
       → all p xs ≡ true → all p (on_first f xs) ≡ true
   unfolding all on_first
   all_on_first f [] h k = refl
   all_on_first f (x ∷ xs) h k = let s = all_cons x xs k in both (h x refl s.0) s.1
 
-  pub all_on_last : (f : A → A) (xs : List A) → ((x : A) → last xs ≡ some x → p x ≡ true → p (f x) ≡ true)
+  pub all_on_last : (f : A → A) (xs : List A) → ((x : A) → last xs ≡ Some x → p x ≡ true → p (f x) ≡ true)
       → all p xs ≡ true → all p (on_last f xs) ≡ true
   unfolding all on_last last
   all_on_last f [] h k = refl

@@ -7,11 +7,12 @@
 --   true_false, none_some        cannot be
 --   true_unless, false_unless    a test is decided by what would follow otherwise
 -- Assumes nothing.
+use Rattle.std.specs.Prelude.{Option, None, Some}
+use Rattle.std.specs.Option.{option_map}
 use Prim.Native.Nat.{ℕ}
 use mathlib.Core.Path.{◌≡◌, refl, sym, ap₂, subst, ◌∙◌}
 use mathlib.Core.Bool.{Bool, true, false, cond, ◌&&◌, ◌||◌, true≢false}
 use mathlib.Core.List.{List, [], ◌∷◌}
-use mathlib.Core.Option.{Option, none, some, map}
 use native.Mathlib.Omega.{arith}
 use lib.Dec.{eqb}
 use borrow.Author.Tests.{eqb-true}
@@ -28,10 +29,10 @@ pub false_unless : (b : Bool) → (b ≡ true → b ≡ false) → b ≡ false
 false_unless true h = h refl
 false_unless false h = refl
 
-pub none_some {ℓ} : {A : Type ℓ} {B : Type 0} {b : B} → ◌≡◌ {A = Option B} none (some b) → A
+pub none_some {ℓ} : {A : Type ℓ} {B : Type 0} {b : B} → ◌≡◌ {A = Option B} None (Some b) → A
 none_some e = let z : ◌≡◌ {A = ℕ} 0 1 = cc in absurd (omega arith)
 
-pub some_same : {B : Type 0} {a b : B} → some a ≡ some b → a ≡ b
+pub some_same : {B : Type 0} {a b : B} → Some a ≡ Some b → a ≡ b
 some_same e = cc
 
 pub and_split : (a b : Bool) → (a && b) ≡ true → (a ≡ true) × (b ≡ true)
@@ -54,25 +55,25 @@ module _ {X : Type 0} (P : X → Type 0) where
   if_has true f g = f refl
   if_has false f g = g refl
 
-  pub case_has : {A : Type 0} (o : Option A) {x : X} {f : A → X} → P x → ((a : A) → o ≡ some a → P (f a))
-      → P (elim o [ none ↦ x | some a ↦ f a ])
-  case_has none p h = p
-  case_has (some a) p h = h a refl
+  pub case_has : {A : Type 0} (o : Option A) {x : X} {f : A → X} → P x → ((a : A) → o ≡ Some a → P (f a))
+      → P (elim o [ None ↦ x | Some a ↦ f a ])
+  case_has None p h = p
+  case_has (Some a) p h = h a refl
 
 -- Q holds of what the option holds
 abbrev pub IfSome : {B : Type 0} → (B → Type 0) → Option B → Type 0
-IfSome Q o = (b : _) → o ≡ some b → Q b
+IfSome Q o = (b : _) → o ≡ Some b → Q b
 
 module _ {A B : Type 0} (Q : B → Type 0) where
-  pub do_has : (o : Option A) {f : A → Option B} → ((a : A) → o ≡ some a → IfSome Q (f a)) → IfSome Q (o >>= f)
-  do_has none h b e = none_some e
-  do_has (some a) h b e = h a refl b e
+  pub do_has : (o : Option A) {f : A → Option B} → ((a : A) → o ≡ Some a → IfSome Q (f a)) → IfSome Q (o >>= f)
+  do_has None h b e = none_some e
+  do_has (Some a) h b e = h a refl b e
 
 module _ {A B : Type 0} (P : A → Type 0) (Q : B → Type 0) where
-  pub map_has : (f : A → B) → ((a : A) → P a → Q (f a)) → (o : Option A) → IfSome P o → IfSome Q (map f o)
-  map_has f h none r b e = none_some e
-  map_has f h (some a) r b e = subst Q (some_same e) (h a (r a refl))
+  pub map_has : (f : A → B) → ((a : A) → P a → Q (f a)) → (o : Option A) → IfSome P o → IfSome Q (option_map f o)
+  map_has f h None r b e = none_some e
+  map_has f h (Some a) r b e = subst Q (some_same e) (h a (r a refl))
 
-pub required : (t : Bool) {u : Unit {0}} → require t ≡ some u → t ≡ true
+pub required : (t : Bool) {u : Unit {0}} → require t ≡ Some u → t ≡ true
 required true e = refl
 required false e = none_some e

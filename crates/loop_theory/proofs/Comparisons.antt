@@ -3,11 +3,11 @@
 --   Stands c f                 the comparison of f is the first of the list that stands at its place in the condition c
 --   comparison_stands          the only comparison of a condition stands so
 -- Assumes nothing.
+use Rattle.std.specs.Prelude.{Option, Some}
 use Prim.Native.Nat.{ℕ, zero, suc, ◌-◌}
 use mathlib.Core.Path.{◌≡◌, refl, sym, ap, subst, ◌∙◌}
 use mathlib.Core.Bool.{Bool, true, ◌&&◌, ◌||◌}
 use mathlib.Core.List.{List, [], ◌∷◌}
-use mathlib.Core.Option.{Option, some}
 use native.Mathlib.Nat.{add-zero}
 use native.Mathlib.Numerals.{add-one}
 use lib.Dec.{eqb}
@@ -35,7 +35,7 @@ abbrev pub comparison_in : List ℕ → Option Comparison
 comparison_in s = find (λ c. starts_with c.op s) comparisons
 
 pub record Stands (c : List Token) (f : Found) : Type 0 where
-  pub there : comparison_in (drop f.pos (get_or c f.place no_token).text) ≡ some f.comparison
+  pub there : comparison_in (drop f.pos (get_or c f.place no_token).text) ≡ Some f.comparison
 
 -- Scanning
 
@@ -59,7 +59,7 @@ module _ (Q : Found → Type 0) where
   bracket_finds c r h = if_has Finds (eqb c 40) (λ _. h) (λ _. if_has Finds (eqb c 41) (λ _. h) (λ _. h))
 
   module _ (place : ℕ) (whole : List ℕ)
-      (new : (pos : ℕ) (o : Comparison) → comparison_in (drop pos whole) ≡ some o → Q (record { place = place; pos = pos; comparison = o })) where
+      (new : (pos : ℕ) (o : Comparison) → comparison_in (drop pos whole) ≡ Some o → Q (record { place = place; pos = pos; comparison = o })) where
     text_finds : (s : List ℕ) (pos skip : ℕ) (r : Seen) → drop pos whole ≡ s → Finds r → Finds (scan_text place pos skip s r)
     unfolding scan_text
     text_finds [] pos skip r e h = h
@@ -69,8 +69,8 @@ module _ (Q : Found → Type 0) where
         let next = drop_next pos whole e in
         case_has Finds (comparison_at (c ∷ s) r)
         (text_finds s (suc pos) zero (see_bracket c seen) next (bracket_finds c seen (logical_finds (c ∷ s) r h))) λ o found.
-        let here : comparison_in (c ∷ s) ≡ some o =
-        if_has (λ x. x ≡ some o → comparison_in (c ∷ s) ≡ some o) (at_depth_0 r) (λ _ q. q) (λ _ q. none_some q) found in
+        let here : comparison_in (c ∷ s) ≡ Some o =
+        if_has (λ x. x ≡ Some o → comparison_in (c ∷ s) ≡ Some o) (at_depth_0 r) (λ _ q. q) (λ _ q. none_some q) found in
         text_finds s (suc pos) (length o.op - 1) (add_found (record { place = place; pos = pos; comparison = o }) seen) next
         (λ f q. subst Q (some_same q) (new pos o (ap comparison_in e ∙ here)))
 
@@ -83,7 +83,7 @@ scan_finds c (t ∷ ts) place r e h =
     (if_has (Finds (Stands c)) (eqb t.kind Punct) (λ _. text_finds (Stands c) place t.text here t.text 0 0 r refl h)
     (λ _. if_has (Finds (Stands c)) (eqb t.kind Keyword) (λ _. h) (λ _. h)))
   where
-    here : (pos : ℕ) (o : Comparison) → comparison_in (drop pos t.text) ≡ some o → Stands c (record { place = place; pos = pos; comparison = o })
+    here : (pos : ℕ) (o : Comparison) → comparison_in (drop pos t.text) ≡ Some o → Stands c (record { place = place; pos = pos; comparison = o })
     here pos o q = record { there = ap (λ (u : Token). comparison_in (drop pos u.text)) (drop_at_place no_token place c e) ∙ q }
 
 pub comparison_stands : (c : List Token) → IfSome (Stands c) (only_comparison (scan 0 c nothing_seen))

@@ -2,11 +2,11 @@
 --   initialiser_before    an initialiser stands before the header
 --   to_for_steps          what to_for answers is reached by steps
 -- Assumes nothing.
+use Rattle.std.specs.Prelude.{Option, None, Some}
 use Prim.Native.Nat.{ℕ, zero, suc, ◌+◌, ◌-◌, ◌≤◌, ◌<◌}
 use mathlib.Core.Path.{◌≡◌, refl, sym, ap, subst, ◌∙◌}
 use mathlib.Core.Bool.{◌&&◌, ◌||◌, not}
 use mathlib.Core.List.{List, ◌∷◌, ◌++◌, append_assoc}
-use mathlib.Core.Option.{Option, none, some}
 use native.Mathlib.Omega.{arith}
 use lib.Dec.{eqb, leb, ltb}
 use borrow.Author.Tests.{leb-true}
@@ -44,7 +44,7 @@ counted p q r s x y z v k w e lk lw le =
     ∙ (ap (λ L. remove k (set L w v)) (remove_second (p ++ (x ∷ q)) r s y z e (omega arith) ∙ append_assoc p (x ∷ q) (y ∷ (r ++ s)))
     ∙ (ap (remove k) (set_second p q (r ++ s) x y v w (omega arith)) ∙ remove_there p x (q ++ (v ∷ (r ++ s))) k lk))
 
-count_step : (L : List Line) (k w e : ℕ) (c : List Token) → k < w → w + 2 ≤ e → e < length L → condition (line L w) (ascii "while") ≡ some c
+count_step : (L : List Line) (k w e : ℕ) (c : List Token) → k < w → w + 2 ≤ e → e < length L → condition (line L w) (ascii "while") ≡ Some c
     → Step L (remove k (set (remove (e - 1) L) w (header_at (line L w) (line L w).indent (for_head (line L k).tokens c (line L (e - 1)).tokens))))
 count_step L k w e c kw we el q =
     let s = e - 1 in
@@ -91,5 +91,5 @@ unfolding to_for
 to_for_steps L M w s = go (for_loop M w) (for_loop_step M w)
   where
     go : (o : Option (List Line)) → IfSome (Step M) o → Steps L (or_else o M)
-    go none f = s
-    go (some N) f = then s (f N refl)
+    go None f = s
+    go (Some N) f = then s (f N refl)

@@ -2,11 +2,11 @@
 --   back_edge_inside    a back edge stands behind its label, in the listing
 --   goto_turned         the turn goes on at the next line after steps, or overflows
 -- Assumes nothing.
+use Rattle.std.specs.Prelude.{Option, None, Some}
 use Prim.Native.Nat.{ℕ, suc, ◌+◌, ◌≤◌, ◌<◌}
 use mathlib.Core.Path.{◌≡◌, refl, sym, ap, subst, ◌∙◌}
 use mathlib.Core.Bool.{true, false, cond, ◌&&◌, not}
 use mathlib.Core.List.{List, [], ◌∷◌, ◌++◌, map}
-use mathlib.Core.Option.{Option, none, some}
 use native.Mathlib.Omega.{arith}
 use native.Mathlib.Numerals.{add-one}
 use lib.Dec.{eqb, ltb}
@@ -50,13 +50,13 @@ module _ (before after : List Line) (head back : Line) (name : List ℕ) (exit :
       → (o : Option (List Token)) → leading_test (line (closed body) (h + 1)) (head.indent + 1) ≡ o
       → Step (before ++ (head ∷ (body ++ (back ∷ after))))
       (set (cond (is_some o) (remove (h + 1) (closed body)) (closed body)) h (header (closed body) (or_else o one)))
-  with_header body n deep none q =
+  with_header body n deep None q =
       let made = ap (λ l. set (closed body) h (header_at l (head.indent + 1) (merge (while_head one)))) (at_head body) in
       subst (Step (before ++ (head ∷ (body ++ (back ∷ after)))))
       (sym (made ∙ set_at before head _ (header_at head (head.indent + 1) (merge (while_head one))) h at))
       (enclose before body after head back name exit is deep room)
-  with_header [] n deep (some c) q = absurd (omega arith)
-  with_header (t ∷ body) n deep (some c) q =
+  with_header [] n deep (Some c) q = absurd (omega arith)
+  with_header (t ∷ body) n deep (Some c) q =
       let rest = map (body_line name exit) body ++ (closed_at back (head.indent + 1) ∷ after) in
       let test = body_line name exit t in
       let at_test : line (closed (t ∷ body)) (h + 1) ≡ test =

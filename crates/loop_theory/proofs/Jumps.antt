@@ -7,11 +7,11 @@
 --   jump_line_no_label       a rewritten line is no label
 --   JumpWord kw, jump_has    what holds of a line, and of it rewritten with `continue` or `break`, holds of what jump makes of it
 -- Assumes nothing.
+use Rattle.std.specs.Prelude.{Option, None, Some}
 use Prim.Native.Nat.{ℕ, suc, ◌+◌, ◌≤◌}
 use mathlib.Core.Path.{◌≡◌, refl, ap, ◌∙◌}
 use mathlib.Core.Bool.{Bool, true, false, cond, ◌&&◌, not, and-false}
 use mathlib.Core.List.{List, [], ◌∷◌, ◌++◌}
-use mathlib.Core.Option.{Option, none, some}
 use native.Mathlib.Omega.{arith}
 use native.Mathlib.Numerals.{add-one}
 use lib.Dec.{eqb}
@@ -28,7 +28,7 @@ use Rattle.loop_theory.proofs.Ascii.{is_ascii}
 
 -- Lines without a goto
 
-no_position : {A : Type 0} (p : A → Bool) (xs : List A) → any p xs ≡ false → position p xs ≡ none
+no_position : {A : Type 0} (p : A → Bool) (xs : List A) → any p xs ≡ false → position p xs ≡ None
 unfolding any position
 no_position p [] e = refl
 no_position p (x ∷ xs) e =
@@ -91,7 +91,7 @@ unfolding goes_to goto_target first_symbol find
 leading q l goes = at_goto (position (is_kw (ascii "goto")) l.tokens) refl goes
   where
     behind : (goto : Token) → is_kw (ascii "goto") goto ≡ true → (us : List Token) → l.tokens ≡ before_goto l ++ (goto ∷ us)
-        → elim (first_symbol us) [ none ↦ false | some t ↦ q t ] ≡ true → Leading l
+        → elim (first_symbol us) [ None ↦ false | Some t ↦ q t ] ≡ true → Leading l
     behind goto is [] w e = true_false e refl
     behind goto is (target ∷ rest) w e = record {
       goto = goto;
@@ -103,9 +103,9 @@ leading q l goes = at_goto (position (is_kw (ascii "goto")) l.tokens) refl goes
     }
 
     at_goto : (o : Option ℕ) → position (is_kw (ascii "goto")) l.tokens ≡ o
-        → elim (o >>= λ g. first_symbol (drop (g + 1) l.tokens)) [ none ↦ false | some t ↦ q t ] ≡ true → Leading l
-    at_goto none p e = true_false e refl
-    at_goto (some g) p e =
+        → elim (o >>= λ g. first_symbol (drop (g + 1) l.tokens)) [ None ↦ false | Some t ↦ q t ] ≡ true → Leading l
+    at_goto None p e = true_false e refl
+    at_goto (Some g) p e =
         let s = position_splits (is_kw (ascii "goto")) l.tokens g p in
         behind s.0 s.1 (drop (suc g) l.tokens) s.2 (rw add-one at e)
 
@@ -133,6 +133,6 @@ pub jump_has : (P : Line → Type 0) (name : List ℕ) (exit : Option (List ℕ)
 unfolding jump ◌≟◌ all
 jump_has P name exit l rewritten left =
     let back : List ℕ → Bool = λ t. t ≟ name in
-    let out : List ℕ → Bool = λ t. elim exit [ none ↦ false | some e ↦ t ≟ e ] in
+    let out : List ℕ → Bool = λ t. elim exit [ None ↦ false | Some e ↦ t ≟ e ] in
     if_has P (goes_to back l) (rewritten (ascii "continue") (record { other = refl; short = omega arith; plain = refl }) back) λ elsewhere.
     if_has P (goes_to out l) (rewritten (ascii "break") (record { other = refl; short = omega arith; plain = refl }) out) λ _. left elsewhere

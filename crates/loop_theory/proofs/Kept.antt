@@ -2,11 +2,11 @@
 --   Kept q                                           the lines that steps make pass q if the lines that they are made of do
 --   recover_loops_keeps, recover_goto_loops_keeps    then every line of the answer passes if every line of the listing does
 -- Assumes nothing.
+use Rattle.std.specs.Prelude.{Option, Some}
 use Prim.Native.Nat.{ℕ, ◌+◌}
 use mathlib.Core.Path.{◌≡◌}
 use mathlib.Core.Bool.{Bool, true, ◌&&◌}
 use mathlib.Core.List.{List, map}
-use mathlib.Core.Option.{Option, some}
 use lib.Dec.{ltb}
 use Rattle.definitions.specs.Lists.{all, ascii}
 use Rattle.definitions.specs.Model.{Token, Line}
@@ -25,12 +25,12 @@ pub record Kept (q : Line → Bool) : Type 0 where
   pub moved_out : (l : Line) → q l ≡ true → q (move_out l) ≡ true
   pub moved_in : (name : List ℕ) (exit : Option (List ℕ)) (l : Line) → q l ≡ true → ltb l.indent 255 ≡ true → q (body_line name exit l) ≡ true
   pub closed : (l : Line) (d : ℕ) → ltb d 255 ≡ true → q (closed_at l d) ≡ true
-  pub guarded : (l : Line) (c : List Token) → q l ≡ true → condition l (ascii "if") ≡ some c
+  pub guarded : (l : Line) (c : List Token) → q l ≡ true → condition l (ascii "if") ≡ Some c
       → q (header_at l l.indent (while_head c)) ≡ true
   pub headed : (l : Line) (d : ℕ) → ltb d 255 ≡ true → q (header_at l d (merge (while_head one))) ≡ true
   pub tested : (l test : Line) (d : ℕ) (name : List ℕ) (exit : Option (List ℕ)) (c : List Token) → ltb d 255 ≡ true → q test ≡ true
-      → leading_test (body_line name exit test) d ≡ some c → q (header_at l d (merge (while_head c))) ≡ true
-  pub counted : (init loop step : Line) (c : List Token) → q init ≡ true → q loop ≡ true → q step ≡ true → condition loop (ascii "while") ≡ some c
+      → leading_test (body_line name exit test) d ≡ Some c → q (header_at l d (merge (while_head c))) ≡ true
+  pub counted : (init loop step : Line) (c : List Token) → q init ≡ true → q loop ≡ true → q step ≡ true → condition loop (ascii "while") ≡ Some c
       → q (header_at loop loop.indent (for_head init.tokens c step.tokens)) ≡ true
 
 module _ (q : Line → Bool) (Q : Kept q) where

@@ -2,13 +2,13 @@
 --   KeptToken p                                        the passes' own tokens pass p, and changed tokens pass if the tokens that they are made of do
 --   recover_loops_tokens, recover_goto_loops_tokens    then every token of the answer passes if every token of the listing does
 -- Assumes nothing.
+use Rattle.std.specs.Prelude.{Option, None, Some, slice_get}
 use Prim.Native.Nat.{ℕ, zero, suc, ◌+◌, ◌-◌}
 use mathlib.Core.Path.{◌≡◌, refl, sym, ap, subst, ◌∙◌}
 use mathlib.Core.Bool.{Bool, true, not}
 use mathlib.Core.List.{List, [], ◌∷◌, ◌++◌}
-use mathlib.Core.Option.{Option, none, some}
 use lib.Dec.{leb}
-use lib.ListN.{length, take, drop, get_or, get_elem?}
+use lib.ListN.{length, take, drop, get_or}
 use Rattle.definitions.specs.Lists.{require, all, position, first, last, part, take_while, on_first, on_last, on_part, concat, starts_with, ends_with, ascii}
 use Rattle.definitions.specs.Model.{Token, Line, tok, no_token, Number, Keyword, Punct}
 use Rattle.definitions.specs.Statements.{is_kw, is_empty, joins, glue, merge}
@@ -32,24 +32,24 @@ pub record KeptToken (p : Token → Bool) : Type 0 where
   pub opened : (s : List ℕ) (k : ℕ) → starts_with (ascii " (") s ≡ true → p (tok s k) ≡ true → p (tok (drop 2 s) k) ≡ true
   pub ended : (n : ℕ) (s : List ℕ) (k : ℕ) → ascii_end n s ≡ true → p (tok s k) ≡ true → p (tok (take (length s - n) s) k) ≡ true
   pub last_popped : (s : List ℕ) (k : ℕ) → p (tok s k) ≡ true → p (tok (pop s) k) ≡ true
-  pub flipped : (s : List ℕ) (k pos : ℕ) (o : Comparison) → comparison_in (drop pos s) ≡ some o → p (tok s k) ≡ true
+  pub flipped : (s : List ℕ) (k pos : ℕ) (o : Comparison) → comparison_in (drop pos s) ≡ Some o → p (tok s k) ≡ true
       → p (tok (take pos s ++ (o.flipped ++ drop (pos + length o.op) s)) k) ≡ true
 
 -- First and last elements
 
 module _ {A : Type 0} where
-  first_dropped : (n : ℕ) (xs : List A) → first (drop n xs) ≡ get_elem? xs n
+  first_dropped : (n : ℕ) (xs : List A) → first (drop n xs) ≡ slice_get xs n
   first_dropped zero xs = refl
   first_dropped (suc n) [] = refl
   first_dropped (suc n) (x ∷ xs) = first_dropped n xs
 
-  element_at : (d : A) (n : ℕ) (xs : List A) → IfSome (λ x. get_or xs n d ≡ x) (get_elem? xs n)
+  element_at : (d : A) (n : ℕ) (xs : List A) → IfSome (λ x. get_or xs n d ≡ x) (slice_get xs n)
   element_at d zero [] = λ x e. none_some e
   element_at d zero (y ∷ xs) = λ x e. some_same e
   element_at d (suc n) [] = λ x e. none_some e
   element_at d (suc n) (y ∷ xs) = element_at d n xs
 
-  last_dropped : (n : ℕ) (xs : List A) (y : A) → get_elem? xs n ≡ some y → last (drop n xs) ≡ last xs
+  last_dropped : (n : ℕ) (xs : List A) (y : A) → slice_get xs n ≡ Some y → last (drop n xs) ≡ last xs
   unfolding last
   last_dropped zero xs y e = refl
   last_dropped (suc n) [] y e = none_some e
@@ -63,7 +63,7 @@ abbrev closes_in_ascii : ℕ → Token → Type 0
 closes_in_ascii n t = ascii_end n t.text ≡ true
 
 -- the last token does so after the first one is cut, too
-last_closes : (n : ℕ) (ts : List Token) (end : Token) → last ts ≡ some end → closes_in_ascii n end
+last_closes : (n : ℕ) (ts : List Token) (end : Token) → last ts ≡ Some end → closes_in_ascii n end
     → IfSome (closes_in_ascii n) (last (on_first (cut_front 2) ts))
 unfolding last on_first
 last_closes n [] end e h = λ t q. none_some q
@@ -102,7 +102,7 @@ module _ (p : Token → Bool) (P : KeptToken p) where
   unfolding condition
   condition_kept l kw h =
       do_has pass (position (is_kw kw) l.tokens) λ k _.
-      do_has pass (get_elem? l.tokens (k + 1)) λ opening at_opening.
+      do_has pass (slice_get l.tokens (k + 1)) λ opening at_opening.
       do_has pass (last l.tokens) λ end at_end.
       do_has pass (require (starts_with (ascii " (") opening.text)) λ _ opens.
       do_has pass (closing end.text) λ n closes c e.
@@ -117,22 +117,22 @@ module _ (p : Token → Bool) (P : KeptToken p) where
   unfolding negate_cond all
   negation_kept c h = go (only_comparison (scan 0 c nothing_seen)) (comparison_stands c)
     where
-      at_token : (f : Found) → Stands c f → (t : Token) → first (drop f.place c) ≡ some t
-          → comparison_in (drop f.pos t.text) ≡ some f.comparison
+      at_token : (f : Found) → Stands c f → (t : Token) → first (drop f.place c) ≡ Some t
+          → comparison_in (drop f.pos t.text) ≡ Some f.comparison
       at_token f stands t e =
           let same = element_at no_token f.place c t (sym (first_dropped f.place c) ∙ e) in
           ap (λ (u : Token). comparison_in (drop f.pos u.text)) (sym same) ∙ stands.there
 
       go : (o : Option Found) → IfSome (Stands c) o
           → all p (elim o [
-            | some f ↦ on_part f.place (f.place + 1) (flip f) c
-            | none ↦ merge (tok (ascii "!(") Punct ∷ (c ++ (tok (ascii ")") Punct ∷ [])))
+            | Some f ↦ on_part f.place (f.place + 1) (flip f) c
+            | None ↦ merge (tok (ascii "!(") Punct ∷ (c ++ (tok (ascii ")") Punct ∷ [])))
           ]) ≡ true
-      go (some f) stands =
+      go (Some f) stands =
           let halves = all_halves p f.place c h in
           rw on_part_one (all_append p (take f.place c) _ halves.0 (all_on_first p (flip f) (drop f.place c)
           (λ t e k. P.flipped t.text t.kind f.pos f.comparison (at_token f (stands f refl) t e) k) halves.1))
-      go none stands =
+      go None stands =
           let end = tok (ascii ")") Punct ∷ [] in
           merge_kept (tok (ascii "!(") Punct ∷ (c ++ end))
           (own_and (ascii "!(") Punct (c ++ end) refl refl (all_append p c end h (own_and (ascii ")") Punct [] refl refl (all_nil p))))

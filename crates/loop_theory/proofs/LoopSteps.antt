@@ -1,11 +1,11 @@
 -- A turn of `recover_loops` goes by steps.
 --   loop_turned    it goes on at the next line after steps, or stops, or overflows
 -- Assumes nothing.
+use Rattle.std.specs.Prelude.{Some}
 use Prim.Native.Nat.{ℕ, suc, ◌+◌, ◌-◌, ◌≤◌, ◌<◌}
 use mathlib.Core.Path.{◌≡◌, sym, ap, subst, ◌∙◌}
 use mathlib.Core.Bool.{◌&&◌, not}
 use mathlib.Core.List.{List, [], ◌∷◌, ◌++◌, map}
-use mathlib.Core.Option.{some}
 use native.Mathlib.Omega.{arith}
 use lib.Dec.{eqb, leb, ltb}
 use lib.ListN.{length, take, drop, set}
@@ -30,7 +30,7 @@ unwrapped_parts f p q xs x d y v i w li lw =
     ∙ (ap (on_part (i + 1) (w - 1) f) (remove_second p [] (q ++ xs) v d (i + 1) (omega arith))
     ∙ on_part_between f p q xs v i (w - 1) li (omega arith)))
 
-unwrap_step : (L : List Line) (i w : ℕ) (c : List Token) → i + 2 ≤ w → w < length L → condition (line L i) (ascii "if") ≡ some c
+unwrap_step : (L : List Line) (i w : ℕ) (c : List Token) → i + 2 ≤ w → w < length L → condition (line L i) (ascii "if") ≡ Some c
     → Step L (on_part (i + 1) (w - 1) move_out (unwrapped L i w c))
 unwrap_step L i w c iw wl q =
     go (part (suc i) w L) (length_part (suc i) w L (omega arith)) (two_places no_line i w L (omega arith) wl)
@@ -50,10 +50,10 @@ unwrap_step L i w c iw wl q =
         (subst (Step (take i L ++ (line L i ∷ (d ∷ (B ++ (line L w ∷ drop (suc w) L)))))) (sym made)
         (unwrap (take i L) B (drop (suc w) L) (line L i) d (line L w) c q))
 
-guarded_condition : (L : List Line) (i w : ℕ) → IfSome (λ c. condition (line L i) (ascii "if") ≡ some c) (guarded L i w)
+guarded_condition : (L : List Line) (i w : ℕ) → IfSome (λ c. condition (line L i) (ascii "if") ≡ Some c) (guarded L i w)
 unfolding guarded
 guarded_condition L i w =
-    let Q : List Token → Type 0 = λ c. condition (line L i) (ascii "if") ≡ some c in
+    let Q : List Token → Type 0 = λ c. condition (line L i) (ascii "if") ≡ Some c in
     do_has Q (condition (line L i) (ascii "if")) λ c read.
     do_has Q (condition (line L w) (ascii "while")) λ c₂ _.
     do_has Q (require (eqb (line L w).indent ((line L i).indent + 1) && ltb (w + 1) (length L))) λ _ _.

@@ -7,12 +7,12 @@
 --                          what is found stands in the list
 --   position_splits        a list taken apart at the first element that passes
 -- Assumes nothing.
+use Rattle.std.specs.Prelude.{Some}
+use Rattle.std.specs.Option.{option_map}
 use Prim.Native.Nat.{ℕ, suc, ◌+◌, ◌-◌, ◌≤◌, ◌<◌}
 use mathlib.Core.Path.{◌≡◌, refl, sym, ap, ap₂, ◌∙◌}
 use mathlib.Core.Bool.{Bool, true, false, cond, not}
 use mathlib.Core.List.{List, [], ◌∷◌, ◌++◌, map, append_assoc}
-use mathlib.Core.Option
-use mathlib.Core.Option.{some}
 use native.Mathlib.Omega.{arith}
 use lib.ListN.{length, take, drop, get_or, set, length-append, length-drop, take-append-drop}
 use lib.Seq.{split_at, drop-cons, drop-drop, length-take-le, take_at, drop_at, set_at}
@@ -123,7 +123,7 @@ module _ {A : Type 0} where
         go : (b : Bool) → p x ≡ b
             → IfSome (λ k. (y : A) × (p y ≡ true) × (xs ≡ take_while (λ y. not (p y)) xs ++ (y ∷ drop (suc k) xs))) (position p xs)
             → IfSome (λ k. (y : A) × (p y ≡ true) × (x ∷ xs ≡ cond (not b) (x ∷ take_while (λ y. not (p y)) xs) [] ++ (y ∷ drop k xs)))
-            (cond b (some 0) (Option.map suc (position p xs)))
+            (cond b (Some 0) (option_map suc (position p xs)))
         go true passes r = λ k e. (x, passes, ap (λ n. x ∷ drop n xs) (some_same e))
         go false passes r =
             map_has _ (λ k. (y : A) × (p y ≡ true) × (x ∷ xs ≡ x ∷ (take_while (λ y. not (p y)) xs ++ (y ∷ drop k xs)))) suc

@@ -3,16 +3,16 @@
 --   merge_size, condition_size, test_size    merging, a condition and a leading test's negated condition, against the tokens they come from
 --   while_size, for_size                     the headers against theirs
 -- Assumes nothing.
+use Rattle.std.specs.Prelude.{Option, None, Some, slice_get}
 use Prim.Native.Nat.{ℕ, suc, ◌+◌, ◌-◌, ◌≤◌}
 use mathlib.Core.Path.{◌≡◌, refl, subst}
 use mathlib.Core.Bool.{◌&&◌, not}
 use mathlib.Core.List.{List, [], ◌∷◌, ◌++◌, reverse}
-use mathlib.Core.Option.{Option, none, some}
 use native.Mathlib.Omega.{arith}
 use native.Mathlib.Nat.{le_trans, add-zero}
 use lib.Dec.{leb, ltb}
 use borrow.Author.Tests.{leb-true}
-use lib.ListN.{length, take, drop, get_elem?, length-append, length-take, length-drop, length-reverse}
+use lib.ListN.{length, take, drop, length-append, length-take, length-drop, length-reverse}
 use Rattle.definitions.specs.Lists.{require, all, position, first, last, part, on_first, on_last, on_part, starts_with, ends_with, ascii}
 use Rattle.definitions.specs.Model.{Token, Line, tok, text, Keyword, Punct}
 use Rattle.definitions.specs.Statements.{is_kw, is_empty, joins, glue, merge}
@@ -86,7 +86,7 @@ module _ (m : Token → ℕ) (M : Measure m) where
   condition_size l kw =
       let Q : List Token → Type 0 = λ c. sum m c ≤ sum m l.tokens in
       do_has Q (position (is_kw kw) l.tokens) λ k _.
-      do_has Q (get_elem? l.tokens (k + 1)) λ opening _.
+      do_has Q (slice_get l.tokens (k + 1)) λ opening _.
       do_has Q (last l.tokens) λ end _.
       do_has Q (require (starts_with (ascii " (") opening.text)) λ _ _.
       do_has Q (closing end.text) λ n _ c e.
@@ -98,13 +98,13 @@ module _ (m : Token → ℕ) (M : Measure m) where
     where
       go : (o : Option Found) → IfSome (Stands c) o
           → sum m (elim o [
-            | some f ↦ on_part f.place (f.place + 1) (flip f) c
-            | none ↦ merge (tok (ascii "!(") Punct ∷ (c ++ (tok (ascii ")") Punct ∷ [])))
+            | Some f ↦ on_part f.place (f.place + 1) (flip f) c
+            | None ↦ merge (tok (ascii "!(") Punct ∷ (c ++ (tok (ascii ")") Punct ∷ [])))
           ]) ≤ sum m c + M.negation
-      go (some f) h =
+      go (Some f) h =
           sum_on_one m (flip f) M.negation
           (λ t. M.flipped (flip f t).text t.text t.kind (flip_longer f t (short_comparison f c (h f refl)))) f.place c
-      go none h =
+      go None h =
           let end = tok (ascii ")") Punct ∷ [] in
           omega (arith, merge_size (tok (ascii "!(") Punct ∷ (c ++ end)), sum_append m c end, M.bracketed)
 

@@ -4,12 +4,11 @@
 --   not_still_used               no line of it has a goto to the label
 --   in_place, headed_in_place    so the header takes the label's place
 -- Assumes nothing.
-use Rattle.std.specs.Prelude.{if◌then◌else◌}
+use Rattle.std.specs.Prelude.{if◌then◌else◌, Option, None, Some}
 use Prim.Native.Nat.{ℕ, suc, ◌+◌, ◌-◌, ◌<◌}
 use mathlib.Core.Path.{◌≡◌, refl, ap, ◌∙◌}
 use mathlib.Core.Bool.{Bool, true, false, ◌||◌}
 use mathlib.Core.List.{List, ◌∷◌, ◌++◌, map}
-use mathlib.Core.Option.{Option, none, some}
 use native.Mathlib.Omega.{arith}
 use native.Mathlib.Numerals.{add-one}
 use lib.ListN.{length, take, drop, set}
@@ -41,9 +40,9 @@ goes_to_neither : (p q : List ℕ → Bool) (l : Line) → goes_to (λ t. p t ||
 unfolding goes_to
 goes_to_neither p q l e = go (goto_target l) e
   where
-    go : (o : Option (List ℕ)) → elim o [ none ↦ false | some t ↦ p t || q t ] ≡ false → elim o [ none ↦ false | some t ↦ p t ] ≡ false
-    go none e = refl
-    go (some t) e = (or_split (p t) (q t) e).0
+    go : (o : Option (List ℕ)) → elim o [ None ↦ false | Some t ↦ p t || q t ] ≡ false → elim o [ None ↦ false | Some t ↦ p t ] ≡ false
+    go None e = refl
+    go (Some t) e = (or_split (p t) (q t) e).0
 
 -- The listing with its body rewritten
 

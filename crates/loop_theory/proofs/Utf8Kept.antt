@@ -1,11 +1,11 @@
 -- The texts of tokens stay UTF-8.
 --   recover_loops_utf8, recover_goto_loops_utf8    all texts of the answer are UTF-8 if all of the listing are
 -- Assumes nothing.
+use Rattle.std.specs.Prelude.{Some}
 use Prim.Native.Nat.{ℕ, ◌+◌, ◌-◌}
 use mathlib.Core.Path.{◌≡◌, refl, sym, ap, ◌∙◌}
 use mathlib.Core.Bool.{Bool, true, ◌&&◌}
 use mathlib.Core.List.{List, [], ◌∷◌, ◌++◌, append-nil}
-use mathlib.Core.Option.{some}
 use native.Mathlib.Omega.{arith}
 use lib.Dec.{eqb, leb}
 use borrow.Author.Tests.{eqb-true, leb-true}
@@ -47,7 +47,7 @@ ended_utf8 k s a h = go (drop k s) a (ap is_utf8 (take-append-drop k s) ∙ h)
 abbrev in_ascii : Comparison → Bool
 in_ascii o = leb 1 (length o.op) && (all is_ascii o.op && all is_ascii o.flipped)
 
-flipped_utf8 : (s : List ℕ) (pos : ℕ) (o : Comparison) → comparison_in (drop pos s) ≡ some o → is_utf8 s ≡ true
+flipped_utf8 : (s : List ℕ) (pos : ℕ) (o : Comparison) → comparison_in (drop pos s) ≡ Some o → is_utf8 s ≡ true
     → is_utf8 (take pos s ++ (o.flipped ++ drop (pos + length o.op) s)) ≡ true
 unfolding all comparisons
 flipped_utf8 s pos o e h =

@@ -4,11 +4,11 @@
 --   utf8_around      what stands before and behind an ASCII text in a UTF-8 text is UTF-8
 --   utf8_pop         so is a UTF-8 text without its last code point
 -- Assumes nothing.
+use Rattle.std.specs.Prelude.{Option, None, Some}
 use Prim.Native.Nat.{ℕ, ◌≤◌, ◌<◌}
 use mathlib.Core.Path.{◌≡◌, refl, sym, ap, subst, ◌∙◌}
 use mathlib.Core.Bool.{Bool, true, false, ◌&&◌}
 use mathlib.Core.List.{List, [], ◌∷◌, ◌++◌, reverse, append_assoc, reverse-cons, reverse-append, reverse-reverse}
-use mathlib.Core.Option.{Option, none, some}
 use native.Mathlib.Omega.{arith}
 use lib.Dec.{eqb, leb, ltb}
 use borrow.Author.Tests.{eqb-true, leb-true, ltb-true, lt-ltb, le-leb, lt-leb, le-ltb}
@@ -64,26 +64,26 @@ following_tail b =
     if_has (IfSome (Followed b)) (eqb b 0xf4) (λ h. answers (high_leads b (let s = eqb-true b 0xf4 h in omega arith)) _ refl) λ _.
     λ rs e. none_some e
   where
-    answers : continues b ≡ false → (rs : List Range) → all in_tail rs ≡ true → IfSome (Followed b) (some rs)
+    answers : continues b ≡ false → (rs : List Range) → all in_tail rs ≡ true → IfSome (Followed b) (Some rs)
     answers h rs t us e = (h, subst (λ vs. all in_tail vs ≡ true) (some_same e) t)
 
 -- Texts
 
-ascii_leads : (b : ℕ) → is_ascii b ≡ true → following b ≡ some []
+ascii_leads : (b : ℕ) → is_ascii b ≡ true → following b ≡ Some []
 unfolding following
 ascii_leads b h = rw (le-leb b 127 (let s = ltb-true b 128 h in omega arith))
 
 -- a text begins with a leading byte
-led : (b : ℕ) (s : List ℕ) → is_utf8 (b ∷ s) ≡ true → (rs : List Range) × (following b ≡ some rs) × (utf8_after rs s ≡ true)
+led : (b : ℕ) (s : List ℕ) → is_utf8 (b ∷ s) ≡ true → (rs : List Range) × (following b ≡ Some rs) × (utf8_after rs s ≡ true)
 unfolding utf8_after
 led b s e = go (following b) refl e
   where
-    go : (o : Option (List Range)) → following b ≡ o → elim o [ none ↦ false | some rs ↦ utf8_after rs s ] ≡ true
-        → (rs : List Range) × (following b ≡ some rs) × (utf8_after rs s ≡ true)
-    go none q e = true_false e refl
-    go (some rs) q e = (rs, q, e)
+    go : (o : Option (List Range)) → following b ≡ o → elim o [ None ↦ false | Some rs ↦ utf8_after rs s ] ≡ true
+        → (rs : List Range) × (following b ≡ Some rs) × (utf8_after rs s ≡ true)
+    go None q e = true_false e refl
+    go (Some rs) q e = (rs, q, e)
 
-leads : (b : ℕ) (s : List ℕ) (rs : List Range) → following b ≡ some rs → is_utf8 (b ∷ s) ≡ utf8_after rs s
+leads : (b : ℕ) (s : List ℕ) (rs : List Range) → following b ≡ Some rs → is_utf8 (b ∷ s) ≡ utf8_after rs s
 unfolding utf8_after
 leads b s rs e = rw (e, utf8_after)
 

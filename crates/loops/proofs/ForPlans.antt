@@ -5,11 +5,11 @@
 --   to_for_top, to_for_open, to_for_none, to_for_made    `to_for` by the code's answers
 --   for_ready                    a plan stays ready where a for header is made
 -- Assumes nothing.
+use Rattle.std.specs.Prelude.{None, Some}
 use Prim.Native.Nat.{ℕ, zero, suc, ◌+◌, ◌-◌, ◌/◌, ◌%◌, ◌≤◌, ◌<◌}
 use mathlib.Core.Path.{◌≡◌, refl, sym, ap, ap₂, subst, ◌∙◌}
 use mathlib.Core.List.{List}
 use mathlib.Core.Bool.{Bool, true, false, ◌&&◌, cond, not}
-use mathlib.Core.Option.{none, some}
 use native.Mathlib.Nat.{sub-zero, zero-add}
 use native.Mathlib.Omega.{arith}
 use borrow.Author.Tests.{eqb-true, eqb-false, eq-eqb, leb-true, le-ltb}
@@ -73,7 +73,7 @@ init_facts C p ws ind (suc n) (suc k) =
     (λ here j e. subst Q (some_same e) (omega arith, eqb-true (header_at w) 0 (and_split (eqb (indent_at w) ind) (eqb (header_at w) 0) (and_split (at_indent ind w) (inits p (source_line C w)) here).0).1))
     (λ _. if_has (IfSome Q) (at_indent ind w && passes p (source_line C w)) (λ _ j e. let r = earlier j e in (omega (arith, r.0), r.1)) (λ _ j e. none_some e))
 
-module _ (C : List Line) (ws : List ℕ) (w e k : ℕ) (f : some k ≡ place_words C ws w e) where
+module _ (C : List Line) (ws : List ℕ) (w e k : ℕ) (f : Some k ≡ place_words C ws w e) where
   pub place_facts : (k < w) × (header_at (get_or ws k 0) ≡ 0) × (w + 2 ≤ e)
   unfolding place_words closed_words
   place_facts =
@@ -161,7 +161,7 @@ module _ (S : List Line) (l t x : List ℕ) (R : Source S l t x) where
       header_plain : is_plain (get_or ws w 0) ≡ true
       header_plain = all_at is_plain 0 0 w ws ready.plain (omega arith) hw
 
-      header_condition : condition (line L w) (ascii "while") ≡ some c
+      header_condition : condition (line L w) (ascii "while") ≡ Some c
       header_condition =
           ap (λ m. condition m (ascii "while")) (line_render S ws w hw ∙ guard_line (get_or ws w 0) h S)
           ∙ while_condition _ _ c
@@ -196,7 +196,7 @@ module _ (S : List Line) (l t x : List ℕ) (R : Source S l t x) where
             ∙ any_part_same is_kept (λ v. has_continue (line_of S v)) (continue_word C) continue_same (w + 1) e ws ready.kept))
 
         place_render : (let p = names_family (fam_of (token (line L (e - 1)) 0)) in
-            cond (for_tests L w e c p) (init_from p L (line L w).indent 4 w) none) ≡ place_words C ws w e
+            cond (for_tests L w e c p) (init_from p L (line L w).indent 4 w) None) ≡ place_words C ws w e
         unfolding place_words
         place_render = go (closed_words C ws w e) refl
           where
@@ -207,7 +207,7 @@ module _ (S : List Line) (l t x : List ℕ) (R : Source S l t x) where
             p = names_family (fam_of (token (source_line C z) 0))
 
             go : (b : Bool) → closed_words C ws w e ≡ b → (let p = names_family (fam_of (token (line L (e - 1)) 0)) in
-                cond (for_tests L w e c p) (init_from p L (line L w).indent 4 w) none) ≡ place_words C ws w e
+                cond (for_tests L w e c p) (init_from p L (line L w).indent 4 w) None) ≡ place_words C ws w e
             go false q = rw (closed_render, q)
             go true q =
                 let f : w + 2 ≤ e = leb-true (w + 2) e
@@ -215,10 +215,10 @@ module _ (S : List Line) (l t x : List ℕ) (R : Source S l t x) where
                 (and_split (leb (w + 2) e && eqb (indent_at (get_or ws e 0)) (indent_at (get_or ws w 0))) (text (source_line C (get_or ws e 0)).tokens ≟ ascii "}") (unfold closed_words in q)).0).0 in
                 let u : fam_of (token (line L (e - 1)) 0) ≡ fam_of (token (source_line C z) 0) =
                 ap (λ ts. fam_of (get_or ts 0 no_token)) (kept_line_tokens (e - 1) (omega arith) (omega arith)) in
-                ap (λ o. cond (for_tests L w e c (names_family o)) (init_from (names_family o) L (line L w).indent 4 w) none) u
-                ∙ (ap₂ (λ b i. cond (closed_body L w e && (b && counts_body L w e c p)) (init_from p L i 4 w) none) (steps_render f) header_indent
-                ∙ (ap₂ (λ a b. cond (a && (steps_words C (get_or ws w 0) z && b)) (init_from p L (indent_at (get_or ws w 0)) 4 w) none) closed_render (counts_render p)
-                ∙ ap (λ o. cond (closed_words C ws w e && (steps_words C (get_or ws w 0) z && counts_words C ws w e p)) o none)
+                ap (λ o. cond (for_tests L w e c (names_family o)) (init_from (names_family o) L (line L w).indent 4 w) None) u
+                ∙ (ap₂ (λ b i. cond (closed_body L w e && (b && counts_body L w e c p)) (init_from p L i 4 w) None) (steps_render f) header_indent
+                ∙ (ap₂ (λ a b. cond (a && (steps_words C (get_or ws w 0) z && b)) (init_from p L (indent_at (get_or ws w 0)) 4 w) None) closed_render (counts_render p)
+                ∙ ap (λ o. cond (closed_words C ws w e && (steps_words C (get_or ws w 0) z && counts_words C ws w e p)) o None)
                 (init_render p (indent_at (get_or ws w 0)) 4 w (omega arith) ready.plain)))
 
       -- `to_for` by the code's answers
@@ -228,27 +228,27 @@ module _ (S : List Line) (l t x : List ℕ) (R : Source S l t x) where
       to_for_top q = rw (le-ltb 0 w (omega arith))
 
       module _ (top : w ≡ 0 → ⊥) where
-        pub to_for_open : none ≡ position_from (w + 1) (ends_word C (indent_at (get_or ws w 0))) ws → render S ws ≡ to_for (render S ws) w
+        pub to_for_open : None ≡ position_from (w + 1) (ends_word C (indent_at (get_or ws w 0))) ws → render S ws ≡ to_for (render S ws) w
         unfolding to_for
         to_for_open f =
             rw (for_none L w c (omega arith) header_condition
             (ap (λ i. position_from (w + 1) (ends i) L) header_indent ∙ (ends_render (w + 1) (indent_at (get_or ws w 0)) ready.kept ∙ sym f)))
 
-        module _ (e : ℕ) (f : some e ≡ position_from (w + 1) (ends_word C (indent_at (get_or ws w 0))) ws) where
+        module _ (e : ℕ) (f : Some e ≡ position_from (w + 1) (ends_word C (indent_at (get_or ws w 0))) ws) where
           inside : (w + 1 ≤ e) × (e < length ws)
           inside = position_from_inside (ends_word C (indent_at (get_or ws w 0))) (w + 1) ws e (sym f)
 
-          placed : for_loop L w ≡ (place_words C ws w e >>= λ k. some (for_made L w e k c))
+          placed : for_loop L w ≡ (place_words C ws w e >>= λ k. Some (for_made L w e k c))
           placed =
               for_parts L w c (omega arith) header_condition e
               (ap (λ i. position_from (w + 1) (ends i) L) header_indent ∙ (ends_render (w + 1) (indent_at (get_or ws w 0)) ready.kept ∙ sym f))
-              ∙ ap (◌>>= λ k. some (for_made L w e k c)) (place_render e inside.0 inside.1)
+              ∙ ap (◌>>= λ k. Some (for_made L w e k c)) (place_render e inside.0 inside.1)
 
-          pub to_for_none : none ≡ place_words C ws w e → render S ws ≡ to_for (render S ws) w
+          pub to_for_none : None ≡ place_words C ws w e → render S ws ≡ to_for (render S ws) w
           unfolding to_for
           to_for_none g = rw (placed, ← g)
 
-          pub to_for_made : (k : ℕ) → some k ≡ place_words C ws w e → render S (with_for ws w e k) ≡ to_for (render S ws) w
+          pub to_for_made : (k : ℕ) → Some k ≡ place_words C ws w e → render S (with_for ws w e k) ≡ to_for (render S ws) w
           unfolding to_for with_for
           to_for_made k g =
               let r = place_facts C ws w e k g in

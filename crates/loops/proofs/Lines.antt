@@ -5,11 +5,11 @@
 --   header_inits, header_passes    a header is no assignment
 --   guard_test                     the condition of a header is that of its guard
 -- Assumes nothing.
+use Rattle.std.specs.Prelude.{Option, None}
 use Prim.Native.Nat.{ℕ, zero, suc, ◌/◌, ◌%◌}
 use mathlib.Core.Path.{◌≡◌, refl, ap, ◌∙◌}
 use mathlib.Core.List.{List, [], ◌∷◌, ◌++◌}
 use mathlib.Core.Bool.{Bool, true, false, cond}
-use mathlib.Core.Option.{Option, none}
 use borrow.Author.Tests.{eqb-true}
 use lib.Dec.{eqb, leb}
 use lib.ListN.{length, get_or}
@@ -70,7 +70,7 @@ module _ (l m : Line) (e : l.tokens ≡ m.tokens) where
 
   pub passes_same : (p : Token → Bool) → passes p l ≡ passes p m
   unfolding passes assignment
-  passes_same p = ap (λ ts. passes p (pseudo_line none 0 ts)) e
+  passes_same p = ap (λ ts. passes p (pseudo_line None 0 ts)) e
 
 -- A header starts with a keyword.
 
@@ -98,11 +98,11 @@ header_first S p (suc (suc (suc (suc (suc zero))))) t a z n = merge_first (tok (
 header_first S p (suc (suc (suc (suc (suc (suc zero)))))) t a z n = merge_first (tok (ascii "for") Keyword) _ refl
 header_first S p (suc (suc (suc (suc (suc (suc (suc h))))))) t a z n = merge_first (tok (ascii "for") Keyword) _ refl
 
-keyword_assignment : (l : Line) → (token l 0).kind ≡ Keyword → assignment l ≡ none
+keyword_assignment : (l : Line) → (token l 0).kind ≡ Keyword → assignment l ≡ None
 unfolding assignment
 keyword_assignment l k = rw k (go (leb 2 (length l.tokens)))
   where
-    go : (b : Bool) → ◌≡◌ {A = Option Assignment} (require b >>= λ _. none) none
+    go : (b : Bool) → ◌≡◌ {A = Option Assignment} (require b >>= λ _. None) None
     go true = refl
     go false = refl
 
@@ -111,7 +111,7 @@ unfolding planned plan_of
 by_header S w n = header_first S (piece_of (piece_at w)) (header_at w) (piece_of (test_at w)) (piece_of (initialiser_at w)) (piece_of (step_at w)) n
 
 module _ (S : List Line) (w : ℕ) (n : header_at w ≡ 0 → ⊥) where
-  header_no_assignment : assignment (line_of S w) ≡ none
+  header_no_assignment : assignment (line_of S w) ≡ None
   header_no_assignment = keyword_assignment (line_of S w) (by_header S w n)
 
   pub header_inits : (p : Token → Bool) → inits p (line_of S w) ≡ false

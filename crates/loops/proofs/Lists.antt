@@ -4,12 +4,12 @@
 --   all_remove, all_set, all_on_part    it holds after a removal, a store, a changed part
 --   any_same, position_same             two tests that agree on the elements find the same
 -- Assumes nothing.
+use Rattle.std.specs.Prelude.{Some}
+use Rattle.std.specs.Option.{option_map}
 use Prim.Native.Nat.{ℕ, zero, suc, ◌+◌, ◌-◌, ◌≤◌, ◌<◌}
 use mathlib.Core.Path.{◌≡◌, refl, ap, ap₂, subst, ◌∙◌}
 use mathlib.Core.List.{List, [], ◌∷◌, ◌++◌, map}
 use mathlib.Core.Bool.{Bool, true, ◌||◌, cond}
-use mathlib.Core.Option
-use mathlib.Core.Option.{some}
 use native.Mathlib.Omega.{arith}
 use native.Mathlib.Numerals.{add-one}
 use lib.ListN.{length, take, drop, get_or, set, length-take}
@@ -108,7 +108,7 @@ module _ {A : Type 0} (K p q : A → Bool) (same : (x : A) → K x ≡ true → 
   position_all [] h = refl
   position_all (x ∷ xs) h =
       let u = and_split (K x) (all K xs) h in
-      ap₂ (λ b o. cond b (some 0) (Option.map suc o)) (same x u.0) (position_all xs u.1)
+      ap₂ (λ b o. cond b (Some 0) (option_map suc o)) (same x u.0) (position_all xs u.1)
 
   pub position_same : (a : ℕ) (xs : List A) → all K (drop a xs) ≡ true → position_from a p xs ≡ position_from a q xs
-  position_same a xs h = ap (Option.map (a +◌)) (position_all (drop a xs) h)
+  position_same a xs h = ap (option_map (a +◌)) (position_all (drop a xs) h)

@@ -5,11 +5,11 @@
 --   close_none, close_found            the close is looked for
 --   turn_do, turn_other, turn_beyond, turn_close a turn
 -- Assumes nothing.
+use Rattle.std.specs.Prelude.{Option, None, Some}
 use Prim.Native.Nat.{ℕ, ◌+◌, ◌-◌, ◌/◌, ◌≤◌, ◌<◌}
 use mathlib.Core.Path.{◌≡◌, refl, sym, ap, ap₂, subst, ◌∙◌}
 use mathlib.Core.List.{List, []}
 use mathlib.Core.Bool.{Bool, true, false, cond, ◌&&◌, and-false}
-use mathlib.Core.Option.{Option, none, some}
 use native.Mathlib.Nat.{le_refl}
 use native.Mathlib.Omega.{arith}
 use borrow.Author.Tests.{eq-eqb, ne_eqb, lt-ltb, le-ltb, ltb-true}
@@ -30,9 +30,6 @@ use Rattle.plan.specs.Changes.{is_out, as_while}
 use Rattle.plan.specs.Source.{Source}
 use Rattle.plan.specs.ForLoop.{ends}
 use Rattle.plan.proofs.Rendered.{length_render, line_render, indent_line}
-use Rattle.pseudo_opt.specs.Places.{found}
-use Rattle.pseudo_opt.specs.declared.Found.{Found}
-use Rattle.pseudo_opt.specs.declared.Found.TheVariants.{At, Nothing}
 use Rattle.pseudo_types.specs.Cuts.{same_text, same_condition}
 use Rattle.loops.specs.Words.{source_line, is_kept, Ready, ends_word, closes_words, guarded_words, do_word, opens_words}
 use Rattle.loops.specs.Turns.{ToFor, cleared, unwrapped_words, TurnOf}
@@ -143,24 +140,24 @@ ready_header ws n i lt le ready =
 -- The guard and its close, of the lines
 
 same_tests : (o p : Option (List Token)) (A B D E : Bool)
-    → (o >>= λ c. p >>= λ d. require (A && B) >>= λ _. require (D && E && (text c ≟ text d)) >>= λ _. some c)
-    ≡ cond (B && (A && (D && (E && same_text o p)))) o none
-same_tests none p A B D E = sym (same_cond (B && (A && (D && (E && same_text none p)))))
+    → (o >>= λ c. p >>= λ d. require (A && B) >>= λ _. require (D && E && (text c ≟ text d)) >>= λ _. Some c)
+    ≡ cond (B && (A && (D && (E && same_text o p)))) o None
+same_tests None p A B D E = sym (same_cond (B && (A && (D && (E && same_text None p)))))
   where
-    same_cond : (b : Bool) → ◌≡◌ {A = Option (List Token)} (cond b none none) none
+    same_cond : (b : Bool) → ◌≡◌ {A = Option (List Token)} (cond b None None) None
     same_cond true = refl
     same_cond false = refl
-same_tests (some c) none A B D E = go A B D E
+same_tests (Some c) None A B D E = go A B D E
   where
-    go : (A B D E : Bool) → ◌≡◌ {A = Option (List Token)} none (cond (B && (A && (D && (E && false)))) (some c) none)
+    go : (A B D E : Bool) → ◌≡◌ {A = Option (List Token)} None (cond (B && (A && (D && (E && false)))) (Some c) None)
     go A false D E = refl
     go false true D E = refl
     go true true false E = refl
     go true true true false = refl
     go true true true true = refl
-same_tests (some c) (some d) A B D E = go A B D E (text c ≟ text d)
+same_tests (Some c) (Some d) A B D E = go A B D E (text c ≟ text d)
   where
-    go : (A B D E s : Bool) → (require (A && B) >>= λ _. require (D && E && s) >>= λ _. some c) ≡ cond (B && (A && (D && (E && s)))) (some c) none
+    go : (A B D E s : Bool) → (require (A && B) >>= λ _. require (D && E && s) >>= λ _. Some c) ≡ cond (B && (A && (D && (E && s)))) (Some c) None
     go false false D E s = refl
     go false true D E s = refl
     go true false D E s = refl
@@ -209,12 +206,12 @@ module _ (S : List Line) (l t x : List ℕ) (R : Source S l t x) (ws : List ℕ)
       go false e = refl
       go true e = closes_lines (ltb-true (w + 1) (length ws) e)
 
-  guarded_lines : guarded L i w ≡ cond (guarded_words C ws i w) (condition (line L i) (ascii "if")) none
+  guarded_lines : guarded L i w ≡ cond (guarded_words C ws i w) (condition (line L i) (ascii "if")) None
   unfolding guarded
   guarded_lines =
       same_tests (condition (line L i) (ascii "if")) (condition (line L w) (ascii "while")) (eqb (line L w).indent ((line L i).indent + 1)) (ltb (w + 1) (length L))
       (eqb (line L (w + 1)).indent (line L i).indent) (lone_brace (line L (w + 1)))
-      ∙ ap (λ b. cond b (condition (line L i) (ascii "if")) none) words_lines
+      ∙ ap (λ b. cond b (condition (line L i) (ascii "if")) None) words_lines
 
   pub not_guarded : guarded_words C ws i w ≡ false → close_at L i w ≡ go (i + 1) L
   unfolding close_at
@@ -225,9 +222,9 @@ module _ (S : List Line) (l t x : List ℕ) (R : Source S l t x) (ws : List ℕ)
   is_guarded e = rw (guarded_lines, e, close_at) (found_one (condition (line L i) (ascii "if")) refl)
     where
       found_one : (o : Option (List Token)) → condition (line L i) (ascii "if") ≡ o
-          → elim o [ none ↦ go (i + 1) L | some c ↦ rebuilt (unwrapped L i w c) i (w - 1) ] ≡ rebuilt (unwrapped L i w (or_else o [])) i (w - 1)
-      found_one (some c) q = refl
-      found_one none q =
+          → elim o [ None ↦ go (i + 1) L | Some c ↦ rebuilt (unwrapped L i w c) i (w - 1) ] ≡ rebuilt (unwrapped L i w (or_else o [])) i (w - 1)
+      found_one (Some c) q = refl
+      found_one None q =
           let p₁ = and_split (ltb (w + 1) (length L)) _ (words_lines ∙ e) in
           let p₂ = and_split (eqb (line L w).indent ((line L i).indent + 1)) _ p₁.1 in
           let p₃ = and_split (eqb (line L (w + 1)).indent (line L i).indent) _ p₂.1 in
@@ -265,9 +262,9 @@ module _ (l t x ws : List ℕ) (n i w : ℕ) (h : i + 2 ≤ w) (wn : w < n) (le 
 
 -- The close is looked for
 
-module _ (l t x ws : List ℕ) (n i : ℕ) (lt : i + 1 < n) (le : n ≤ length ws) (ready : Ready i (take n ws)) (j : ℕ) (d : j ≡ indent_at (get_or ws i 0)) (r : Found)
-    (f : found r ≡ position_from (i + 2) (ends_word (listing l t x) (j + 1)) (take n ws)) where
-  looked : (S : List Line) → Source S l t x → position_from (i + 2) (ends ((line (render S (take n ws)) i).indent + 1)) (render S (take n ws)) ≡ found r
+module _ (l t x ws : List ℕ) (n i : ℕ) (lt : i + 1 < n) (le : n ≤ length ws) (ready : Ready i (take n ws)) (j : ℕ) (d : j ≡ indent_at (get_or ws i 0)) (r : Option ℕ)
+    (f : r ≡ position_from (i + 2) (ends_word (listing l t x) (j + 1)) (take n ws)) where
+  looked : (S : List Line) → Source S l t x → position_from (i + 2) (ends ((line (render S (take n ws)) i).indent + 1)) (render S (take n ws)) ≡ r
   looked S R =
       let m = length-take-le n ws le in
       let z : i < length (take n ws) = omega arith in
@@ -275,11 +272,11 @@ module _ (l t x ws : List ℕ) (n i : ℕ) (lt : i + 1 < n) (le : n ≤ length w
       (ap (λ m. m.indent) (line_render S (take n ws) i z) ∙ (indent_line S (get_or (take n ws) i 0) ∙ (ap indent_at (get_or-take n ws i 0 (omega arith)) ∙ sym d)))
       ∙ (ends_render S l t x R (take n ws) (i + 2) (j + 1) (all_from is_kept i (i + 2) (take n ws) ready.kept (omega arith)) ∙ sym f)
 
-  pub close_none : r ≡ Nothing → TurnOf l t x (λ M. close M i) n i ws Stop ws
+  pub close_none : r ≡ None → TurnOf l t x (λ M. close M i) n i ws Stop ws
   unfolding close
   close_none q = record { after = refl; turn = λ S R. rw (looked S R, q, close) }
 
-  pub close_found : (w : ℕ) → r ≡ At w → (a : Answer) (vs : List ℕ) → TurnOf l t x (λ M. close_at M i w) n i ws a vs → TurnOf l t x (λ M. close M i) n i ws a vs
+  pub close_found : (w : ℕ) → r ≡ Some w → (a : Answer) (vs : List ℕ) → TurnOf l t x (λ M. close_at M i w) n i ws a vs → TurnOf l t x (λ M. close M i) n i ws a vs
   unfolding close
   close_found w q a vs e = record { after = e.after; turn = λ S R. e.turn S R ∙ rw (looked S R, q, close) }
 

@@ -5,10 +5,10 @@
 --   init_places      the same of a word, and the search for the initialiser
 --   for_words        the tests of a for header
 -- Assumes nothing.
+use Rattle.std.specs.Prelude.{Option, None, Some}
 use mathlib.Core.Path.{◌≡◌, refl, sym, ap, ◌∙◌}
 use mathlib.Core.Bool.{Bool, true, false, ◌&&◌, ◌||◌, cond}
 use mathlib.Core.List.{List, [], ◌∷◌}
-use mathlib.Core.Option.{Option, none, some}
 use Prim.Native.Nat.{ℕ, suc, ◌+◌, ◌-◌, ◌/◌, ◌≤◌, ◌<◌}
 use native.Mathlib.Omega.{arith}
 use borrow.Author.Tests.{le-leb, lt-leb, eq-eqb, ne_eqb}
@@ -23,12 +23,8 @@ use Rattle.definitions.specs.ToFor.{is_step}
 use Rattle.definitions.specs.Passes.{lone_brace}
 use Rattle.text.proofs.Parts.{part_step, part_none}
 use Rattle.text.proofs.Loops.{position_found, position_next, position_end}
-use Rattle.pseudo_opt.specs.Places.{found}
 use Rattle.assignment.specs.Assignments.{side, assigned}
-use Rattle.pseudo_opt.specs.declared.Found.{Found}
-use Rattle.pseudo_opt.specs.declared.Found.TheVariants.{At, Nothing}
-use Rattle.assignment.specs.declared.Assigned.{Assigned}
-use Rattle.assignment.specs.declared.Assigned.TheVariants.{Side, Nothing as No}
+use Rattle.assignment.specs.declared.Side.{Side}
 use Rattle.family.specs.Register.{family_of, names_family}
 use Rattle.family.specs.declared.Register.{Register}
 use Rattle.pseudo_types.specs.Cuts.{text_from}
@@ -62,13 +58,13 @@ module _ (p : ℕ → Bool) (ws : List ℕ) (n j : ℕ) (r : Option ℕ) (inv : 
     word : b ≡ p (get_or (take n ws) j 0)
     word = e ∙ ap p (sym (get_or-take n ws j 0 h))
 
-    pub first_found : b ≡ true → some j ≡ r
+    pub first_found : b ≡ true → Some j ≡ r
     first_found f = position_found p (take n ws) j n size r inv 0 b h word f
 
     pub first_next : b ≡ false → r ≡ position_from (j + 1) p (take n ws)
     first_next f = position_next p (take n ws) j n size r inv 0 b h word f
 
-  pub first_none : n ≤ j → none ≡ r
+  pub first_none : n ≤ j → None ≡ r
   first_none h = position_end p (take n ws) j n size r inv h
 
 pub ruleset end_words = (ends_deeper, ends_label, ends_here, first_found, first_next, first_none)
@@ -99,14 +95,14 @@ pub ruleset continue_words = (continue_at, part_found, part_next, part_end)
 
 -- Initialisers
 
-no_family : (t : Token) → (t.kind ≡ 1 → ⊥) → fam_of t ≡ none
+no_family : (t : Token) → (t.kind ≡ 1 → ⊥) → fam_of t ≡ None
 unfolding fam_of
 no_family t h = rw (ne_eqb t.kind 1 h)
 
 pub names_other : (o : Option Family) (t : Token) (k : ℕ) → k ≡ t.kind → (k ≡ 1 → ⊥) → false ≡ names_family o t
 unfolding names
-names_other none t k e h = refl
-names_other (some f) t k e h = rw (no_family t (λ z. h (e ∙ z)), names)
+names_other None t k e h = refl
+names_other (Some f) t k e h = rw (no_family t (λ z. h (e ∙ z)), names)
 
 -- where the first token does not, the others do
 rest_whole : (p : Token → Bool) (ts : List Token) → p (get_or ts 0 no_token) ≡ false → any p (drop 1 ts) ≡ any p ts
@@ -114,21 +110,21 @@ unfolding any
 rest_whole p [] e = refl
 rest_whole p (t ∷ ts) e = rw e
 
-module _ (p : Token → Bool) (l : Line) (a : Assigned) (e : assigned l a ≡ assignment l) where
-  pub inits_none : a ≡ No → false ≡ inits p l
+module _ (p : Token → Bool) (l : Line) (a : Option Side) (e : assigned l a ≡ assignment l) where
+  pub inits_none : a ≡ None → false ≡ inits p l
   unfolding inits
   inits_none q = rw (← e, q, inits)
 
-  pub passes_none : a ≡ No → false ≡ passes p l
+  pub passes_none : a ≡ None → false ≡ passes p l
   unfolding passes
   passes_none q = rw (← e, q, passes)
 
-  module _ (i j : ℕ) (q : a ≡ Side i j) (b : Bool) (n : b ≡ p (token l 0)) where
+  module _ (u : Side) (q : a ≡ Some u) (b : Bool) (n : b ≡ p (token l 0)) where
     pub inits_other : b ≡ false → false ≡ inits p l
     unfolding inits
     inits_other f = rw (← e, q, inits, ← n, f)
 
-    module _ (f : b ≡ true) (c : Bool) (m : c ≡ any p (side l i j)) where
+    module _ (f : b ≡ true) (c : Bool) (m : c ≡ any p (side l u.from u.to)) where
       pub inits_reads : c ≡ true → false ≡ inits p l
       unfolding inits
       inits_reads g = rw (← e, q, inits, ← n, f, ← m, g)
@@ -149,14 +145,14 @@ module _ (p : Token → Bool) (l : Line) (a : Assigned) (e : assigned l a ≡ as
       unfolding passes
       passes_names g = rw (← e, q, passes, ← n, f, ← whole, g)
 
-      module _ (g : c ≡ false) (o : Found) (u : found o ≡ call_at l) where
-        pub passes_calls : (k : ℕ) → o ≡ At k → false ≡ passes p l
+      module _ (g : c ≡ false) (o : Option ℕ) (uc : o ≡ call_at l) where
+        pub passes_calls : (k : ℕ) → o ≡ Some k → false ≡ passes p l
         unfolding passes
-        passes_calls k t = rw (← e, q, passes, ← n, f, ← whole, g, ← u, t)
+        passes_calls k t = rw (← e, q, passes, ← n, f, ← whole, g, ← uc, t)
 
-        pub passes_is : o ≡ Nothing → true ≡ passes p l
+        pub passes_is : o ≡ None → true ≡ passes p l
         unfolding passes
-        passes_is t = rw (← e, q, passes, ← n, f, ← whole, g, ← u, t)
+        passes_is t = rw (← e, q, passes, ← n, f, ← whole, g, ← uc, t)
 
 pub ruleset init_lines = (inits_none, inits_other, inits_reads, inits_is, passes_none, passes_own, passes_names, passes_calls, passes_is)
 
@@ -177,30 +173,30 @@ module _ (C : List Line) (p : Token → Bool) (ind w : ℕ) (b : Bool) (e : b �
     passes_there g = g ∙ rw (← e, f, q)
 
 module _ (C : List Line) (p : Token → Bool) (ws : List ℕ) (ind n k : ℕ) (r : Option ℕ) (inv : r ≡ init_words C p ws ind n k) where
-  pub init_over : n ≤ 0 → none ≡ r
+  pub init_over : n ≤ 0 → None ≡ r
   unfolding init_words
   init_over h = let z : n ≡ 0 = omega arith in sym (inv ∙ rw z)
 
-  pub init_top : 0 < n → k ≡ 0 → none ≡ r
+  pub init_top : 0 < n → k ≡ 0 → None ≡ r
   unfolding init_words
   init_top h e = let z : n ≡ suc (n - 1) = omega arith in sym (inv ∙ rw (z, e))
 
   module _ (h : 0 < n) (g : k ≡ 0 → ⊥) (a : Ahead) (e : is_init a ≡ (at_indent ind (get_or ws (k - 1) 0) && inits p (source_line C (get_or ws (k - 1) 0))))
       (q : is_passing a ≡ (at_indent ind (get_or ws (k - 1) 0) && passes p (source_line C (get_or ws (k - 1) 0)))) where
-    look : r ≡ cond (is_init a) (some (k - 1)) (cond (is_passing a) (init_words C p ws ind (n - 1) (k - 1)) none)
+    look : r ≡ cond (is_init a) (Some (k - 1)) (cond (is_passing a) (init_words C p ws ind (n - 1) (k - 1)) None)
     unfolding init_words
     look =
         let y : n ≡ suc (n - 1) = omega arith in
         let z : k ≡ suc (k - 1) = omega arith in
         inv ∙ ap (λ m. init_words C p ws ind m k) y ∙ ap (init_words C p ws ind (suc (n - 1))) z ∙ rw (← e, ← q)
 
-    pub init_here : a ≡ Init → some (k - 1) ≡ r
+    pub init_here : a ≡ Init → Some (k - 1) ≡ r
     init_here f = sym (look ∙ rw f)
 
     pub init_next : a ≡ Passing → r ≡ init_words C p ws ind (n - 1) (k - 1)
     init_next f = look ∙ rw f
 
-    pub init_stop : a ≡ Other → none ≡ r
+    pub init_stop : a ≡ Other → None ≡ r
     init_stop f = sym (look ∙ rw f)
 
 pub ruleset init_places = (inits_away, passes_away, inits_there, passes_there, init_over, init_top, init_here, init_next, init_stop)
@@ -245,35 +241,35 @@ module _ (C : List Line) (ws : List ℕ) (w e : ℕ) (p : Token → Bool) (s : �
     unfolding counts_words
     counts_is g = rw (← q, ← u, f, ← v, g)
 
-both_none : (b : Bool) → ◌≡◌ {A = Option ℕ} (cond b none none) none
+both_none : (b : Bool) → ◌≡◌ {A = Option ℕ} (cond b None None) None
 both_none true = refl
 both_none false = refl
 
 module _ (C : List Line) (ws : List ℕ) (w e : ℕ) (m : Line) (r : Register) (g : family_of (token m 0).text r ≡ fam_of (token m 0)) (s : List ℕ) (q : s ≡ (token m 0).text)
-    (i : ℕ) (d : i ≡ indent_at (get_or ws w 0)) (o : Found) (v : found o ≡ init_words C (names_family (family_of s r)) ws i 4 w) where
+    (i : ℕ) (d : i ≡ indent_at (get_or ws w 0)) (o : Option ℕ) (v : o ≡ init_words C (names_family (family_of s r)) ws i 4 w) where
   same_family : family_of s r ≡ fam_of (token m 0)
   same_family = ap (λ s. family_of s r) q ∙ g
 
-  placed : found o ≡ init_words C (names_family (fam_of (token m 0))) ws (indent_at (get_or ws w 0)) 4 w
+  placed : o ≡ init_words C (names_family (fam_of (token m 0))) ws (indent_at (get_or ws w 0)) 4 w
   placed = v ∙ rw (← same_family, d)
 
-  pub counted_none : o ≡ Nothing → none ≡ counted_words C ws w e (names_family (fam_of (token m 0)))
+  pub counted_none : o ≡ None → None ≡ counted_words C ws w e (names_family (fam_of (token m 0)))
   counted_none u = sym (rw (← placed, u) (both_none (counts_words C ws w e (names_family (fam_of (token m 0))))))
 
-  module _ (k : ℕ) (u : o ≡ At k) (b : Bool) (t : b ≡ counts_words C ws w e (names_family (family_of s r))) where
-    pub counted_no : b ≡ false → none ≡ counted_words C ws w e (names_family (fam_of (token m 0)))
+  module _ (k : ℕ) (u : o ≡ Some k) (b : Bool) (t : b ≡ counts_words C ws w e (names_family (family_of s r))) where
+    pub counted_no : b ≡ false → None ≡ counted_words C ws w e (names_family (fam_of (token m 0)))
     counted_no f = rw (← same_family, ← t, f)
 
-    pub counted_is : b ≡ true → some k ≡ counted_words C ws w e (names_family (fam_of (token m 0)))
-    counted_is f = ap found (sym u) ∙ placed ∙ rw (← same_family, ← t, f)
+    pub counted_is : b ≡ true → Some k ≡ counted_words C ws w e (names_family (fam_of (token m 0)))
+    counted_is f = sym u ∙ placed ∙ rw (← same_family, ← t, f)
 
 module _ (C : List Line) (ws : List ℕ) (w e : ℕ) (b : Bool) (u : b ≡ closed_words C ws w e) where
-  pub place_open : b ≡ false → none ≡ place_words C ws w e
+  pub place_open : b ≡ false → None ≡ place_words C ws w e
   unfolding place_words
   place_open f = rw (← u, f)
 
   module _ (f : b ≡ true) (c : Bool) (v : c ≡ steps_words C (get_or ws w 0) (get_or ws (e - 1) 0)) where
-    pub place_still : c ≡ false → none ≡ place_words C ws w e
+    pub place_still : c ≡ false → None ≡ place_words C ws w e
     unfolding place_words
     place_still g = rw (← u, f, ← v, g)
 

@@ -15,8 +15,7 @@
 --   do_word C d                the line of d has the keyword do
 --   opens_words C g d          the line of g is a guard, and the line of d one indent deeper
 -- Assumes nothing.
-use Rattle.std.specs.Prelude.{if◌then◌else◌, ℕ, zero, suc, ◌+◌, ◌-◌, ◌/◌, ◌≡◌, Bool, true, false, ◌&&◌, not, List, [], eqb, leb, ltb, length, get_or, drop}
-use Rattle.std.proofs.Math.Option.{Option, none, some}
+use Rattle.std.specs.Prelude.{if◌then◌else◌, ℕ, zero, suc, ◌+◌, ◌-◌, ◌/◌, ◌≡◌, Bool, true, false, ◌&&◌, not, List, [], eqb, leb, ltb, length, get_or, drop, Option, None, Some}
 use Rattle.definitions.specs.Lists.{or_else, any, all, part, ascii}
 use Rattle.definitions.specs.Model.{Token, Line, token, line}
 use Rattle.definitions.specs.Family.{fam_of}
@@ -74,16 +73,16 @@ is_passing Passing = true
 is_passing Other = false
 
 unfoldable pub init_words : List Line → (Token → Bool) → List ℕ → ℕ → ℕ → ℕ → Option ℕ
-init_words C p ws ind zero k = none
-init_words C p ws ind (suc n) zero = none
+init_words C p ws ind zero k = None
+init_words C p ws ind (suc n) zero = None
 init_words C p ws ind (suc n) (suc k) =
     let earlier = init_words C p ws ind n k in
-    if at_indent ind (get_or ws k 0) && inits p (source_line C (get_or ws k 0)) then some k
+    if at_indent ind (get_or ws k 0) && inits p (source_line C (get_or ws k 0)) then Some k
     else if at_indent ind (get_or ws k 0) && passes p (source_line C (get_or ws k 0)) then earlier
-    else none
+    else None
 
 abbrev pub counted_words : List Line → List ℕ → ℕ → ℕ → (Token → Bool) → Option ℕ
-counted_words C ws w e p = if counts_words C ws w e p then init_words C p ws (indent_at (get_or ws w 0)) 4 w else none
+counted_words C ws w e p = if counts_words C ws w e p then init_words C p ws (indent_at (get_or ws w 0)) 4 w else None
 
 unfoldable pub place_words : List Line → List ℕ → ℕ → ℕ → Option ℕ
 place_words C ws w e =
@@ -91,7 +90,7 @@ place_words C ws w e =
     let z = get_or ws (e - 1) 0 in
     let p = names_family (fam_of (token (source_line C z) 0)) in
     let found = init_words C p ws (indent_at h) 4 w in
-    if closed_words C ws w e && (steps_words C h z && counts_words C ws w e p) then found else none
+    if closed_words C ws w e && (steps_words C h z && counts_words C ws w e p) then found else None
 
 unfoldable pub closes_words : List Line → ℕ → ℕ → ℕ → Bool
 closes_words C g c b =

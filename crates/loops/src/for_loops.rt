@@ -3,90 +3,61 @@
 ghost use Rattle.std.specs.Prelude.{◌≡◌, true, ◌&&◌, ◌+◌, ◌≤◌, ◌<◌, length, get_or, take, drop};
 ghost use Rattle.definitions.specs.Lists.{any, part, position_from};
 ghost use Rattle.definitions.specs.Model.{token, line};
-ghost use Rattle.definitions.specs.Columns.{listing};
 ghost use Rattle.definitions.specs.Questions.{question_2};
 ghost use Rattle.definitions.specs.Family.{fam_of};
+ghost use Rattle.model.specs.Listings.{listing_of};
 ghost use Rattle.family.specs.Register.{family_of, names_family};
 ghost use Rattle.line_keywords.specs.Masks.{Masks};
-ghost use Rattle.pseudo_opt.specs.Places.{found};
 ghost use Rattle.plan.specs.Plan.{header_at};
 ghost use Rattle.plan.specs.ForLoop.{inits, passes};
 ghost use Rattle.loops.specs.Turns.{ToFor};
 ghost use Rattle.loops.specs.Words.{source_line, Ready, at_indent, is_init, is_passing, ends_word, continue_word, closed_words, steps_words, counts_words, init_words, counted_words, place_words};
 
-use assignment::{Assigned, assignment};
+use assignment::assignment;
 use family::Register;
+use model::listing::Listing;
 use plan::{header, indent, make_for, source};
-use pseudo_opt::Found;
 
 // The line of w ends a block at indent `ind`: it is no deeper, and no label.
-fn ends(lines: &[u32], tokens: &[u32], text: &[u8], ind: usize, w: usize) -> bool
-    ensures { result ≡ ends_word (listing lines.now tokens.now text.now) ind w }
+fn ends(code: &Listing, ind: usize, w: usize) -> bool
+    ensures { result ≡ ends_word (listing_of code.now) ind w }
 {
-    if indent(w) <= ind {
-        if pseudo_opt::labels::is_label(lines, tokens, text, source(w)) {
-            false
-        } else {
-            true
-        }
-    } else {
-        false
-    }
+    indent(w) <= ind && !pseudo_opt::labels::is_label(code, source(w))
 }
 
 // The first of the first n lines, from place `from` on, that ends a block at indent `ind`.
-pub fn first_end(
-    lines: &[u32],
-    tokens: &[u32],
-    text: &[u8],
-    plan: &[usize],
-    n: usize,
-    from: usize,
-    ind: usize,
-) -> Found
+pub fn first_end(code: &Listing, plan: &[usize], n: usize, from: usize, ind: usize) -> Option<usize>
     requires { n ≤ length plan.now }
-    ensures { let C = listing lines.now tokens.now text.now in
-        found result ≡ position_from from (ends_word C ind) (take n plan.now) }
+    ensures { let C = listing_of code.now in
+        result ≡ position_from from (ends_word C ind) (take n plan.now) }
 {
-    let mut j = from;
-    while j < n {
+    for j in from..n {
         let w = plan[j];
-        if ends(lines, tokens, text, ind, w) {
-            return Found::At(j);
+        if ends(code, ind, w) {
+            return Some(j);
         }
-        j += 1;
     }
-    Found::Nothing
+    None
 }
 
-fn continues_at(lines: &[u32], tokens: &[u32], text: &[u8], masks: &[u8], w: usize) -> bool
-    requires { Masks (listing lines.now tokens.now text.now) masks.now }
-    ensures { result ≡ continue_word (listing lines.now tokens.now text.now) w }
+fn continues_at(code: &Listing, masks: &[u8], w: usize) -> bool
+    requires { Masks (listing_of code.now) masks.now }
+    ensures { result ≡ continue_word (listing_of code.now) w }
 {
-    line_keywords::has_continue(lines, tokens, text, masks, source(w))
+    line_keywords::has_continue(code, masks, source(w))
 }
 
 // A line from place a up to place e has the keyword continue.
-fn continues(
-    lines: &[u32],
-    tokens: &[u32],
-    text: &[u8],
-    masks: &[u8],
-    plan: &[usize],
-    a: usize,
-    e: usize,
-) -> bool
+fn continues(code: &Listing, masks: &[u8], plan: &[usize], a: usize, e: usize) -> bool
     requires e_in_bounds { e ≤ length plan.now }
-    requires masks { Masks (listing lines.now tokens.now text.now) masks.now }
-    ensures { result ≡ any (continue_word (listing lines.now tokens.now text.now)) (part a e plan.now) }
+    requires masks { Masks (listing_of code.now) masks.now }
+    ensures { result ≡ any (continue_word (listing_of code.now)) (part a e plan.now) }
 {
-    let mut j = a;
-    while j < e {
+    for j in a..e {
         let w = plan[j];
-        if continues_at(lines, tokens, text, masks, w) {
+        if continues_at(code, masks, w) {
             return true;
         }
-        j += 1;
     }
     false
 }
@@ -100,64 +71,50 @@ pub enum Ahead {
 }
 
 // Token j of line i names the family that the answer r of the text s is. Only a register is looked up.
-fn names_at(
-    lines: &[u32],
-    tokens: &[u32],
-    text: &[u8],
-    i: usize,
-    j: usize,
-    s: &[u8],
-    r: Register,
-) -> bool
-    ensures { let l = line (listing lines.now tokens.now text.now) i in
+fn names_at(code: &Listing, i: usize, j: usize, s: &[u8], r: Register) -> bool
+    ensures { let l = line (listing_of code.now) i in
         result ≡ names_family (family_of s.now r) (token l j) }
 {
-    if model::columns::kind(lines, tokens, text, i, j) == 1 {
-        pseudo_opt::registers::token_names(lines, tokens, text, i, j, s, r)
-    } else {
-        false
-    }
+    code.kind(i, j) == 1 && pseudo_opt::registers::token_names(code, i, j, s, r)
 }
 
 // A token of line i behind the first names it.
-fn rest_names(lines: &[u32], tokens: &[u32], text: &[u8], i: usize, s: &[u8], r: Register) -> bool
-    ensures { let l = line (listing lines.now tokens.now text.now) i in
+fn rest_names(code: &Listing, i: usize, s: &[u8], r: Register) -> bool
+    ensures { let l = line (listing_of code.now) i in
         result ≡ any (names_family (family_of s.now r)) (drop 1 l.tokens) }
 {
-    let n = model::columns::token_count(lines, tokens, text, i);
-    let mut j = 1;
-    while j < n {
-        if names_at(lines, tokens, text, i, j, s, r) {
+    let n = code.token_count(i);
+    for j in 1..n {
+        if names_at(code, i, j, s, r) {
             return true;
         }
-        j += 1;
     }
     false
 }
 
 // What line i is: it assigns this family, and its right side does not name it; or it assigns another, does not name this one, and does not
 // call; or neither.
-fn before(lines: &[u32], tokens: &[u32], text: &[u8], i: usize, s: &[u8], r: Register) -> Ahead
-    ensures result_value { let C = listing lines.now tokens.now text.now in
+fn before(code: &Listing, i: usize, s: &[u8], r: Register) -> Ahead
+    ensures result_value { let C = listing_of code.now in
         is_init result ≡ inits (names_family (family_of s.now r)) (line C i) }
-    ensures result_value_2 { let C = listing lines.now tokens.now text.now in
+    ensures result_value_2 { let C = listing_of code.now in
         is_passing result ≡ passes (names_family (family_of s.now r)) (line C i) }
 {
-    let Assigned::Side { from, to } = assignment(lines, tokens, text, i) else {
+    let Some(side) = assignment(code, i) else {
         return Ahead::Other;
     };
-    if pseudo_opt::registers::token_names(lines, tokens, text, i, 0, s, r) {
-        if assignment::definition::side_names(lines, tokens, text, i, from, to, s, r) {
+    if pseudo_opt::registers::token_names(code, i, 0, s, r) {
+        if assignment::definition::side_names(code, i, side.from, side.to, s, r) {
             return Ahead::Other;
         }
         return Ahead::Init;
     }
-    if rest_names(lines, tokens, text, i, s, r) {
+    if rest_names(code, i, s, r) {
         return Ahead::Other;
     }
-    match pseudo_opt::calls::call_at(lines, tokens, text, i) {
-        Found::At(_) => Ahead::Other,
-        Found::Nothing => Ahead::Passing,
+    match pseudo_opt::calls::call_at(code, i) {
+        Some(_) => Ahead::Other,
+        None => Ahead::Passing,
     }
 }
 
@@ -165,30 +122,18 @@ fn before(lines: &[u32], tokens: &[u32], text: &[u8], i: usize, s: &[u8], r: Reg
 fn at_indent(w: usize, ind: usize) -> bool
     ensures { result ≡ at_indent ind w }
 {
-    if indent(w) == ind {
-        header(w) == 0
-    } else {
-        false
-    }
+    indent(w) == ind && header(w) == 0
 }
 
 // The same of the line of w, which is neither where it does not stand at indent `ind` or is a header.
-fn before_at(
-    lines: &[u32],
-    tokens: &[u32],
-    text: &[u8],
-    w: usize,
-    ind: usize,
-    s: &[u8],
-    r: Register,
-) -> Ahead
-    ensures result_value { let C = listing lines.now tokens.now text.now in
+fn before_at(code: &Listing, w: usize, ind: usize, s: &[u8], r: Register) -> Ahead
+    ensures result_value { let C = listing_of code.now in
         is_init result ≡ (at_indent ind w && inits (names_family (family_of s.now r)) (source_line C w)) }
-    ensures result_value_2 { let C = listing lines.now tokens.now text.now in
+    ensures result_value_2 { let C = listing_of code.now in
         is_passing result ≡ (at_indent ind w && passes (names_family (family_of s.now r)) (source_line C w)) }
 {
     if at_indent(w, ind) {
-        before(lines, tokens, text, source(w), s, r)
+        before(code, source(w), s, r)
     } else {
         Ahead::Other
     }
@@ -196,79 +141,60 @@ fn before_at(
 
 // The place of the initialiser among the 4 lines before place w.
 fn initialiser(
-    lines: &[u32],
-    tokens: &[u32],
-    text: &[u8],
+    code: &Listing,
     plan: &[usize],
     w: usize,
     ind: usize,
     s: &[u8],
     r: Register,
-) -> Found
+) -> Option<usize>
     requires { w ≤ length plan.now }
-    ensures { let C = listing lines.now tokens.now text.now in
-        found result ≡ init_words C (names_family (family_of s.now r)) plan.now ind 4 w }
+    ensures { let C = listing_of code.now in
+        result ≡ init_words C (names_family (family_of s.now r)) plan.now ind 4 w }
 {
     let mut k = w;
     let mut left: usize = 4;
     while 0 < left {
         if k == 0 {
-            return Found::Nothing;
+            return None;
         }
         let v = plan[k - 1];
-        match before_at(lines, tokens, text, v, ind, s, r) {
-            Ahead::Init => return Found::At(k - 1),
+        match before_at(code, v, ind, s, r) {
+            Ahead::Init => return Some(k - 1),
             Ahead::Passing => {
                 k -= 1;
                 left -= 1;
             }
-            Ahead::Other => return Found::Nothing,
+            Ahead::Other => return None,
         }
     }
-    Found::Nothing
+    None
 }
 
 // The body of the header at place w is closed by a lone `}` at place e, at the header's indent, and is not empty.
-fn closed_body(
-    lines: &[u32],
-    tokens: &[u32],
-    text: &[u8],
-    plan: &[usize],
-    w: usize,
-    e: usize,
-) -> bool
-    requires { (w < length plan.now) × (e < length plan.now) × (question_2 lines.now tokens.now text.now ≡ true) }
-    ensures { result ≡ closed_words (listing lines.now tokens.now text.now) plan.now w e }
+fn closed_body(code: &Listing, plan: &[usize], w: usize, e: usize) -> bool
+    requires { (w < length plan.now) × (e < length plan.now) × (question_2 code.now.lines.now code.now.tokens.now code.now.text.now ≡ true) }
+    ensures { result ≡ closed_words (listing_of code.now) plan.now w e }
 {
     if e < w + 2 {
         return false;
     }
     let h = plan[w];
     let b = plan[e];
-    if indent(b) == indent(h) {
-        pseudo_types::texts::is_brace(lines, tokens, text, source(b))
-    } else {
-        false
-    }
+    indent(b) == indent(h) && pseudo_types::texts::is_brace(code, source(b))
 }
 
 // The line of z stands one deeper than the header h and steps its first token.
-fn steps(lines: &[u32], tokens: &[u32], text: &[u8], h: usize, z: usize) -> bool
-    requires { question_2 lines.now tokens.now text.now ≡ true }
-    ensures { result ≡ steps_words (listing lines.now tokens.now text.now) h z }
+fn steps(code: &Listing, h: usize, z: usize) -> bool
+    requires { question_2 code.now.lines.now code.now.tokens.now code.now.text.now ≡ true }
+    ensures { result ≡ steps_words (listing_of code.now) h z }
 {
-    if indent(z) == indent(h) + 1 {
-        pseudo_types::texts::is_step(lines, tokens, text, source(z))
-    } else {
-        false
-    }
+    indent(z) == indent(h) + 1 && pseudo_types::texts::is_step(code, source(z))
 }
 
 // The condition of the header at place w names the family that the answer r of the text s is, and no line of its body has continue.
 fn counts(
-    lines: &[u32],
-    tokens: &[u32],
-    text: &[u8],
+    code: &Listing,
     masks: &[u8],
     plan: &[usize],
     w: usize,
@@ -277,100 +203,73 @@ fn counts(
     r: Register,
 ) -> bool
     requires w_in_bounds { (w < length plan.now) × (e < length plan.now) }
-    requires masks { Masks (listing lines.now tokens.now text.now) masks.now }
-    ensures { let C = listing lines.now tokens.now text.now in
+    requires masks { Masks (listing_of code.now) masks.now }
+    ensures { let C = listing_of code.now in
         result ≡ counts_words C plan.now w e (names_family (family_of s.now r)) }
 {
     let h = plan[w];
-    if pseudo_types::conditions::condition_names(lines, tokens, text, source(h), s, r) {
-        if continues(lines, tokens, text, masks, plan, w + 1, e) {
-            false
-        } else {
-            true
-        }
-    } else {
-        false
-    }
+    pseudo_types::conditions::condition_names(code, source(h), s, r)
+        && !continues(code, masks, plan, w + 1, e)
 }
 
 // The place of the initialiser of the register that line i steps, where the header at place w counts it. The initialiser is asked for first:
 // it stands among four lines, and `counts` looks through the whole body.
 fn counted_place(
-    lines: &[u32],
-    tokens: &[u32],
-    text: &[u8],
+    code: &Listing,
     masks: &[u8],
     plan: &[usize],
     w: usize,
     e: usize,
     i: usize,
-) -> Found
+) -> Option<usize>
     requires w_in_bounds { (w < length plan.now) × (e < length plan.now) }
-    requires masks { Masks (listing lines.now tokens.now text.now) masks.now }
-    ensures { let C = listing lines.now tokens.now text.now in
+    requires masks { Masks (listing_of code.now) masks.now }
+    ensures { let C = listing_of code.now in
         let p = names_family (fam_of (token (line C i) 0)) in
-        found result ≡ counted_words C plan.now w e p }
+        result ≡ counted_words C plan.now w e p }
 {
-    let r = pseudo_opt::registers::register_at(lines, tokens, text, i, 0);
-    let s = model::columns::text_at(lines, tokens, text, i, 0);
+    let r = pseudo_opt::registers::register_at(code, i, 0);
+    let s = code.text_at(i, 0);
     let h = plan[w];
-    let Found::At(k) = initialiser(lines, tokens, text, plan, w, indent(h), s, r) else {
-        return Found::Nothing;
-    };
-    if counts(lines, tokens, text, masks, plan, w, e, s, r) {
-        Found::At(k)
+    let k = initialiser(code, plan, w, indent(h), s, r)?;
+    if counts(code, masks, plan, w, e, s, r) {
+        Some(k)
     } else {
-        Found::Nothing
+        None
     }
 }
 
 // The place of the initialiser, where the header at place w, whose body is closed at place e, becomes a for header.
-fn for_place(
-    lines: &[u32],
-    tokens: &[u32],
-    text: &[u8],
-    masks: &[u8],
-    plan: &[usize],
-    w: usize,
-    e: usize,
-) -> Found
-    requires w_in_bounds { (w < length plan.now) × (e < length plan.now) × (question_2 lines.now tokens.now text.now ≡ true) × (w < e) }
-    requires masks { Masks (listing lines.now tokens.now text.now) masks.now }
-    ensures { found result ≡ place_words (listing lines.now tokens.now text.now) plan.now w e }
+fn for_place(code: &Listing, masks: &[u8], plan: &[usize], w: usize, e: usize) -> Option<usize>
+    requires w_in_bounds { (w < length plan.now) × (e < length plan.now) × (question_2 code.now.lines.now code.now.tokens.now code.now.text.now ≡ true) × (w < e) }
+    requires masks { Masks (listing_of code.now) masks.now }
+    ensures { result ≡ place_words (listing_of code.now) plan.now w e }
 {
-    if closed_body(lines, tokens, text, plan, w, e) {
+    if closed_body(code, plan, w, e) {
         let h = plan[w];
         let z = plan[e - 1];
-        if steps(lines, tokens, text, h, z) {
-            return counted_place(lines, tokens, text, masks, plan, w, e, source(z));
+        if steps(code, h, z) {
+            return counted_place(code, masks, plan, w, e, source(z));
         }
     }
-    Found::Nothing
+    None
 }
 
 // The while header at place w becomes a for header, where its conditions hold; answers how many lines there are then.
-pub fn to_for(
-    lines: &[u32],
-    tokens: &[u32],
-    text: &[u8],
-    masks: &[u8],
-    plan: &mut [usize],
-    n: usize,
-    w: usize,
-) -> usize
-    requires w_lt_n { (w < n) × (n ≤ length plan.old) × (question_2 lines.now tokens.now text.now ≡ true) }
+pub fn to_for(code: &Listing, masks: &[u8], plan: &mut [usize], n: usize, w: usize) -> usize
+    requires w_lt_n { (w < n) × (n ≤ length plan.old) × (question_2 code.now.lines.now code.now.tokens.now code.now.text.now ≡ true) }
     requires w_value { (header_at (get_or plan.old w 0) ≡ 1) × Ready (w + 1) (take n plan.old) }
-    requires masks { Masks (listing lines.now tokens.now text.now) masks.now }
-    ensures { ToFor lines.now tokens.now text.now w n plan.old result plan.new }
+    requires masks { Masks (listing_of code.now) masks.now }
+    ensures { ToFor code.now.lines.now code.now.tokens.now code.now.text.now w n plan.old result plan.new }
 {
     if w == 0 {
         return n;
     }
     let h = plan[w];
-    let Found::At(e) = first_end(lines, tokens, text, plan, n, w + 1, indent(h)) else {
+    let Some(e) = first_end(code, plan, n, w + 1, indent(h)) else {
         return n;
     };
-    let Found::At(k) = for_place(lines, tokens, text, masks, plan, w, e) else {
+    let Some(k) = for_place(code, masks, plan, w, e) else {
         return n;
     };
     make_for(plan, n, w, e, k);

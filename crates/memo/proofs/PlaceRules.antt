@@ -3,11 +3,11 @@
 --   token_register, token_other                     `token_place`
 --   token_known                                     `known_place`
 -- Assumes nothing.
+use Rattle.std.specs.Prelude.{Option, None, Some}
 use Prim.Native.Nat.{ℕ, suc, ◌+◌}
 use mathlib.Core.Path.{◌≡◌, refl, sym, ap, ◌∙◌}
 use mathlib.Core.Bool.{Bool, true, false}
 use mathlib.Core.List.{List}
-use mathlib.Core.Option.{Option, none, some}
 use native.Mathlib.Numerals.{add-one}
 use native.Mathlib.Omega.{arith}
 use borrow.Author.Tests.{eq-eqb, ne_eqb}
@@ -34,15 +34,15 @@ module _ (L : List Line) (count : ℕ) (table : List ℕ) (F : Finds L count tab
   register_some c b e = rw (← q) (go (family_of s r) (sym (a s) ∙ b) (e ∙ ap (λ (fs : List (List ℕ)). place_of fs (family_of s r)) (take_all count (defined_families L) (omega (arith, F.all)))))
     where
       go : (o : Option Family) → is_some o ≡ true → c ≡ place_of (defined_families L) o → c + 1 ≡ found (defined_families L) o
-      go none n e = clash n refl
-      go (some x) n e = add-one c ∙ ap suc e
+      go None n e = clash n refl
+      go (Some x) n e = add-one c ∙ ap suc e
 
   pub register_none : y ≡ false → 0 ≡ found (defined_families L) (family s)
   register_none b = rw (← q) (go (family_of s r) (sym (a s) ∙ b))
     where
       go : (o : Option Family) → is_some o ≡ false → 0 ≡ found (defined_families L) o
-      go none n = refl
-      go (some x) n = clash refl n
+      go None n = refl
+      go (Some x) n = clash refl n
 
 pub register_fits : (L : List Line) (count : ℕ) (table : List ℕ) → Finds L count table → (s : List ℕ) (r : Register) (c : ℕ) → c ≡ place_of (take count (defined_families L)) (family_of s r) → Fits w64 (c + 1)
 register_fits L count table F s r c e = record { fits = omega (arith, found_few L count table F s r c e) }

@@ -8,9 +8,9 @@
 --   address_line_past, address_past, address_here, address_missing    the address of a line
 --   access                                 the rules
 -- Assumes nothing.
+use Rattle.std.specs.Prelude.{None, Some}
 use mathlib.Core.Path.{◌≡◌, sym, ap}
 use mathlib.Core.List.{List, []}
-use mathlib.Core.Option.{none, some}
 use Prim.Native.Nat.{ℕ, ◌+◌, ◌-◌, ◌/◌, ◌%◌, ◌≤◌, ◌<◌}
 use native.Mathlib.Omega.{arith}
 use borrow.Author.Tests.{eq-eqb, ne_eqb}
@@ -84,21 +84,21 @@ pub word_past : (ws : List ℕ) (k : ℕ) → length ws ≤ k → 0 ≡ get_or w
 word_past ws k h = sym (get_or-eq_default ws 0 h)
 
 module _ (l a t x : List ℕ) (i : ℕ) where
-  address_none : length (with_addresses l a (listing l t x)) ≤ i → none ≡ (line (with_addresses l a (listing l t x)) i).address
+  address_none : length (with_addresses l a (listing l t x)) ≤ i → None ≡ (line (with_addresses l a (listing l t x)) i).address
   address_none h = sym (ap (λ (m : Line). m.address) (get_or-eq_default (with_addresses l a (listing l t x)) no_line h))
 
-  pub address_line_past : length l ≤ i → none ≡ (line (with_addresses l a (listing l t x)) i).address
+  pub address_line_past : length l ≤ i → None ≡ (line (with_addresses l a (listing l t x)) i).address
   address_line_past h = address_none (omega (arith, length_addresses l a (listing l t x), length_listing l t x))
 
-  pub address_past : length a ≤ i → none ≡ (line (with_addresses l a (listing l t x)) i).address
+  pub address_past : length a ≤ i → None ≡ (line (with_addresses l a (listing l t x)) i).address
   address_past h = address_none (omega (arith, length_addresses l a (listing l t x), length_listing l t x))
 
   module _ (w : ℕ) (q : w ≡ get_or l i 0) (h : i < length l) (k : i < length a) where
-    pub address_here : (v : ℕ) → v ≡ get_or a i 0 → w / 256 % 2 ≡ 1 → some v ≡ (line (with_addresses l a (listing l t x)) i).address
+    pub address_here : (v : ℕ) → v ≡ get_or a i 0 → w / 256 % 2 ≡ 1 → Some v ≡ (line (with_addresses l a (listing l t x)) i).address
     address_here v e f =
         rw (e, address_at l a (listing l t x) i h k (rw length_listing h), ← q, eq-eqb (w / 256 % 2) 1 f)
 
-    pub address_missing : (w / 256 % 2 ≡ 1 → ⊥) → none ≡ (line (with_addresses l a (listing l t x)) i).address
+    pub address_missing : (w / 256 % 2 ≡ 1 → ⊥) → None ≡ (line (with_addresses l a (listing l t x)) i).address
     address_missing f =
         rw (address_at l a (listing l t x) i h k (rw length_listing h), ← q, ne_eqb (w / 256 % 2) 1 f)
 

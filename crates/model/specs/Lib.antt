@@ -1,2 +1,2 @@
+pub mod Listings
 pub mod Places
-pub mod Addresses

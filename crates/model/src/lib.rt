@@ -2,6 +2,7 @@
 //
 // The columns and the listing that they stand for: Rattle.definitions.specs.Columns. Only this crate sees how a word is made.
 
-#![tactic(auto)]
+#![tactic(auto, using(crate::proofs::Access::access))]
 
-pub mod columns;
+mod columns;
+pub mod listing;

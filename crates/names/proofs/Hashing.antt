@@ -1,12 +1,11 @@
 -- Rules for the functions over a name's hash.
 --   square_small, square_fits, product_small    the products fit
---   hash_next, hash_rest, hash_end  the loop of `hashed`
+--   hash_next, hash_none, hash_one, hash_two, hash_rest    `hashed`: four bytes, and what is left behind the last four
 --   hash_is                         `hash`
 --   hash_three                      the hash of three bytes
 -- Assumes nothing.
-use Rattle.std.proofs.Common.{◌≡◌, ℕ, ◌+◌, ◌-◌, ◌*◌, ◌<◌, ◌≤◌, List, [], ◌∷◌, length, get_or, drop, sym, refl, ap, ◌∙◌, add-zero, mul-le-mul, arith, length-drop, get_or-drop, drop-drop}
-use Rattle.definitions.specs.Lists.{part}
-use Rattle.text.proofs.Parts.{drop_end, part_tail}
+use Rattle.std.proofs.Common.{◌≡◌, ℕ, ◌-◌, ◌*◌, ◌<◌, ◌≤◌, List, [], ◌∷◌, length, get_or, take, drop, sym, refl, ap, ◌∙◌, mul-le-mul, arith, length-drop}
+use lib.Seq.{take_all}
 use Rattle.names.specs.Hash.{factor, mix, packed, hashed, spread, hash}
 
 pub square_small : (x : ℕ) → x < 131072 → x * x < 17179869184
@@ -20,46 +19,64 @@ product_small x f a b =
     let q : x * f ≤ 38654705663 * 268435455 = mul-le-mul {n₂ = 38654705663} {m₂ = 268435455} (omega arith) (omega arith) in
     omega arith
 
--- four bytes at once
-four_more : (f h : ℕ) (l : List ℕ) → 4 ≤ length l → hashed f h l ≡ hashed f (mix f h (packed (get_or l 0 0) (get_or l 1 0) (get_or l 2 0) (get_or l 3 0))) (drop 4 l)
-unfolding hashed
-four_more f h [] g = absurd (omega arith)
-four_more f h (a ∷ []) g = absurd (omega arith)
-four_more f h (a ∷ b ∷ []) g = absurd (omega arith)
-four_more f h (a ∷ b ∷ c ∷ []) g = absurd (omega arith)
-four_more f h (a ∷ b ∷ c ∷ d ∷ l) g = refl
-
--- the last one, two or three
-few_more : (f h : ℕ) (l : List ℕ) → 0 < length l → length l < 4 → hashed f h l ≡ mix f h (packed (get_or l 0 0) (get_or l 1 0) (get_or l 2 0) 0)
-unfolding hashed
-few_more f h [] g k = absurd (omega arith)
-few_more f h (a ∷ []) g k = refl
-few_more f h (a ∷ b ∷ []) g k = refl
-few_more f h (a ∷ b ∷ c ∷ []) g k = refl
-few_more f h (a ∷ b ∷ c ∷ d ∷ l) g k = absurd (omega arith)
-
-module _ (f h i : ℕ) (s : List ℕ) (inv : hashed f h (drop i s) ≡ hashed f 1 s) where
-  pub hash_next : (w v : ℕ) → 4 ≤ length s - i → w ≡ packed (get_or s i 0) (get_or s (i + 1) 0) (get_or s (i + 2) 0) (get_or s (i + 3) 0) → v ≡ mix f h w → hashed f v (drop (i + 4) s) ≡ hashed f 1 s
-  hash_next w v g e q =
-      let l : 4 ≤ length (drop i s) = rw length-drop (omega arith) in
-      rw (q, e) (rw (get_or-drop i s 0 0, get_or-drop i s 1 0, get_or-drop i s 2 0, get_or-drop i s 3 0, drop-drop 4 i s, add-zero i) at (sym (four_more f h (drop i s) l) ∙ inv))
-
-  pub hash_rest : (w v : ℕ) → i < length s → length s - i < 4 → w ≡ packed (get_or (part i (length s) s) 0 0) (get_or (part i (length s) s) 1 0) (get_or (part i (length s) s) 2 0) 0 → v ≡ mix f h w → v ≡ hashed f 1 s
-  hash_rest w v g k e q =
-      let a : 0 < length (drop i s) = rw length-drop (omega arith) in
-      let b : length (drop i s) < 4 = rw length-drop (omega arith) in
-      q ∙ rw e (rw (part_tail s i) (sym (few_more f h (drop i s) a b) ∙ inv))
-
-  pub hash_end : length s ≤ i → h ≡ hashed f 1 s
+-- t is the whole: the number h, gone on with what is left, l
+module _ (f h t : ℕ) (l : List ℕ) (inv : hashed f h l ≡ t) where
+  pub hash_next : (p v : ℕ) → 4 ≤ length l → p ≡ packed (get_or l 0 0) (get_or l 1 0) (get_or l 2 0) (get_or l 3 0) → v ≡ mix f h p → hashed f v (take (length l - 4) (drop 4 l)) ≡ t
   unfolding hashed
-  hash_end g = rw (drop_end s i g) at inv
+  hash_next p v g e q = rw (take_all (length l - 4) (drop 4 l) (rw length-drop (omega arith)), q, e) (sym (four l g) ∙ inv)
+    where
+      four : (l : List ℕ) → 4 ≤ length l → hashed f h l ≡ hashed f (mix f h (packed (get_or l 0 0) (get_or l 1 0) (get_or l 2 0) (get_or l 3 0))) (drop 4 l)
+      four [] g = absurd (omega arith)
+      four (a ∷ []) g = absurd (omega arith)
+      four (a ∷ b ∷ []) g = absurd (omega arith)
+      four (a ∷ b ∷ c ∷ []) g = absurd (omega arith)
+      four (a ∷ b ∷ c ∷ d ∷ l) g = refl
+
+  pub hash_none : length l < 1 → h ≡ t
+  unfolding hashed
+  hash_none g = none l g ∙ inv
+    where
+      none : (l : List ℕ) → length l < 1 → h ≡ hashed f h l
+      none [] g = refl
+      none (a ∷ l) g = absurd (omega arith)
+
+  module _ (p v : ℕ) (q : v ≡ mix f h p) where
+    pub hash_one : 1 ≤ length l → length l < 2 → p ≡ packed (get_or l 0 0) 0 0 0 → v ≡ t
+    unfolding hashed
+    hash_one g k e = q ∙ rw e (one l g k ∙ inv)
+      where
+        one : (l : List ℕ) → 1 ≤ length l → length l < 2 → mix f h (packed (get_or l 0 0) 0 0 0) ≡ hashed f h l
+        one [] g k = absurd (omega arith)
+        one (a ∷ []) g k = refl
+        one (a ∷ b ∷ l) g k = absurd (omega arith)
+
+    pub hash_two : 2 ≤ length l → length l < 3 → p ≡ packed (get_or l 0 0) (get_or l 1 0) 0 0 → v ≡ t
+    unfolding hashed
+    hash_two g k e = q ∙ rw e (two l g k ∙ inv)
+      where
+        two : (l : List ℕ) → 2 ≤ length l → length l < 3 → mix f h (packed (get_or l 0 0) (get_or l 1 0) 0 0) ≡ hashed f h l
+        two [] g k = absurd (omega arith)
+        two (a ∷ []) g k = absurd (omega arith)
+        two (a ∷ b ∷ []) g k = refl
+        two (a ∷ b ∷ c ∷ l) g k = absurd (omega arith)
+
+    pub hash_rest : 3 ≤ length l → length l < 4 → p ≡ packed (get_or l 0 0) (get_or l 1 0) (get_or l 2 0) 0 → v ≡ t
+    unfolding hashed
+    hash_rest g k e = q ∙ rw e (three l g k ∙ inv)
+      where
+        three : (l : List ℕ) → 3 ≤ length l → length l < 4 → mix f h (packed (get_or l 0 0) (get_or l 1 0) (get_or l 2 0) 0) ≡ hashed f h l
+        three [] g k = absurd (omega arith)
+        three (a ∷ []) g k = absurd (omega arith)
+        three (a ∷ b ∷ []) g k = absurd (omega arith)
+        three (a ∷ b ∷ c ∷ []) g k = refl
+        three (a ∷ b ∷ c ∷ d ∷ l) g k = absurd (omega arith)
 
 pub hash_is : (m f h v : ℕ) (s : List ℕ) → f ≡ factor m → h ≡ hashed f 1 s → v ≡ spread h → v ≡ hash m s
 unfolding hash
 hash_is m f h v s e g q = q ∙ rw (g, e)
 
-pub hash_three : (m f a b c x y z h v : ℕ) → f ≡ factor m → x ≡ a → y ≡ b → z ≡ c → h ≡ mix f 1 (x + 256 * y + 65536 * z) → v ≡ spread h → v ≡ hash m (a ∷ b ∷ c ∷ [])
+pub hash_three : (m f a b c p h v : ℕ) → f ≡ factor m → p ≡ packed a b c 0 → h ≡ mix f 1 p → v ≡ spread h → v ≡ hash m (a ∷ b ∷ c ∷ [])
 unfolding hash hashed
-hash_three m f a b c x y z h v e p q r g w = w ∙ ap spread (rw (← e, ← p, ← q, ← r, add-zero) g)
+hash_three m f a b c p h v e q g w = w ∙ ap spread (rw (← e, ← q) g)
 
-pub ruleset hashing = (hash_next, hash_rest, hash_end, hash_is, hash_three)
+pub ruleset hashing = (hash_next, hash_none, hash_one, hash_two, hash_rest, hash_is, hash_three)

@@ -7,18 +7,16 @@
 
 #![tactic(auto)]
 
-ghost use Rattle.std.specs.Prelude.{◌≡◌, ◌+◌, ◌<◌, ◌≤◌, [], ◌∷◌, length, slice_index};
+ghost use Rattle.std.specs.Prelude.{◌≡◌, ◌<◌, [], ◌∷◌};
 ghost use Rattle.names.specs.Hash.{factor, mix, packed, hashed, spread, hash};
 
 mod siphash;
-
-use text::{byte, wide_byte};
 
 // The factor of a multiplier: never small, and not linear in the multiplier.
 fn factor(m: u16) -> usize
     ensures { (result ≡ factor m) × (result < 268435456) }
 {
-    let x = m as usize + 65536;
+    let x = usize::from(m) + 65536;
     x * x / 64
 }
 
@@ -31,22 +29,11 @@ fn mix(f: usize, h: usize, c: usize) -> usize
     x % 8589934592 + 9 * (x / 8589934592)
 }
 
-// The four bytes from i on as one number.
-fn four(s: &[u8], i: usize) -> usize
-    requires { i + 4 ≤ length s.now }
-    ensures { (let l = s.now in result ≡ packed (slice_index l i) (slice_index l (i + 1)) (slice_index l (i + 2)) (slice_index l (i + 3))) × (result < 4294967296) }
+// Four bytes as one number.
+fn packed(a: u8, b: u8, c: u8, d: u8) -> usize
+    ensures { (result ≡ packed a b c d) × (result < 4294967296) }
 {
-    wide_byte(s[i])
-        + 256 * wide_byte(s[i + 1])
-        + 65536 * wide_byte(s[i + 2])
-        + 16777216 * wide_byte(s[i + 3])
-}
-
-// The first three bytes as one number.
-fn three(s: &[u8]) -> usize
-    ensures { (let l = s.now in result ≡ packed (slice_index l 0) (slice_index l 1) (slice_index l 2) 0) × (result < 4294967296) }
-{
-    byte(s, 0) + 256 * byte(s, 1) + 65536 * byte(s, 2)
+    u32::from_le_bytes([a, b, c, d]) as usize
 }
 
 // The polynomial of the name s in the factor f.
@@ -55,15 +42,17 @@ fn hashed(f: usize, s: &[u8]) -> usize
     ensures { result ≡ hashed f 1 s.now }
 {
     let mut h = 1;
-    let mut i = 0;
-    while 4 <= s.len() - i {
-        h = mix(f, h, four(s, i));
-        i += 4;
+    let mut rest = s;
+    while let [a, b, c, d, more @ ..] = rest {
+        h = mix(f, h, packed(*a, *b, *c, *d));
+        rest = more;
     }
-    if i < s.len() {
-        return mix(f, h, three(&s[i..]));
+    match rest {
+        [] => h,
+        [a] => mix(f, h, packed(*a, 0, 0, 0)),
+        [a, b] => mix(f, h, packed(*a, *b, 0, 0)),
+        [a, b, c, ..] => mix(f, h, packed(*a, *b, *c, 0)),
     }
-    h
 }
 
 // The square of the lower 32 bits, without its lower 16.
@@ -85,14 +74,10 @@ pub fn hash(m: u16, s: &[u8]) -> usize
 pub fn short_hash(m: u16, a: u8, b: u8, c: u8) -> usize
     ensures { result ≡ hash m (a ∷ b ∷ c ∷ []) }
 {
-    spread(mix(
-        factor(m),
-        1,
-        wide_byte(a) + 256 * wide_byte(b) + 65536 * wide_byte(c),
-    ))
+    spread(mix(factor(m), 1, packed(a, b, c, 0)))
 }
 
 // The multiplier after m: drawn from the text, so that whoever chooses names against it has to know the whole text. No contract depends on it.
 pub fn next(m: u16, text: &[u8]) -> u16 {
-    (siphash::hash(m as u64, text) % 65536) as u16
+    (siphash::hash(u64::from(m), text) % 65536) as u16
 }

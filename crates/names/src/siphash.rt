@@ -1,9 +1,5 @@
 // SipHash-1-3 of a text, the hash of Rust's own maps. Nothing is promised of it.
-ghost use Rattle.std.specs.Prelude.{◌+◌, ◌<◌, ◌≤◌, length};
-
-use std::num::wrapping_add_u64;
-
-#[derive(Drop)]
+#[derive(Clone, Copy)]
 pub struct State {
     pub a: u64,
     pub b: u64,
@@ -11,79 +7,38 @@ pub struct State {
     pub d: u64,
 }
 
-fn rotated(x: u64, k: u64) -> u64
-    requires { (0 < k) × (k < 64) }
-{
-    (x << k) | (x >> (64 - k))
-}
-
 fn round(s: State) -> State {
-    let a = wrapping_add_u64(s.a, s.b);
-    let c = wrapping_add_u64(s.c, s.d);
-    let b = rotated(s.b, 13) ^ a;
-    let d = rotated(s.d, 16) ^ c;
-    let e = wrapping_add_u64(rotated(a, 32), d);
-    let f = wrapping_add_u64(c, b);
+    let a = s.a.wrapping_add(s.b);
+    let c = s.c.wrapping_add(s.d);
+    let b = s.b.rotate_left(13) ^ a;
+    let d = s.d.rotate_left(16) ^ c;
+    let e = a.rotate_left(32).wrapping_add(d);
+    let f = c.wrapping_add(b);
     State {
         a: e,
-        b: rotated(b, 17) ^ f,
-        c: rotated(f, 32),
-        d: rotated(d, 21) ^ e,
+        b: b.rotate_left(17) ^ f,
+        c: f.rotate_left(32),
+        d: d.rotate_left(21) ^ e,
     }
 }
 
 // Eight bytes of the text more.
 fn absorbed(s: State, w: u64) -> State {
-    let t = round(State {
-        a: s.a,
-        b: s.b,
-        c: s.c,
-        d: s.d ^ w,
-    });
-    State {
-        a: t.a ^ w,
-        b: t.b,
-        c: t.c,
-        d: t.d,
-    }
-}
-
-fn wide(b: u8) -> u64 {
-    b as u64
-}
-
-// The eight bytes from i on.
-fn block(s: &[u8], i: usize) -> u64
-    requires { i + 8 ≤ length s.now }
-{
-    let low = wide(s[i]) | (wide(s[i + 1]) << 8) | (wide(s[i + 2]) << 16) | (wide(s[i + 3]) << 24);
-    let high = wide(s[i + 4])
-        | (wide(s[i + 5]) << 8)
-        | (wide(s[i + 6]) << 16)
-        | (wide(s[i + 7]) << 24);
-    low | (high << 32)
+    let t = round(State { d: s.d ^ w, ..s });
+    State { a: t.a ^ w, ..t }
 }
 
 // At most seven bytes, and the length of the text.
 fn last(s: &[u8], length: usize) -> u64 {
-    let mut w = ((length % 256) as u64) << 56;
-    let mut k = 0;
-    while k < 7 {
-        if k < s.len() {
-            w = w | (wide(s[k]) << (k * 8));
-        }
-        k += 1;
+    let mut w = (length as u64) << 56;
+    for (k, b) in s.iter().take(7).enumerate() {
+        w |= u64::from(*b) << (k * 8);
     }
     w
 }
 
 fn finished(s: State) -> u64 {
-    let t = round(round(round(State {
-        a: s.a,
-        b: s.b,
-        c: s.c ^ 255,
-        d: s.d,
-    })));
+    let t = round(round(round(State { c: s.c ^ 255, ..s })));
     t.a ^ t.b ^ t.c ^ t.d
 }
 
@@ -95,10 +50,9 @@ pub fn hash(key: u64, text: &[u8]) -> u64 {
         c: key ^ 0x6c7967656e657261,
         d: 0x7465646279746573,
     };
-    let mut i = 0;
-    while 8 <= text.len() - i {
-        s = absorbed(s, block(text, i));
-        i += 8;
+    let (blocks, rest) = text.as_chunks();
+    for block in blocks {
+        s = absorbed(s, u64::from_le_bytes(*block));
     }
-    finished(absorbed(s, last(&text[i..], text.len())))
+    finished(absorbed(s, last(rest, text.len())))
 }

@@ -5,11 +5,11 @@
 --   tokens_start, tokens_next          the loop over them
 --   adds_flip, adds_around             the negation, by the answer
 -- Assumes nothing.
+use Rattle.std.specs.Prelude.{Option, None, Some}
+use Rattle.std.specs.Option.{option_map}
 use mathlib.Core.Path.{◌≡◌, refl, sym, ap, ap₂, ◌∙◌}
 use mathlib.Core.Bool.{true}
 use mathlib.Core.List.{List, [], ◌∷◌, ◌++◌, map, append-nil, append_assoc}
-use mathlib.Core.Option
-use mathlib.Core.Option.{Option, none, some}
 use Prim.Native.Nat.{ℕ, zero, suc, ◌+◌, ◌<◌}
 use native.Mathlib.Nat.{sub-zero, add-zero, zero-add, add-suc, suc-add}
 use native.Mathlib.Numerals.{add-one}
@@ -51,10 +51,10 @@ flip_pieces : (s : List ℕ) (k p b w : ℕ) → tok (take b s ++ (flipped w ++ 
 unfolding flipped width
 flip_pieces s k p b w = go (numbered w)
   where
-    go : (x : Option Comparison) → tok (take b s ++ (or_else (Option.map (λ y. y.flipped) x) [] ++ drop (or_else (Option.map (λ y. length y.op) x) 0) (drop b s))) k
-        ≡ flip_some (Option.map (found_in p b) x) (tok s k)
-    go none = ap (λ (u : List ℕ). tok u k) (take-append-drop b s)
-    go (some y) = ap (λ (u : List ℕ). tok (take b s ++ (y.flipped ++ u)) k) (drop-drop (length y.op) b s)
+    go : (x : Option Comparison) → tok (take b s ++ (or_else (option_map (λ y. y.flipped) x) [] ++ drop (or_else (option_map (λ y. length y.op) x) 0) (drop b s))) k
+        ≡ flip_some (option_map (found_in p b) x) (tok s k)
+    go None = ap (λ (u : List ℕ). tok u k) (take-append-drop b s)
+    go (Some y) = ap (λ (u : List ℕ). tok (take b s ++ (y.flipped ++ u)) k) (drop-drop (length y.op) b s)
 
 module _ {o o1 o2 o3 o4 : Columns} {c c1 c2 c3 c4 : Cursor} where
   three_pieces : (A B C : List ℕ) (k : ℕ) → Writes (add_bytes A) o c o1 c1 → Writes (add_bytes B) o1 c1 o2 c2 → Writes (add_bytes C) o2 c2 o3 c3
@@ -90,9 +90,9 @@ range_snoc k = rw add-one (range_more 0 k ∙ rw (zero-add k))
 flip_place : (p b w : ℕ) (t : Token) → flip_some (found_at 0 b w) t ≡ flip_some (found_at p b w) t
 flip_place p b w t = go (numbered w)
   where
-    go : (x : Option Comparison) → flip_some (Option.map (found_in 0 b) x) t ≡ flip_some (Option.map (found_in p b) x) t
-    go none = refl
-    go (some y) = refl
+    go : (x : Option Comparison) → flip_some (option_map (found_in 0 b) x) t ≡ flip_some (option_map (found_in p b) x) t
+    go None = refl
+    go (Some y) = refl
 
 flip_filled : (b w : ℕ) (t : Token) → w < 6 → length (flip_some (found_at 0 b w) t).text ≡ 0 → ⊥
 flip_filled b w t h e =

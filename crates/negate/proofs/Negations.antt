@@ -3,11 +3,11 @@
 --   negation_only          one comparison, which is flipped
 --   negation_count, negation_none    another number of comparisons, or none: `!(..)`
 -- Assumes nothing.
+use Rattle.std.specs.Prelude.{None, Some}
+use Rattle.std.specs.Option.{option_map}
 use mathlib.Core.Path.{◌≡◌, refl, sym, ap, ap₂, ◌∙◌}
 use mathlib.Core.Bool.{Bool, true, false, not, cond}
 use mathlib.Core.List.{List, [], ◌∷◌, ◌++◌, map}
-use mathlib.Core.Option
-use mathlib.Core.Option.{none, some}
 use Prim.Native.Nat.{ℕ, zero, suc, ◌+◌, ◌≤◌, ◌<◌}
 use native.Mathlib.Nat.{add-zero, zero-add, sub-zero}
 use native.Mathlib.Omega.{arith}
@@ -37,44 +37,44 @@ use Rattle.negate.proofs.Places.{moved, relabelled, kept_place, scan_kept, kept_
 filled : (s : List ℕ) → 1 ≤ length s → not (s ≟ []) ≡ true
 filled s h = ap not (≟_length s [] (λ e. omega arith))
 
-nothing_starts : comparison_in [] ≡ none
+nothing_starts : comparison_in [] ≡ None
 unfolding find comparisons starts_with
 nothing_starts = refl
 
 -- The only comparison of the tokens that are not empty
 
 module _ (U : List Token) where
-  only_kept : only_comparison (scan 0 (whole U) nothing_seen) ≡ Option.map (moved (kept_place U)) (only_comparison (scan 0 U nothing_seen))
+  only_kept : only_comparison (scan 0 (whole U) nothing_seen) ≡ option_map (moved (kept_place U)) (only_comparison (scan 0 U nothing_seen))
   unfolding only_comparison relabelled
   only_kept = rw (scan_kept U) (go (eqb (scan 0 U nothing_seen).count 1))
     where
-      go : (b : Bool) → cond b (Option.map (moved (kept_place U)) (scan 0 U nothing_seen).found) none
-          ≡ Option.map (moved (kept_place U)) (cond b (scan 0 U nothing_seen).found none)
+      go : (b : Bool) → cond b (option_map (moved (kept_place U)) (scan 0 U nothing_seen).found) None
+          ≡ option_map (moved (kept_place U)) (cond b (scan 0 U nothing_seen).found None)
       go true = refl
       go false = refl
 
 module _ (c : List Token) where
-  when_some : (f : Found) → only_comparison (scan 0 c nothing_seen) ≡ some f → negate_cond c ≡ on_part f.place (f.place + 1) (flip f) c
+  when_some : (f : Found) → only_comparison (scan 0 c nothing_seen) ≡ Some f → negate_cond c ≡ on_part f.place (f.place + 1) (flip f) c
   unfolding negate_cond
   when_some f e = rw (e, negate_cond)
 
-  when_none : only_comparison (scan 0 c nothing_seen) ≡ none → negate_cond c ≡ merge (tok (ascii "!(") Punct ∷ (c ++ (tok (ascii ")") Punct ∷ [])))
+  when_none : only_comparison (scan 0 c nothing_seen) ≡ None → negate_cond c ≡ merge (tok (ascii "!(") Punct ∷ (c ++ (tok (ascii ")") Punct ∷ [])))
   unfolding negate_cond
   when_none e = rw (e, negate_cond)
 
 -- The comparison that was found stands in a token that is not empty, and flipping does not empty it.
 
-module _ (U : List Token) (f : Found) (e : only_comparison (scan 0 U nothing_seen) ≡ some f) where
+module _ (U : List Token) (f : Found) (e : only_comparison (scan 0 U nothing_seen) ≡ Some f) where
   abbrev place : Token
   place = get_or U f.place no_token
 
-  stands : comparison_in (drop f.pos place.text) ≡ some f.comparison
+  stands : comparison_in (drop f.pos place.text) ≡ Some f.comparison
   stands = (comparison_stands U f e).there
 
   stands_in : not (is_empty place) ≡ true
   stands_in = go place.text stands
     where
-      go : (s : List ℕ) → comparison_in (drop f.pos s) ≡ some f.comparison → not (s ≟ []) ≡ true
+      go : (s : List ℕ) → comparison_in (drop f.pos s) ≡ Some f.comparison → not (s ≟ []) ≡ true
       go [] q = none_some (sym nothing_starts ∙ ap comparison_in (sym (drop-nil f.pos)) ∙ q)
       go (b ∷ s) q = filled (b ∷ s) (omega arith)
 
@@ -93,12 +93,12 @@ module _ (U : List Token) (f : Found) (e : only_comparison (scan 0 U nothing_see
   -- the negation, by the place among all tokens
   negated_only : negate_cond (whole U) ≡ whole (on_part f.place (f.place + 1) (flip f) U)
   negated_only =
-      when_some (whole U) (moved (kept_place U) f) (only_kept U ∙ ap (Option.map (moved (kept_place U))) e)
+      when_some (whole U) (moved (kept_place U) f) (only_kept U ∙ ap (option_map (moved (kept_place U))) e)
       ∙ sym (kept_change (flip f) U f.place stands_in flipped_in)
 
-negated_none : (U : List Token) → only_comparison (scan 0 U nothing_seen) ≡ none
+negated_none : (U : List Token) → only_comparison (scan 0 U nothing_seen) ≡ None
     → negate_cond (whole U) ≡ merge (tok (ascii "!(") Punct ∷ (whole U ++ (tok (ascii ")") Punct ∷ [])))
-negated_none U e = when_none (whole U) (only_kept U ∙ ap (Option.map (moved (kept_place U))) e)
+negated_none U e = when_none (whole U) (only_kept U ∙ ap (option_map (moved (kept_place U))) e)
 
 -- A change of the token at one place
 
@@ -140,7 +140,7 @@ module _ (l : Line) (g m : ℕ) (n : Counts) (c : m ≡ test_count l g) (q : see
   negation_only one few =
       let s = numbered_some n.which few in
       let f : Found = found_in n.place n.byte s.0 in
-      let e : only_comparison (scan 0 (test_tokens l m) nothing_seen) ≡ some f =
+      let e : only_comparison (scan 0 (test_tokens l m) nothing_seen) ≡ Some f =
       ap only_comparison (sym q) ∙ rw (eq-eqb n.count 1 one, s.1) in
       let t : (k : ℕ) → negated_token l m (At n.place n.byte n.which) k ≡ cond (eqb k n.place) (flip f (test_token l m k)) (test_token l m k) =
       λ k. rw s.1 in
@@ -149,7 +149,7 @@ module _ (l : Line) (g m : ℕ) (n : Counts) (c : m ≡ test_count l g) (q : see
       ∙ sym (one_changed (test_token l m) (flip f) n.place m) ∙ ap (λ (k : ℕ). on_part n.place (n.place + 1) (flip f) (map (test_token l m) (range 0 k))) (sym (sub-zero m)))
       ∙ sym (negated_only (test_tokens l m) f e) ∙ ap negate_cond condition_is)
 
-  nothing : only_comparison (seen n) ≡ none → negation l m Nothing ≡ negate_cond (test l g)
+  nothing : only_comparison (seen n) ≡ None → negation l m Nothing ≡ negate_cond (test l g)
   unfolding negation
   nothing e = sym (negated_none (test_tokens l m) (ap only_comparison (sym q) ∙ e)) ∙ ap negate_cond condition_is
 

@@ -4,10 +4,11 @@
 --   scan_kept             the scan without the empty tokens
 --   kept_change           a change of one token that is not empty, and does not become so
 -- Assumes nothing.
+use Rattle.std.specs.Prelude.{Option, None, Some}
+use Rattle.std.specs.Option.{option_map}
 use mathlib.Core.Path.{◌≡◌, refl, sym, ap, ◌∙◌}
 use mathlib.Core.Bool.{Bool, true, false, not, cond, ◌&&◌, ◌||◌}
 use mathlib.Core.List.{List, [], ◌∷◌, ◌++◌, append_assoc}
-use mathlib.Core.Option.{Option, none, some, map}
 use Prim.Native.Nat.{ℕ, zero, suc, ◌+◌, ◌-◌}
 use native.Mathlib.Nat.{add-zero}
 use native.Mathlib.Numerals.{add-one}
@@ -30,14 +31,14 @@ abbrev pub moved : (ℕ → ℕ) → Found → Found
 moved m f = record { place = m f.place; pos = f.pos; comparison = f.comparison }
 
 unfoldable pub relabelled : (ℕ → ℕ) → Seen → Seen
-relabelled m r = record { opened = r.opened; closed = r.closed; count = r.count; found = map (moved m) r.found }
+relabelled m r = record { opened = r.opened; closed = r.closed; count = r.count; found = option_map (moved m) r.found }
 
 module _ (m : ℕ → ℕ) where
   logical_moved : (s : List ℕ) (r : Seen) → see_logical s (relabelled m r) ≡ relabelled m (see_logical s r)
   unfolding see_logical relabelled
   logical_moved s r = go (at_depth_0 r && (starts_with (ascii " && ") s || starts_with (ascii " || ") s))
     where
-      go : (b : Bool) → cond b (record { opened = r.opened; closed = r.closed; count = r.count + 2; found = map (moved m) r.found }) (relabelled m r)
+      go : (b : Bool) → cond b (record { opened = r.opened; closed = r.closed; count = r.count + 2; found = option_map (moved m) r.found }) (relabelled m r)
           ≡ relabelled m (cond b (record { opened = r.opened; closed = r.closed; count = r.count + 2; found = r.found }) r)
       go true = refl
       go false = refl
@@ -46,8 +47,8 @@ module _ (m : ℕ → ℕ) where
   unfolding see_bracket relabelled
   bracket_moved c r = go (eqb c 40) (eqb c 41)
     where
-      go : (a b : Bool) → cond a (record { opened = r.opened + 1; closed = r.closed + 0; count = r.count; found = map (moved m) r.found })
-          (cond b (record { opened = r.opened + 0; closed = r.closed + 1; count = r.count; found = map (moved m) r.found }) (relabelled m r))
+      go : (a b : Bool) → cond a (record { opened = r.opened + 1; closed = r.closed + 0; count = r.count; found = option_map (moved m) r.found })
+          (cond b (record { opened = r.opened + 0; closed = r.closed + 1; count = r.count; found = option_map (moved m) r.found }) (relabelled m r))
           ≡ relabelled m (cond a (record { opened = r.opened + 1; closed = r.closed + 0; count = r.count; found = r.found })
           (cond b (record { opened = r.opened + 0; closed = r.closed + 1; count = r.count; found = r.found }) r))
       go true b = refl
@@ -62,17 +63,17 @@ module _ (m : ℕ → ℕ) where
     where
       go : ((k : ℕ) (q : Seen) → scan_text (m p) (suc pos) k s (relabelled m q) ≡ relabelled m (scan_text p (suc pos) k s q)) → (o : Option Comparison)
           → elim o [
-            | some o ↦ scan_text (m p) (suc pos) (length o.op - 1) s (add_found (found_in (m p) pos o) (see_logical (c ∷ s) (relabelled m r)))
-            | none ↦ scan_text (m p) (suc pos) zero s (see_bracket c (see_logical (c ∷ s) (relabelled m r)))
+            | Some o ↦ scan_text (m p) (suc pos) (length o.op - 1) s (add_found (found_in (m p) pos o) (see_logical (c ∷ s) (relabelled m r)))
+            | None ↦ scan_text (m p) (suc pos) zero s (see_bracket c (see_logical (c ∷ s) (relabelled m r)))
           ]
           ≡ relabelled m (elim o [
-            | some o ↦ scan_text p (suc pos) (length o.op - 1) s (add_found (found_in p pos o) (see_logical (c ∷ s) r))
-            | none ↦ scan_text p (suc pos) zero s (see_bracket c (see_logical (c ∷ s) r))
+            | Some o ↦ scan_text p (suc pos) (length o.op - 1) s (add_found (found_in p pos o) (see_logical (c ∷ s) r))
+            | None ↦ scan_text p (suc pos) zero s (see_bracket c (see_logical (c ∷ s) r))
           ])
-      go later (some o) =
+      go later (Some o) =
           ap (λ (x : Seen). scan_text (m p) (suc pos) (length o.op - 1) s (add_found (found_in (m p) pos o) x)) (logical_moved (c ∷ s) r)
           ∙ later (length o.op - 1) (add_found (found_in p pos o) (see_logical (c ∷ s) r))
-      go later none =
+      go later None =
           ap (λ (x : Seen). scan_text (m p) (suc pos) zero s (see_bracket c x)) (logical_moved (c ∷ s) r)
           ∙ (ap (λ (x : Seen). scan_text (m p) (suc pos) zero s x) (bracket_moved c (see_logical (c ∷ s) r))
           ∙ later zero (see_bracket c (see_logical (c ∷ s) r)))
@@ -82,7 +83,7 @@ module _ (m : ℕ → ℕ) where
   token_moved p t r = go (eqb t.kind Punct) (eqb t.kind Keyword)
     where
       go : (a b : Bool) → cond a (scan_text (m p) 0 0 t.text (relabelled m r))
-          (cond b (record { opened = r.opened + count (eqb 40) t.text; closed = r.closed + count (eqb 41) t.text; count = r.count; found = map (moved m) r.found }) (relabelled m r))
+          (cond b (record { opened = r.opened + count (eqb 40) t.text; closed = r.closed + count (eqb 41) t.text; count = r.count; found = option_map (moved m) r.found }) (relabelled m r))
           ≡ relabelled m (cond a (scan_text p 0 0 t.text r)
           (cond b (record { opened = r.opened + count (eqb 40) t.text; closed = r.closed + count (eqb 41) t.text; count = r.count; found = r.found }) r))
       go true b = text_moved p 0 0 t.text r

@@ -12,11 +12,11 @@
 --   scan_next, scan_end                              the loop over the condition's tokens
 --   numbered_some, numbered_none                     which numbers are comparisons
 -- Assumes nothing.
-use Rattle.std.specs.Prelude.{if◌then◌else◌}
+use Rattle.std.specs.Option.{option_map}
+use Rattle.std.specs.Prelude.{if◌then◌else◌, Option, None, Some}
 use mathlib.Core.Path.{◌≡◌, refl, sym, ap, ◌∙◌}
 use mathlib.Core.Bool.{Bool, true, false, ◌||◌, not, cond}
 use mathlib.Core.List.{List, [], ◌∷◌}
-use mathlib.Core.Option.{Option, none, some, map}
 use Prim.Native.Nat.{ℕ, zero, suc, ◌+◌, ◌-◌, ◌*◌, ◌≤◌, ◌<◌}
 use native.Mathlib.Nat.{add-zero, zero-add, add-suc, suc-add}
 use native.Mathlib.Numerals.{add-one}
@@ -82,7 +82,7 @@ pub ruleset whiches = (comparison_0, comparison_1, comparison_2, comparison_3, c
 pub width_of : (w v r : ℕ) → w ≡ v → r ≡ width v → r ≡ width w
 width_of w v r e f = rw e f
 
-pub numbered_none : (w : ℕ) → 6 ≤ w → numbered w ≡ none
+pub numbered_none : (w : ℕ) → 6 ≤ w → numbered w ≡ None
 unfolding numbered comparisons
 numbered_none zero h = absurd (omega arith)
 numbered_none (suc zero) h = absurd (omega arith)
@@ -96,7 +96,7 @@ pub width_none : (w : ℕ) → (w ≡ 0 → ⊥) → (w ≡ 1 → ⊥) → (w �
 unfolding width
 width_none w a b c d e f = rw (numbered_none w (omega arith))
 
-pub numbered_some : (w : ℕ) → w < 6 → (o : Comparison) × (numbered w ≡ some o) × (width w ≡ length o.op) × (1 ≤ length o.op) × (1 ≤ length o.flipped)
+pub numbered_some : (w : ℕ) → w < 6 → (o : Comparison) × (numbered w ≡ Some o) × (width w ≡ length o.op) × (1 ≤ length o.op) × (1 ≤ length o.flipped)
 unfolding numbered comparisons width
 numbered_some zero h = (_, refl, refl, omega arith, omega arith)
 numbered_some (suc zero) h = (_, refl, refl, omega arith, omega arith)
@@ -164,12 +164,12 @@ skipped place pos (suc k) [] r = refl
 skipped place pos (suc k) (c ∷ s) r = skipped place (suc pos) k s r ∙ rw (add-suc pos k, suc-add pos k)
 
 module _ (place pos c : ℕ) (s : List ℕ) (r : Seen) where
-  scan_some : (o : Comparison) → comparison_at (c ∷ s) r ≡ some o
+  scan_some : (o : Comparison) → comparison_at (c ∷ s) r ≡ Some o
       → scan_text place pos 0 (c ∷ s) r ≡ scan_text place (suc pos) (length o.op - 1) s (add_found (found_in place pos o) (see_logical (c ∷ s) r))
   unfolding scan_text
   scan_some o e = rw (e, scan_text)
 
-  scan_none : comparison_at (c ∷ s) r ≡ none → scan_text place pos 0 (c ∷ s) r ≡ scan_text place (suc pos) 0 s (see_bracket c (see_logical (c ∷ s) r))
+  scan_none : comparison_at (c ∷ s) r ≡ None → scan_text place pos 0 (c ∷ s) r ≡ scan_text place (suc pos) 0 s (see_bracket c (see_logical (c ∷ s) r))
   unfolding scan_text
   scan_none e = rw (e, scan_text)
 
@@ -183,8 +183,8 @@ module _ (s : List ℕ) (i : ℕ) (h : i < length s) (rest : List ℕ) (e : rest
     within v q =
         let f = numbered_some w few in
         let o = f.0 in
-        let found : comparison_in rest ≡ some o =
-        if_has (λ x. x ≡ some o → comparison_in rest ≡ some o) (at_depth_0 r) (λ _ q. q) (λ _ q. none_some q) (sym c ∙ f.1) in
+        let found : comparison_in rest ≡ Some o =
+        if_has (λ x. x ≡ Some o → comparison_in rest ≡ Some o) (at_depth_0 r) (λ _ q. q) (λ _ q. none_some q) (sym c ∙ f.1) in
         let starts : starts_with o.op rest ≡ true = find_passes (λ (k : Comparison). starts_with k.op rest) comparisons o found in
         let long : length rest ≡ length s - i = ap length (e ∙ part_tail s i) ∙ length-drop i s in
         go o.op starts f.3 (q ∙ f.2) long
@@ -205,12 +205,12 @@ module _ (s : List ℕ) (i : ℕ) (h : i < length s) (rest : List ℕ) (e : rest
     module _ (place : ℕ) where
       pub byte_found : n ≡ see_logical rest r → (v : ℕ) → v ≡ width w
           → scan_text place i 0 (drop i s) r
-          ≡ scan_text place (i + v) 0 (drop (i + v) s) (record { opened = n.opened; closed = n.closed; count = n.count + 1; found = map (found_in place i) (numbered w) })
+          ≡ scan_text place (i + v) 0 (drop (i + v) s) (record { opened = n.opened; closed = n.closed; count = n.count + 1; found = option_map (found_in place i) (numbered w) })
       byte_found g v q =
           let f = numbered_some w few in
           let o = f.0 in
           let m = length o.op - 1 in
-          let at : comparison_at (get_or s i 0 ∷ drop (i + 1) s) r ≡ some o = ap (λ (x : List ℕ). comparison_at x r) (sym here) ∙ sym c ∙ f.1 in
+          let at : comparison_at (get_or s i 0 ∷ drop (i + 1) s) r ≡ Some o = ap (λ (x : List ℕ). comparison_at x r) (sym here) ∙ sym c ∙ f.1 in
           let a : suc i + m ≡ i + v = omega (arith, f.2, f.3) in
           let b : i + 1 + m ≡ i + v = omega (arith, f.2, f.3) in
           ap (λ (x : List ℕ). scan_text place i 0 x r) (drop_step 0 s i h)
@@ -221,7 +221,7 @@ module _ (s : List ℕ) (i : ℕ) (h : i < length s) (rest : List ℕ) (e : rest
   module _ (many : 6 ≤ w) (place : ℕ) where
     pub byte_passed : n ≡ see_logical rest r → (m : Seen) → m ≡ see_bracket (get_or s i 0) n → scan_text place i 0 (drop i s) r ≡ scan_text place (i + 1) 0 (drop (i + 1) s) m
     byte_passed g m q =
-        let at : comparison_at (get_or s i 0 ∷ drop (i + 1) s) r ≡ none = ap (λ (x : List ℕ). comparison_at x r) (sym here) ∙ sym c ∙ numbered_none w many in
+        let at : comparison_at (get_or s i 0 ∷ drop (i + 1) s) r ≡ None = ap (λ (x : List ℕ). comparison_at x r) (sym here) ∙ sym c ∙ numbered_none w many in
         ap (λ (x : List ℕ). scan_text place i 0 x r) (drop_step 0 s i h)
         ∙ (scan_none place i (get_or s i 0) (drop (i + 1) s) r at ∙ rw (q, g, here, add-one i))
 

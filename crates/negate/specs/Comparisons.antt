@@ -12,10 +12,8 @@
 --   negated_token l m o k     token k of m of the condition, with the comparison that the answer o says flipped if it stands there
 --   negation l m o        the negated condition by the answer o
 -- Assumes nothing.
-use Rattle.std.specs.Prelude.{if◌then◌else◌, ℕ, ◌+◌, ◌<◌, List, [], ◌∷◌, ◌++◌, map, eqb, length}
-use Rattle.std.proofs.Math.Option
-use Rattle.std.proofs.Math.Option.{Option, none, some}
-use Rattle.std.proofs.Math.ListN.{get_elem?}
+use Rattle.std.specs.Option.{option_map}
+use Rattle.std.specs.Prelude.{if◌then◌else◌, ℕ, ◌+◌, ◌<◌, List, [], ◌∷◌, ◌++◌, map, eqb, length, Option, None, Some, slice_get}
 use Rattle.definitions.specs.Lists.{or_else, starts_with, ascii, find, count, range}
 use Rattle.definitions.specs.Model.{Token, Line, tok, Punct}
 use Rattle.definitions.specs.Statements.{merge}
@@ -27,7 +25,7 @@ use Rattle.negate.specs.declared.comparison.Only.{Only}
 use Rattle.negate.specs.declared.comparison.Only.TheVariants.{At, Nothing}
 
 unfoldable pub numbered : ℕ → Option Comparison
-numbered w = get_elem? comparisons w
+numbered w = slice_get comparisons w
 
 unfoldable pub comparison_of : List ℕ → Option Comparison
 comparison_of s = find (λ c. starts_with c.op s) comparisons
@@ -36,13 +34,13 @@ unfoldable pub occurs : ℕ → List ℕ → ℕ
 occurs b s = count (eqb b) s
 
 unfoldable pub width : ℕ → ℕ
-width w = or_else (Option.map (λ o. length o.op) (numbered w)) 0
+width w = or_else (option_map (λ o. length o.op) (numbered w)) 0
 
 abbrev pub found_in : ℕ → ℕ → Comparison → Found
 found_in p b o = record { place = p; pos = b; comparison = o }
 
 abbrev pub found_at : ℕ → ℕ → ℕ → Option Found
-found_at p b w = Option.map (found_in p b) (numbered w)
+found_at p b w = option_map (found_in p b) (numbered w)
 
 abbrev pub seen : Counts → Seen
 seen r = record { opened = r.opened; closed = r.closed; count = r.count; found = found_at r.place r.byte r.which }
@@ -57,11 +55,11 @@ Sound Nothing = Unit
 
 -- what it is flipped to
 unfoldable pub flipped : ℕ → List ℕ
-flipped w = or_else (Option.map (λ o. o.flipped) (numbered w)) []
+flipped w = or_else (option_map (λ o. o.flipped) (numbered w)) []
 
 abbrev pub flip_some : Option Found → Token → Token
-flip_some none t = t
-flip_some (some f) t = flip f t
+flip_some None t = t
+flip_some (Some f) t = flip f t
 
 unfoldable pub negated_token : Line → ℕ → Only → ℕ → Token
 negated_token l m (At p b w) k = if eqb k p then flip_some (found_at p b w) (test_token l m k) else test_token l m k

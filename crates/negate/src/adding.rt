@@ -5,8 +5,8 @@
 ghost use Rattle.std.specs.Prelude.{◌≡◌, true, List, [], ◌∷◌, map, ℕ, ◌<◌};
 ghost use Rattle.definitions.specs.Lists.{range};
 ghost use Rattle.definitions.specs.Model.{tok, line};
-ghost use Rattle.definitions.specs.Columns.{listing};
 ghost use Rattle.definitions.specs.Condition.{negate_cond};
+ghost use Rattle.model.specs.Listings.{listing_of};
 ghost use Rattle.write.specs.State.{add_bytes};
 ghost use Rattle.write.specs.Holds.{columns, Writes};
 ghost use Rattle.negate.specs.Tests.{test};
@@ -15,6 +15,7 @@ ghost use Rattle.append.specs.Adds.{Adding, whole};
 
 use crate::comparison::{Only, only_comparison, width};
 use crate::test::{test_count, test_kind, test_text};
+use model::listing::Listing;
 use write::Cursor;
 
 // Appends what comparison w is flipped to to the open token.
@@ -54,9 +55,7 @@ fn add_negated_token(
 
 // Appends token k of the m tokens of the condition, unless it is empty, with the comparison that the answer o says flipped.
 fn add_test_token(
-    lines: &[u32],
-    tokens: &[u32],
-    text: &[u8],
+    code: &Listing,
     i: usize,
     m: usize,
     k: usize,
@@ -66,11 +65,11 @@ fn add_test_token(
     c: Cursor,
 ) -> Cursor
     requires { (k < m) × Sound o }
-    ensures { let l = line (listing lines.now tokens.now text.now) i in
+    ensures { let l = line (listing_of code.now) i in
         Adding true (whole (negated_token l m o k ∷ [])) words.old bytes.old c words.new bytes.new result }
 {
-    let s = test_text(lines, tokens, text, i, m, k);
-    let kind = test_kind(lines, tokens, text, i, m, k);
+    let s = test_text(code, i, m, k);
+    let kind = test_kind(code, i, m, k);
     let Only::At { place, byte, which } = o else {
         return append::add_unless_empty(words, bytes, c, s, kind, true);
     };
@@ -82,9 +81,7 @@ fn add_test_token(
 
 // Appends the m tokens of the condition, with the comparison that the answer o says flipped.
 fn add_test_tokens(
-    lines: &[u32],
-    tokens: &[u32],
-    text: &[u8],
+    code: &Listing,
     i: usize,
     m: usize,
     o: Only,
@@ -93,34 +90,30 @@ fn add_test_tokens(
     c: Cursor,
 ) -> Cursor
     requires { Sound o }
-    ensures { let l = line (listing lines.now tokens.now text.now) i in
+    ensures { let l = line (listing_of code.now) i in
         Adding true (whole (map (negated_token l m o) (range 0 m))) words.old bytes.old c words.new bytes.new result }
 {
     let mut d = c;
-    let mut k = 0;
-    while k < m {
-        d = add_test_token(lines, tokens, text, i, m, k, o, words, bytes, d);
-        k += 1;
+    for k in 0..m {
+        d = add_test_token(code, i, m, k, o, words, bytes, d);
     }
     d
 }
 
 // Appends the negation of the condition between the first token of line i and its place g.
 pub fn add_negated(
-    lines: &[u32],
-    tokens: &[u32],
-    text: &[u8],
+    code: &Listing,
     i: usize,
     g: usize,
     words: &mut [u32],
     bytes: &mut [u8],
     c: Cursor,
 ) -> Cursor
-    ensures { let l = line (listing lines.now tokens.now text.now) i in
+    ensures { let l = line (listing_of code.now) i in
         Adding true (negate_cond (test l g)) words.old bytes.old c words.new bytes.new result }
 {
-    let m = test_count(lines, tokens, text, i, g);
-    let o = only_comparison(lines, tokens, text, i, g);
+    let m = test_count(code, i, g);
+    let o = only_comparison(code, i, g);
     let Only::At {
         place: _,
         byte: _,
@@ -128,8 +121,8 @@ pub fn add_negated(
     } = o
     else {
         let d = write::add_merged(words, bytes, c, b"!(", 6);
-        let e = add_test_tokens(lines, tokens, text, i, m, o, words, bytes, d);
+        let e = add_test_tokens(code, i, m, o, words, bytes, d);
         return write::add_merged(words, bytes, e, b")", 6);
     };
-    add_test_tokens(lines, tokens, text, i, m, o, words, bytes, c)
+    add_test_tokens(code, i, m, o, words, bytes, c)
 }

@@ -5,12 +5,13 @@
 ghost use Rattle.std.specs.Prelude.{if◌then◌else◌, ◌≡◌, ◌||◌, ◌+◌, ◌*◌, ◌≤◌, ◌<◌, eqb, length, drop};
 ghost use Rattle.definitions.specs.Lists.{starts_with, ascii};
 ghost use Rattle.definitions.specs.Model.{line};
-ghost use Rattle.definitions.specs.Columns.{listing};
 ghost use Rattle.definitions.specs.Condition.{nothing_seen, add_brackets, see_logical, comparison_at, see_bracket, scan_text, scan_token, scan, negate_cond};
+ghost use Rattle.model.specs.Listings.{listing_of};
 ghost use Rattle.negate.specs.Tests.{test, test_count, test_token, test_tokens};
 ghost use Rattle.negate.specs.Comparisons.{numbered, comparison_of, occurs, width, seen, weight, negation, Sound};
 
 use crate::test::{test_count, test_kind, test_text};
+use model::listing::Listing;
 
 // What the scan has seen: brackets opened and closed, whose difference is the depth and may go below 0; comparisons at depth 0, ` && ` and
 // ` || ` counting two; the last comparison, by the number of its token, the byte of it and its own number, NONE where there is none.
@@ -80,10 +81,7 @@ pub fn width(w: usize) -> usize
 fn is_logical(s: &[u8]) -> bool
     ensures { result ≡ (starts_with (ascii " && ") s.now || starts_with (ascii " || ") s.now) }
 {
-    if text::starts_with(s, b" && ") {
-        return true;
-    }
-    text::starts_with(s, b" || ")
+    text::starts_with(s, b" && ") || text::starts_with(s, b" || ")
 }
 
 fn see_logical(s: &[u8], r: Seen) -> Seen
@@ -202,10 +200,8 @@ fn count(s: &[u8], b: u8) -> usize
     ensures { (result ≡ occurs b s.now) × (result ≤ length s.now) }
 {
     let mut n = 0;
-    let mut k = 0;
-    while k < s.len() {
+    for k in 0..s.len() {
         n += is_byte(b, s[k]);
-        k += 1;
     }
     n
 }
@@ -227,38 +223,30 @@ fn see_brackets(s: &[u8], r: Seen) -> Seen
 }
 
 // Token k of the m tokens of the condition: its kind decides.
-fn scan_token(
-    lines: &[u32],
-    tokens: &[u32],
-    text: &[u8],
-    i: usize,
-    m: usize,
-    k: usize,
-    r: Seen,
-) -> Seen
+fn scan_token(code: &Listing, i: usize, m: usize, k: usize, r: Seen) -> Seen
     requires k_lt_m { k < m }
-    requires text_bound { let t = test_token (line (listing lines.now tokens.now text.now) i) m k in
+    requires text_bound { let t = test_token (line (listing_of code.now) i) m k in
         weight r + 3 * length t.text ≤ 18446744073709551615 }
-    ensures { let t = test_token (line (listing lines.now tokens.now text.now) i) m k in
+    ensures { let t = test_token (line (listing_of code.now) i) m k in
         (seen result ≡ scan_token k t (seen r)) × (weight result ≤ weight r + 3 * length t.text) }
 {
-    match test_kind(lines, tokens, text, i, m, k) {
+    match test_kind(code, i, m, k) {
         0 => r,
         1 => r,
         2 => r,
-        3 => see_brackets(test_text(lines, tokens, text, i, m, k), r),
+        3 => see_brackets(test_text(code, i, m, k), r),
         4 => r,
         5 => r,
-        6 => scan_text(test_text(lines, tokens, text, i, m, k), k, r),
+        6 => scan_text(test_text(code, i, m, k), k, r),
         7 => r,
         _ => r,
     }
 }
 
 // What is seen in the whole condition.
-fn scan(lines: &[u32], tokens: &[u32], text: &[u8], i: usize, m: usize) -> Seen
+fn scan(code: &Listing, i: usize, m: usize) -> Seen
     requires { m ≤ 8388607 }
-    ensures { seen result ≡ scan 0 (test_tokens (line (listing lines.now tokens.now text.now) i) m) nothing_seen }
+    ensures { seen result ≡ scan 0 (test_tokens (line (listing_of code.now) i) m) nothing_seen }
 {
     let mut r = Seen {
         opened: 0,
@@ -268,22 +256,20 @@ fn scan(lines: &[u32], tokens: &[u32], text: &[u8], i: usize, m: usize) -> Seen
         byte: 0,
         which: NONE,
     };
-    let mut k = 0;
-    while k < m {
-        r = scan_token(lines, tokens, text, i, m, k, r);
-        k += 1;
+    for k in 0..m {
+        r = scan_token(code, i, m, k, r);
     }
     r
 }
 
 // The only comparison of the condition, which negation flips.
-pub fn only_comparison(lines: &[u32], tokens: &[u32], text: &[u8], i: usize, g: usize) -> Only
-    ensures result_value { let l = line (listing lines.now tokens.now text.now) i in
+pub fn only_comparison(code: &Listing, i: usize, g: usize) -> Only
+    ensures result_value { let l = line (listing_of code.now) i in
         negation l (test_count l g) result ≡ negate_cond (test l g) }
     ensures sound { Sound result }
 {
-    let m = test_count(lines, tokens, text, i, g);
-    let r = scan(lines, tokens, text, i, m);
+    let m = test_count(code, i, g);
+    let r = scan(code, i, m);
     if r.count != 1 {
         return Only::Nothing;
     }

@@ -3,17 +3,17 @@
 // Contracts cite `test_count` and `test_token` of this crate's specs/; without the empty ones these tokens are the condition.
 ghost use Rattle.std.specs.Prelude.{◌≡◌, ◌-◌, ◌<◌};
 ghost use Rattle.definitions.specs.Model.{line};
-ghost use Rattle.definitions.specs.Columns.{listing};
+ghost use Rattle.model.specs.Listings.{listing_of};
 ghost use Rattle.negate.specs.Tests.{front, back, test_count, test_token};
 
-use text::less;
+use model::listing::Listing;
 
 // How many tokens stand behind the first of line i and before place g.
-pub fn test_count(lines: &[u32], tokens: &[u32], text: &[u8], i: usize, g: usize) -> usize
-    ensures { result ≡ test_count (line (listing lines.now tokens.now text.now) i) g }
+pub fn test_count(code: &Listing, i: usize, g: usize) -> usize
+    ensures { result ≡ test_count (line (listing_of code.now) i) g }
 {
-    let n = model::columns::token_count(lines, tokens, text, i);
-    if g < n { less(g, 1) } else { less(n, 1) }
+    let n = code.token_count(i);
+    g.min(n).saturating_sub(1)
 }
 
 fn front(k: usize) -> usize
@@ -30,25 +30,18 @@ fn back(m: usize, k: usize) -> usize
 }
 
 // The kind of token k of the m tokens of the condition.
-pub fn test_kind(lines: &[u32], tokens: &[u32], text: &[u8], i: usize, m: usize, k: usize) -> usize
+pub fn test_kind(code: &Listing, i: usize, m: usize, k: usize) -> usize
     requires { k < m }
-    ensures { (result ≡ (test_token (line (listing lines.now tokens.now text.now) i) m k).kind) × (result < 256) }
+    ensures { (result ≡ (test_token (line (listing_of code.now) i) m k).kind) × (result < 256) }
 {
-    model::columns::kind(lines, tokens, text, i, k + 1)
+    code.kind(i, k + 1)
 }
 
 // Its text, as a part of the lent text.
-pub fn test_text<'a>(
-    lines: &[u32],
-    tokens: &[u32],
-    text: &'a [u8],
-    i: usize,
-    m: usize,
-    k: usize,
-) -> &'a [u8]
+pub fn test_text<'a>(code: &Listing<'a>, i: usize, m: usize, k: usize) -> &'a [u8]
     requires { k < m }
-    ensures { result.now ≡ (test_token (line (listing lines.now tokens.now text.now) i) m k).text }
+    ensures { result.now ≡ (test_token (line (listing_of code.now) i) m k).text }
 {
-    let s = model::columns::text_at(lines, tokens, text, i, k + 1);
-    text::part(s, front(k), less(s.len(), back(m, k)))
+    let s = code.text_at(i, k + 1);
+    text::part(s, front(k), s.len().saturating_sub(back(m, k)))
 }

@@ -28,8 +28,7 @@ use Rattle.bits.specs.Edges.{row_words, Agree, preds_of}
 use Rattle.visit.specs.Layout.{Room}
 use Rattle.visit.specs.Numbers.{defining_lines, Numbered, Counted}
 use Rattle.sweep.specs.Solved.{Solved, answer}
-use Rattle.sweep.specs.declared.Sweeps.{Sweeps}
-use Rattle.sweep.specs.declared.Sweeps.TheVariants.{Done, OverBudget}
+use Rattle.std.specs.Prelude.{Option, Some, None}
 use Rattle.visit.proofs.LayoutLaws.{room, room_same, kept_preds, kept_both}
 use Rattle.recover.specs.Numbers.{earlier}
 use Rattle.recover.specs.Reaching.{Swept, Sized, reach_numbers, linked, FamilyReps, ReadWeb}
@@ -124,28 +123,28 @@ lines_from n r w nums l₀ l₁ l is own read e M = record {
 }
 
 -- an answer within the budget, and one over it
-pub answer_done : (c budget s : ℕ) → answer budget c ≡ Done s → (c ≤ budget) × (s ≡ c)
+pub answer_done : (c budget s : ℕ) → answer budget c ≡ Some s → (c ≤ budget) × (s ≡ c)
 answer_done c budget s q = go (leb c budget) refl q
   where
-    go : (b : Bool) → leb c budget ≡ b → cond b (Done c) OverBudget ≡ Done s → (c ≤ budget) × (s ≡ c)
+    go : (b : Bool) → leb c budget ≡ b → cond b (Some c) None ≡ Some s → (c ≤ budget) × (s ≡ c)
     go true e q = (leb-true c budget e, cc)
     go false e q = let z : ◌≡◌ {A = ℕ} 0 1 = cc in absurd (omega arith)
 
-pub answer_over : (c budget : ℕ) → answer budget c ≡ OverBudget → c ≤ budget → ⊥
+pub answer_over : (c budget : ℕ) → answer budget c ≡ None → c ≤ budget → ⊥
 answer_over c budget q h = go (leb c budget) refl q
   where
-    go : (b : Bool) → leb c budget ≡ b → cond b (Done c) OverBudget ≡ OverBudget → ⊥
+    go : (b : Bool) → leb c budget ≡ b → cond b (Some c) None ≡ None → ⊥
     go true e q = let z : ◌≡◌ {A = ℕ} 0 1 = cc in omega arith
     go false e q = let z = leb-false c budget e in omega arith
 
-module _ (n r w budget : ℕ) (nums l₀ l₁ : List ℕ) (a : Sweeps) (S : Solved n r w nums budget l₀ l₁ a) where
+module _ (n r w budget : ℕ) (nums l₀ l₁ : List ℕ) (a : Option ℕ) (S : Solved n r w nums budget l₀ l₁ a) where
   abbrev count : ℕ
   count = (sweeps (preds_of n r l₀) (defining_lines n nums)).count
 
-  pub solved_count : (s : ℕ) → a ≡ Done s → count ≤ budget
+  pub solved_count : (s : ℕ) → a ≡ Some s → count ≤ budget
   solved_count s e = (answer_done count budget s (sym S.answers ∙ e)).0
 
-  pub solved_swept : (s : ℕ) → a ≡ Done s → Room n r w l₀ → Numbered n w nums → Agree n r l₀ → length l₁ ≡ length l₀ → Swept n r w nums l₁
+  pub solved_swept : (s : ℕ) → a ≡ Some s → Room n r w l₀ → Numbered n w nums → Agree n r l₀ → length l₁ ≡ length l₀ → Swept n r w nums l₁
   solved_swept s e R N A k = record {
     room = room_same n r w l₀ l₁ k R;
     numbered = N;
@@ -153,13 +152,13 @@ module _ (n r w budget : ℕ) (nums l₀ l₁ : List ℕ) (a : Sweeps) (S : Solv
     holds = rw (kept_preds n r w l₀ l₁ R.wide S.kept) (S.holds (solved_count s e));
   }
 
-  pub solved_done : (s : ℕ) → a ≡ Done s → n + 64 ≤ r * 64 → (is l own read : List ℕ) → LineNumbers n r w nums l₁ l is own read → SolvedLines n r w nums budget l₀ l is own read (Done s)
+  pub solved_done : (s : ℕ) → a ≡ Some s → n + 64 ≤ r * 64 → (is l own read : List ℕ) → LineNumbers n r w nums l₁ l is own read → SolvedLines n r w nums budget l₀ l is own read (Some s)
   solved_done s e k is l own read M = record {
     answers = sym e ∙ S.answers;
     done = λ h. lines_from n r w nums l₀ l₁ l is own read (kept_preds n r w l₀ l₁ k S.kept) M;
   }
 
-  pub solved_over : a ≡ OverBudget → (is l own read : List ℕ) → SolvedLines n r w nums budget l₀ l is own read OverBudget
+  pub solved_over : a ≡ None → (is l own read : List ℕ) → SolvedLines n r w nums budget l₀ l is own read None
   solved_over e is l own read = record {
     answers = sym e ∙ S.answers;
     done = λ h. absurd (answer_over count budget (sym S.answers ∙ e) h);
@@ -180,7 +179,7 @@ module _ (n c f : ℕ) (ds nums : List ℕ) (C : Counted n ds f nums c) (pos : 0
       let d : c ≡ length (defining_lines n nums) = C.count ∙ ap length (sym C.lines) in
       record { size = omega arith; room = omega (arith, C.below); small = omega (arith, C.below) }
 
-  pub family_by : (r k budget : ℕ) (l₀ l is own read : List ℕ) (a : Sweeps) → f ≡ k + 1 → SolvedLines n r (c / 64 + 1) nums budget l₀ l is own read a → FamilyLines n r k ds budget l₀ l is own read a
+  pub family_by : (r k budget : ℕ) (l₀ l is own read : List ℕ) (a : Option ℕ) → f ≡ k + 1 → SolvedLines n r (c / 64 + 1) nums budget l₀ l is own read a → FamilyLines n r k ds budget l₀ l is own read a
   family_by r k budget l₀ l is own read a e S = record { nums = nums; w = c / 64 + 1; numbered = family_numbered; lines = C.lines ∙ rw e; solved = S }
 
 pub ruleset line_rules = (line_in, own_start, own_next, own_end, reads_start, reads_next, reads_end, lines_by, solved_swept, solved_done, solved_over)

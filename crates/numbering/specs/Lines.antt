@@ -15,7 +15,7 @@ use Rattle.definitions.specs.Sweeps.{sweeps}
 use Rattle.bits.specs.Edges.{preds_of}
 use Rattle.visit.specs.Numbers.{defining_lines, lines_of, Numbered}
 use Rattle.sweep.specs.Solved.{answer}
-use Rattle.sweep.specs.declared.Sweeps.{Sweeps}
+use Rattle.std.specs.Prelude.{Option}
 use Rattle.recover.specs.Numbers.{earlier}
 use Rattle.recover.specs.Reaching.{Swept, reach_numbers, linked}
 
@@ -46,12 +46,12 @@ pub record LineNumbers (n r w : ℕ) (nums l₀ l is own read : List ℕ) : Type
   pub preds : preds_of n r l ≡ preds_of n r l₀
 
 -- the sweeps, and the numbers where the budget allows them
-pub record SolvedLines (n r w : ℕ) (nums : List ℕ) (budget : ℕ) (l₀ l is own read : List ℕ) (a : Sweeps) : Type 0 where
+pub record SolvedLines (n r w : ℕ) (nums : List ℕ) (budget : ℕ) (l₀ l is own read : List ℕ) (a : Option ℕ) : Type 0 where
   pub answers : a ≡ answer budget (sweeps (preds_of n r l₀) (defining_lines n nums)).count
   pub done : (sweeps (preds_of n r l₀) (defining_lines n nums)).count ≤ budget → LineNumbers n r w nums l₀ l is own read
 
 -- the same of family k, where ds has the place of the family that each line defines
-pub record FamilyLines (n r k : ℕ) (ds : List ℕ) (budget : ℕ) (l₀ l is own read : List ℕ) (a : Sweeps) : Type 0 where
+pub record FamilyLines (n r k : ℕ) (ds : List ℕ) (budget : ℕ) (l₀ l is own read : List ℕ) (a : Option ℕ) : Type 0 where
   pub nums : List ℕ
   pub w : ℕ
   pub numbered : Numbered n w nums

@@ -15,19 +15,15 @@ ghost use Rattle.recover.specs.Reaching.{Swept, Sized};
 ghost use Rattle.numbering.specs.Lines.{Below, Owned, Reads, LineNumbers, SolvedLines, FamilyLines, Scratch};
 
 use recover::numbers::{family_reps, read_web, web_of};
-use sweep::Sweeps;
-use words::{narrow, number, zero};
+use words::{narrow, number};
 
 // The number of the definition on each line.
 fn number_defs(nums: &[u16], rep: &[u16], rank: &[u16], own: &mut [u16])
     requires { Ranked rep.now rank.now }
     ensures { Owned nums.now rep.now (length own.new) own.new }
 {
-    let mut i = 0;
-    while i < own.len() {
-        let v = web_of(rep, rank, number(nums, i));
-        own[i] = v;
-        i += 1;
+    for (i, v) in own.iter_mut().enumerate() {
+        *v = web_of(rep, rank, number(nums, i));
     }
 }
 
@@ -47,12 +43,10 @@ fn number_reads(
     requires rep_len { (length rep.now ≡ suc (length (defining_lines n nums.now))) × Ranked rep.now rank.now }
     ensures { Reads n r w nums.now space.old space.new rep.now reads.now read.old read.new }
 {
-    let mut j = 0;
-    while j < reads.len() {
-        let i = number(reads, j);
+    for i in reads {
+        let i = usize::from(*i);
         let v = read_web(space, nums, n, r, w, i, rep, rank);
         read[i] = v;
-        j += 1;
     }
 }
 
@@ -78,7 +72,7 @@ fn line_numbers(
 {
     family_reps(space, nums, n, r, w, reads, rep, rank, set, marks);
     number_defs(nums, rep, rank, own);
-    zero(read);
+    text::zero(read, 0);
     number_reads(space, nums, n, r, w, reads, rep, rank, read);
 }
 
@@ -97,17 +91,15 @@ fn solve_lines(
     seen: &mut [u8],
     own: &mut [u16],
     read: &mut [u16],
-) -> Sweeps
+) -> Option<usize>
     requires room { Room n r w space.old × Numbered n w nums.now × Agree n r space.old × Below n reads.now }
     requires sized { Sized n nums.now rep.old set.old × (length rep.old ≤ 65535) × (length rank.old ≡ length rep.old) × (length rep.old ≤ length seen.old) }
     requires own_len { (length own.old ≡ n) × (length read.old ≡ n) }
     ensures { SolvedLines n r w nums.now budget space.old space.new reads.now own.new read.new result }
 {
-    let Sweeps::Done(s) = sweep::solve(space, nums, n, r, w, budget) else {
-        return Sweeps::OverBudget;
-    };
+    let s = sweep::solve(space, nums, n, r, w, budget)?;
     line_numbers(space, nums, n, r, w, reads, rep, rank, set, seen, own, read);
-    Sweeps::Done(s)
+    Some(s)
 }
 
 // The same of family k, whose definitions are numbered first.
@@ -126,7 +118,7 @@ pub fn family_lines(
     seen: &mut [u8],
     own: &mut [u16],
     read: &mut [u16],
-) -> Sweeps
+) -> Option<usize>
     requires n_nonzero { (0 < n) × (n ≤ 1024) × (r ≡ row_words n) × (space_words n ≤ length space.old) × Agree n r space.old × Below n reads.now }
     requires k_bound { (k < 1024) × (n ≤ length defs.now) × Scratch n nums.old rep.old rank.old set.old seen.old own.old read.old }
     ensures { FamilyLines n r k defs.now budget space.old space.new reads.now own.new read.new result }

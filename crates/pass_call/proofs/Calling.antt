@@ -5,16 +5,16 @@
 --   call_accepts       what was accepted is what the call gives
 --   writable           what is not more than the room of the passes can be written
 --   written_is         what is written and zeroed is `packed`
---   few_lines, rooms, small_columns, zeros_are, refusals, asked_none, asked_some    what each function shows
+--   few_lines, small_columns, zeros_are    what each function shows
 -- Assumes nothing.
+use Rattle.std.specs.Prelude.{None, Some, Ok, Err}
 use Prim.Native.Nat.{ℕ, zero, suc, ◌≤◌, ◌<◌}
 use mathlib.Core.Path.{◌≡◌, refl, sym, ap, ap₂, ◌∙◌}
 use mathlib.Core.Bool.{Bool, true, false, ◌&&◌}
 use mathlib.Core.List.{List, [], ◌∷◌, map}
-use mathlib.Core.Option.{Option, none, some}
 use native.Mathlib.Nat.{sub-zero}
 use native.Mathlib.Omega.{arith}
-use borrow.Author.Tests.{eqb-true, leb-true, le-leb, lt-leb, ne_eqb}
+use borrow.Author.Tests.{eqb-true, leb-true}
 use lib.Dec.{eqb, leb}
 use lib.ListN.{length}
 use Rattle.definitions.specs.Lists.{concat, part}
@@ -30,34 +30,30 @@ use Rattle.text.specs.Zeroed.{zeroed}
 use Rattle.model.specs.Places.{token_start}
 use Rattle.model.proofs.Decode.{length_listing, length_tokens}
 use Rattle.model.proofs.Formed.{formed_lines, formed_tokens, all_tokens_listing, run_text}
-use Rattle.questions.specs.Refusals.{refused as number}
+use Rattle.questions.specs.Refusals.{number}
+use Rattle.questions.specs.declared.Refusal.{Refusal}
+use Rattle.questions.specs.declared.Refusal.TheVariants.{Overflow}
+use Rattle.questions.proofs.Refusing.{refusal_yes}
 use Rattle.write.specs.State.{done}
 use Rattle.write.specs.Holds.{columns, Holds, Room, Finished}
 use Rattle.write.specs.declared.Cursor.{Cursor}
 use Rattle.write.proofs.PassRoom.{pass_room_suffices}
-use Rattle.pass_call.specs.Answers.{answered, passed_with, source, Writable}
-use Rattle.pass_call.specs.declared.Answer.{Answer as Said}
-use Rattle.pass_call.specs.declared.Answer.TheVariants.{Accepted, Overflow}
+use Rattle.pass_call.specs.Answers.{passed_with, source, Writable}
 
 -- The questions
 
-yes_first : (n : ℕ) (b : Bool) (qs : List (ℕ × Bool)) → refusal ((n, b) ∷ qs) ≡ none → (b ≡ true) × (refusal qs ≡ none)
-unfolding refusal
-yes_first n true qs e = (refl, e)
-yes_first n false qs e = none_some (sym e)
-
-none_call : (pass : List Line → Answer (List Line)) (c out : Columns) → pass_refusal c out ≡ none → pass_call pass c out ≡ passed (pass (source c)) out
+none_call : (pass : List Line → Answer (List Line)) (c out : Columns) → pass_refusal c out ≡ None → pass_call pass c out ≡ passed (pass (source c)) out
 unfolding pass_call
 none_call pass c out e = rw (e, pass_call)
 
-module _ (c out : Columns) (e : pass_refusal c out ≡ none) where
+module _ (c out : Columns) (e : pass_refusal c out ≡ None) where
   pub asked_all : (question_1 limits c.lines c.tokens c.text ≡ true) × (length c.addresses ≡ length c.lines)
       × (question_2 c.lines c.tokens c.text ≡ true) × (has_room c out ≡ true)
   asked_all =
-      let a = yes_first 1 _ _ e in
-      let b = yes_first 2 _ _ a.1 in
-      let d = yes_first 3 _ _ b.1 in
-      let f = yes_first 4 _ _ d.1 in
+      let a = refusal_yes 1 _ _ e in
+      let b = refusal_yes 2 _ _ a.1 in
+      let d = refusal_yes 3 _ _ b.1 in
+      let f = refusal_yes 4 _ _ d.1 in
       let g = and_split (eqb (length c.addresses) (length c.lines)) (question_2 c.lines c.tokens c.text) b.0 in
       (a.0, eqb-true (length c.addresses) (length c.lines) g.0, g.1, f.0)
 
@@ -69,12 +65,12 @@ module _ (c out : Columns) (e : pass_refusal c out ≡ none) where
 -- A call of a pass
 
 module _ (pass : List Line → Answer (List Line)) (c out : Columns) where
-  pub refusal_is : (n : ℕ) → some n ≡ pass_refusal c out → (r : Said) → answered r ≡ refused n → passed_with r out ≡ pass_call pass c out
+  pub refusal_is : (r : Refusal) → Some (number r) ≡ pass_refusal c out → passed_with (Err r) out ≡ pass_call pass c out
   unfolding pass_call
-  refusal_is n e r q = ap (λ a. record { answer = a; out = out }) q ∙ sym (rw (← e, pass_call))
+  refusal_is r e = sym (rw (← e, pass_call))
 
-  module _ (e : pass_refusal c out ≡ none) where
-    pub call_overflows : pass (source c) ≡ refused 6 → (out' : Columns) → out' ≡ zero_columns out → passed_with Overflow out' ≡ pass_call pass c out
+  module _ (e : pass_refusal c out ≡ None) where
+    pub call_overflows : pass (source c) ≡ refused 6 → (out' : Columns) → out' ≡ zero_columns out → passed_with (Err Overflow) out' ≡ pass_call pass c out
     unfolding passed
     call_overflows q out' z = sym (none_call pass c out e ∙ ap (λ a. passed a out) q ∙ ap (λ o. record { answer = refused 6; out = o }) (sym z))
 
@@ -83,7 +79,7 @@ module _ (pass : List Line → Answer (List Line)) (c out : Columns) where
 
 -- Room
 
-pub writable : (c out : Columns) (M : List Line) → pass_refusal c out ≡ none → Fits (source c) M → Writable c out M
+pub writable : (c out : Columns) (M : List Line) → pass_refusal c out ≡ None → Fits (source c) M → Writable c out M
 writable c out M e f = record { asked = e; lines = f.lines; tokens = f.tokens; text = f.text }
 
 tokens_kept : (l a : List ℕ) (L : List Line) → length a ≡ length l → length L ≡ length l → map (λ m. m.tokens) (with_addresses l a L) ≡ map (λ m. m.tokens) L
@@ -139,31 +135,13 @@ module _ (c out : Columns) (M : List Line) (w : Writable c out M) where
     packed_same = rw (l, a, t, x)
 
     pub written_is : (d : Cursor) (out' : Columns) → Holds (done M) out₁ d → ((M : List Line) → Holds (done M) out₁ d → Room (done M) out₁ → Finished M out₁ d out')
-        → passed_with (Accepted d.lines d.tokens d.text) out' ≡ passed (accepted M) out
+        → passed_with (Ok (record { lines = d.lines; tokens = d.tokens; text = d.text })) out' ≡ passed (accepted M) out
     unfolding passed
     written_is d out' h f =
         let z = f M h room_still in
         ap₂ (λ n o. record { answer = accepted n; out = o }) z.counts (z.columns ∙ packed_same)
 
 -- Each function's facts
-
-pub short_first : (n r : ℕ) (A B D : Bool) → r < n → false ≡ (leb n r && A && B && D)
-short_first n r A B D h = rw (lt-leb n r h)
-
-pub short_second : (n r p : ℕ) (B D : Bool) → n ≤ r → p < n → false ≡ (leb n r && leb n p && B && D)
-short_second n r p B D g h = rw (le-leb n r g, lt-leb n p h)
-
-module _ (n r p t w : ℕ) (D : Bool) (g : n ≤ r) (k : n ≤ p) where
-  pub short_third : w < t → false ≡ (leb n r && leb n p && leb t w && D)
-  short_third h = rw (le-leb n r g, le-leb n p k, lt-leb t w h)
-
-  pub long_enough : t ≤ w → D ≡ (leb n r && leb n p && leb t w && D)
-  long_enough h = rw (le-leb n r g, le-leb n p k, le-leb t w h)
-
-pub formed_no : (a b : ℕ) (q : Bool) → (a ≡ b → ⊥) → false ≡ (eqb a b && q)
-formed_no a b q h = rw (ne_eqb a b h)
-
-pub ruleset rooms = (short_first, short_second, short_third, long_enough)
 
 pub small_columns : (b : Bool) (x y z m k j : ℕ) → b ≡ (leb x m && leb y k && leb z j) → b ≡ true → m ≤ 1048576 → k ≤ 16777216 → j ≤ 16777216
     → (x ≤ 1048576) × (y ≤ 16777216) × (z ≤ 16777216)
@@ -175,25 +153,3 @@ small_columns b x y z m k j e f p q r =
 pub zeros_are : (r p w b r' p' w' b' : List ℕ) → r' ≡ zeroed 0 r → p' ≡ zeroed 0 p → w' ≡ zeroed 0 w → b' ≡ zeroed 0 b
     → columns r' p' w' b' ≡ zero_columns (columns r p w b)
 zeros_are r p w b r' p' w' b' e f g h = rw (e, f, g, h, sub-zero, sub-zero, sub-zero, sub-zero)
-
-module _ (n : ℕ) where
-  pub refuse_1 : n ≡ 1 → ◌≡◌ {A = Answer Limits} (refused 1) (refused n)
-  refuse_1 e = ap refused (sym e)
-
-  pub refuse_2 : n ≡ 2 → ◌≡◌ {A = Answer Limits} (refused 2) (refused n)
-  refuse_2 e = ap refused (sym e)
-
-  pub refuse_3 : n ≡ 3 → ◌≡◌ {A = Answer Limits} (refused 3) (refused n)
-  refuse_3 e = ap refused (sym e)
-
-  pub refuse_4 : 1 ≤ n → n ≤ 4 → (n ≡ 1 → ⊥) → (n ≡ 2 → ⊥) → (n ≡ 3 → ⊥) → ◌≡◌ {A = Answer Limits} (refused 4) (refused n)
-  refuse_4 a b x y z = ap refused (omega arith)
-
-pub ruleset refusals = (refuse_1, refuse_2, refuse_3, refuse_4)
-
-pub asked_none : (n : ℕ) (q : Option ℕ) → number n ≡ q → n ≡ 0 → q ≡ none
-asked_none n q e z = sym e ∙ ap number z
-
-pub asked_some : (n : ℕ) (q : Option ℕ) → number n ≡ q → (n ≡ 0 → ⊥) → some n ≡ q
-asked_some zero q e z = absurd (z refl)
-asked_some (suc n) q e z = e

@@ -6,125 +6,100 @@
 
 #![tactic(auto)]
 
-ghost use Rattle.std.specs.Prelude.{◌≡◌, true, ◌&&◌, ◌≤◌, eqb, length, take};
+ghost use Rattle.std.specs.Prelude.{◌≡◌, true, ◌&&◌, ◌≤◌, eqb, length, take, Ok, IfErr};
 ghost use Rattle.definitions.specs.Lists.{all};
 ghost use Rattle.definitions.specs.Questions.{question_2};
-ghost use Rattle.definitions.specs.Answers.{accepted, refused as refuse};
+ghost use Rattle.definitions.specs.Answers.{accepted};
 ghost use Rattle.definitions.specs.Calls.{has_room, pass_refusal, passed, zero_columns};
-ghost use Rattle.questions.specs.Refusals.{at_most, refused};
+ghost use Rattle.questions.specs.Refusals.{at_most, number, refused};
 ghost use Rattle.plan.specs.Plan.{render};
 ghost use Rattle.emit.specs.Lines.{is_sound};
 ghost use Rattle.write.specs.Holds.{columns};
-ghost use Rattle.pass_call.specs.Answers.{answered, passed_with, pass_questions, source, Writable};
+ghost use Rattle.pass_call.specs.Answers.{passed_with, pass_questions, source, Writable};
 
-use questions::Limits;
-
-// What a call answers: the counts of lines, tokens and bytes, or which question was answered no.
-#[derive(Drop)]
-pub enum Answer {
-    Accepted(usize, usize, usize),
-    TooLarge,
-    Malformed,
-    NotUtf8,
-    NoRoom,
-    Overflow,
-}
+use model::listing::Listing;
+use questions::{Limits, Refusal};
 
 // 4: are the outputs long enough?
+#[tactic(auto, using(model::proofs::Ands::ands))]
 fn has_room(
-    lines: &[u32],
+    code: &Listing,
     addresses: &[u64],
-    tokens: &[u32],
-    text: &[u8],
     rows: &[u32],
     places: &[u64],
     words: &[u32],
     bytes: &[u8],
 ) -> bool
-    requires { (length lines.now ≤ 1048576) × (length tokens.now ≤ 16777216) × (length text.now ≤ 16777216) }
-    ensures { result ≡ has_room (columns lines.now addresses.now tokens.now text.now)
+    requires { (length code.now.lines.now ≤ 1048576) × (length code.now.tokens.now ≤ 16777216) × (length code.now.text.now ≤ 16777216) }
+    ensures { result ≡ has_room (columns code.now.lines.now addresses.now code.now.tokens.now code.now.text.now)
         (columns rows.now places.now words.now bytes.now) }
 {
-    let n = lines.len();
-    if rows.len() < n {
-        return false;
-    }
-    if places.len() < n {
-        return false;
-    }
-    if words.len() < tokens.len() + 8 * n {
-        return false;
-    }
-    text.len() + 32 * n <= bytes.len()
+    let n = code.lines.len();
+    n <= rows.len()
+        && n <= places.len()
+        && code.tokens.len() + 8 * n <= words.len()
+        && code.text.len() + 32 * n <= bytes.len()
 }
 
 // 2: question 2, and is there an address word for each line?
-fn is_formed(lines: &[u32], addresses: &[u64], tokens: &[u32], text: &[u8]) -> bool
-    ensures { let l = lines.now in
-        result ≡ (eqb (length addresses.now) (length l) && question_2 l tokens.now text.now) }
+#[tactic(auto, using(model::proofs::Ands::ands))]
+fn is_formed(code: &Listing, addresses: &[u64]) -> bool
+    ensures { let l = code.now.lines.now in
+        result ≡ (eqb (length addresses.now) (length l) && question_2 l code.now.tokens.now code.now.text.now) }
 {
-    if addresses.len() == lines.len() {
-        questions::question_2(lines, tokens, text)
-    } else {
-        false
-    }
+    addresses.len() == code.lines.len() && questions::question_2(code)
 }
 
-// The number of the first of questions 1 to 4 that is answered no, 0 where each is answered yes.
+// Questions 1 to 4.
+#[tactic(auto, unfolding(definitions::specs::Questions::refusal))]
 fn pass_refusal(
-    lines: &[u32],
+    code: &Listing,
     addresses: &[u64],
-    tokens: &[u32],
-    text: &[u8],
     rows: &[u32],
     places: &[u64],
     words: &[u32],
     bytes: &[u8],
     most: Limits,
-) -> usize
+) -> Result<(), Refusal>
     requires { (most.lines ≤ 1048576) × (most.tokens ≤ 16777216) × (most.text ≤ 16777216) }
-    ensures result_value { refused result ≡ pass_questions (at_most most) (columns lines.now addresses.now tokens.now text.now)
+    ensures result_value { refused result ≡ pass_questions (at_most most) (columns code.now.lines.now addresses.now code.now.tokens.now code.now.text.now)
         (columns rows.now places.now words.now bytes.now) }
-    ensures upper_bound { result ≤ 4 }
+    ensures upper_bound { IfErr result (λ r. number r ≤ 4) }
 {
-    if questions::question_1(lines, tokens, text, most) {
-        if is_formed(lines, addresses, tokens, text) {
-            if questions::question_3(tokens, text) {
-                if has_room(lines, addresses, tokens, text, rows, places, words, bytes) {
-                    return 0;
-                }
-                return 4;
-            }
-            return 3;
-        }
-        return 2;
+    if !questions::question_1(code, most) {
+        return Err(Refusal::TooLarge);
     }
-    1
+    if !is_formed(code, addresses) {
+        return Err(Refusal::Malformed);
+    }
+    if !questions::question_3(code) {
+        return Err(Refusal::NotUtf8);
+    }
+    if !has_room(code, addresses, rows, places, words, bytes) {
+        return Err(Refusal::NoRoom);
+    }
+    Ok(())
 }
 
 // The same with the bounds of document 01.
 pub fn asked(
-    lines: &[u32],
+    code: &Listing,
     addresses: &[u64],
-    tokens: &[u32],
-    text: &[u8],
     rows: &[u32],
     places: &[u64],
     words: &[u32],
     bytes: &[u8],
-) -> usize
-    ensures result_value { refused result ≡ pass_refusal (columns lines.now addresses.now tokens.now text.now)
+) -> Result<(), Refusal>
+    ensures result_value { refused result ≡ pass_refusal (columns code.now.lines.now addresses.now code.now.tokens.now code.now.text.now)
         (columns rows.now places.now words.now bytes.now) }
-    ensures upper_bound { result ≤ 4 }
+    ensures upper_bound { IfErr result (λ r. number r ≤ 4) }
 {
     let most = Limits {
         lines: 1024,
         tokens: 16384,
         text: 262144,
     };
-    pass_refusal(
-        lines, addresses, tokens, text, rows, places, words, bytes, most,
-    )
+    pass_refusal(code, addresses, rows, places, words, bytes, most)
 }
 
 // Every output zero.
@@ -132,51 +107,35 @@ pub fn zero_all(rows: &mut [u32], places: &mut [u64], words: &mut [u32], bytes: 
     ensures { columns rows.new places.new words.new bytes.new
         ≡ zero_columns (columns rows.old places.old words.old bytes.old) }
 {
-    text::zero_words32(rows, 0);
-    text::zero_words64(places, 0);
-    text::zero_words32(words, 0);
-    text::zero_bytes(bytes, 0);
+    text::zero(rows, 0);
+    text::zero(places, 0);
+    text::zero(words, 0);
+    text::zero(bytes, 0);
 }
 
-// The lines of the plan written, and zeros behind them.
+// The lines of the plan written, and zeros behind them; answers how many lines, tokens and bytes are written.
 pub fn written(
-    lines: &[u32],
+    code: &Listing,
     addresses: &[u64],
-    tokens: &[u32],
-    text: &[u8],
     plan: &[usize],
     n: usize,
     rows: &mut [u32],
     places: &mut [u64],
     words: &mut [u32],
     bytes: &mut [u8],
-) -> Answer
+) -> Limits
     requires n_in_bounds { (n ≤ length plan.now) × (all is_sound (take n plan.now) ≡ true) }
-    requires fact { let c = columns lines.now addresses.now tokens.now text.now in
+    requires fact { let c = columns code.now.lines.now addresses.now code.now.tokens.now code.now.text.now in
         Writable c (columns rows.old places.old words.old bytes.old) (render (source c) (take n plan.now)) }
-    ensures { let c = columns lines.now addresses.now tokens.now text.now in
-        passed_with result (columns rows.new places.new words.new bytes.new)
+    ensures { let c = columns code.now.lines.now addresses.now code.now.tokens.now code.now.text.now in
+        passed_with (Ok result) (columns rows.new places.new words.new bytes.new)
         ≡ passed (accepted (render (source c) (take n plan.now))) (columns rows.old places.old words.old bytes.old) }
 {
-    let c = emit::lines::emit(
-        lines, addresses, tokens, text, plan, n, rows, places, words, bytes,
-    );
+    let c = emit::lines::emit(code, addresses, plan, n, rows, places, words, bytes);
     write::finish(rows, places, words, bytes, c);
-    let k = c.lines;
-    let m = c.tokens;
-    let b = c.text;
-    Answer::Accepted(k, m, b)
-}
-
-// The refusal with a number from 1 to 4.
-pub fn refusal(n: usize) -> Answer
-    requires { (1 ≤ n) × (n ≤ 4) }
-    ensures { answered result ≡ refuse n }
-{
-    match n {
-        1 => Answer::TooLarge,
-        2 => Answer::Malformed,
-        3 => Answer::NotUtf8,
-        _ => Answer::NoRoom,
+    Limits {
+        lines: c.lines,
+        tokens: c.tokens,
+        text: c.text,
     }
 }

@@ -4,10 +4,10 @@
 --   steps_kept, steps_continued, steps_broken, steps_closed        a step, by the form of the piece
 --   family_kept, family_continued, family_broken, family_closed    the family of its first token
 -- Assumes nothing.
+use Rattle.std.specs.Prelude.{Option, None}
 use mathlib.Core.Path.{◌≡◌, refl, sym, ap, ◌∙◌}
 use mathlib.Core.Bool.{Bool, true, false, cond}
 use mathlib.Core.List.{List, [], ◌∷◌, ◌++◌}
-use mathlib.Core.Option.{Option, none}
 use Prim.Native.Nat.{ℕ, zero, suc, ◌-◌, ◌%◌, ◌≤◌}
 use native.Mathlib.Nat.{sub-zero, not-suc-le-zero}
 use native.Mathlib.Omega.{arith}
@@ -92,7 +92,7 @@ module _ (kw : List ℕ) (steps : (X : List ℕ) → is_step (X ++ (kw ++ ascii 
   cut_family : fam_of (get_or (jumped kw l) 0 no_token) ≡ jumped_family l
   cut_family = go l.tokens (cut_place l) (unfold cut_place in place_within (is_kw (ascii "goto")) l.tokens)
     where
-      go : (ts : List Token) (n : ℕ) → n ≤ length ts → fam_of (get_or (take n ts ++ (tok kw Keyword ∷ tok (ascii ";") Punct ∷ [])) 0 no_token) ≡ cond (eqb n 0) none (fam_of (get_or ts 0 no_token))
+      go : (ts : List Token) (n : ℕ) → n ≤ length ts → fam_of (get_or (take n ts ++ (tok kw Keyword ∷ tok (ascii ";") Punct ∷ [])) 0 no_token) ≡ cond (eqb n 0) None (fam_of (get_or ts 0 no_token))
       go ts zero h = unfold fam_of in refl
       go [] (suc n) h = absurd (not-suc-le-zero h)
       go (t ∷ ts) (suc n) h = rw (ne_eqb (suc n) 0 (λ q. omega arith))
@@ -104,7 +104,7 @@ module _ (l : Line) (n : ℕ) (c : n ≡ cut_place l) where
   pub jumped_some : (n ≡ 0 → ⊥) → (s : List ℕ) (r : Bool) → s ≡ text_between l n → r ≡ adds_to s → r ≡ jumped_steps l
   jumped_some h s r q e = rw (← c, ne_eqb n 0 h, ← q) e
 
-  pub no_family : n ≡ 0 → none ≡ jumped_family l
+  pub no_family : n ≡ 0 → None ≡ jumped_family l
   no_family e = rw (← c, eq-eqb n 0 e)
 
   pub its_family : (n ≡ 0 → ⊥) → (o : Option Family) → o ≡ fam_of (token l 0) → o ≡ jumped_family l
@@ -135,7 +135,7 @@ module _ (C : List Line) (p : ℕ) where
   pub family_broken : (o : Option Family) → p % 4 ≡ 2 → o ≡ jumped_family (origin C p) → o ≡ fam_of (token (piece C p) 0)
   family_broken o e d = d ∙ sym (cut_family (ascii "break") break_step (origin C p)) ∙ ap (λ ts. fam_of (get_or ts 0 no_token)) (sym (broken_piece C p e))
 
-  pub family_closed : (p % 4 ≡ 0 → ⊥) → (p % 4 ≡ 1 → ⊥) → (p % 4 ≡ 2 → ⊥) → none ≡ fam_of (token (piece C p) 0)
+  pub family_closed : (p % 4 ≡ 0 → ⊥) → (p % 4 ≡ 1 → ⊥) → (p % 4 ≡ 2 → ⊥) → None ≡ fam_of (token (piece C p) 0)
   unfolding fam_of
   family_closed a b c = rw (closed_piece C p a b c)
 

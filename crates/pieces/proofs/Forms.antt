@@ -7,10 +7,11 @@
 --   continue_kept, continue_is, continue_before, continue_closed    the keyword continue
 --   brace_kept, brace_continued, brace_broken, brace_closed         the lone brace
 -- Assumes nothing.
+use Rattle.std.specs.Prelude.{Option, None, Some}
+use Rattle.std.specs.Option.{option_map}
 use mathlib.Core.Path.{◌≡◌, refl, sym, ap, ◌∙◌}
 use mathlib.Core.Bool.{Bool, true, false, cond, not, ◌||◌, or-true}
 use mathlib.Core.List.{List, [], ◌∷◌, ◌++◌}
-use mathlib.Core.Option.{Option, none, some, map}
 use Prim.Native.Nat.{ℕ, zero, suc, ◌%◌, ◌≤◌, ◌<◌}
 use native.Mathlib.Decide.{dec_lt}
 use native.Mathlib.Omega.{arith}
@@ -26,9 +27,6 @@ use Rattle.text.proofs.Texts.{≟_length}
 use Rattle.loop_theory.proofs.Cases.{or_split}
 use Rattle.loop_theory.proofs.Jumps.{jump_line_no_label, jump_line_has_no_goto}
 use Rattle.plan.specs.Plan.{form_tokens, form_of}
-use Rattle.pseudo_opt.specs.Places.{found}
-use Rattle.pseudo_opt.specs.declared.Found.{Found}
-use Rattle.pseudo_opt.specs.declared.Found.TheVariants.{At, Nothing}
 use Rattle.pieces.specs.Pieces.{piece, origin, cut_place, jumped, comes_before}
 
 -- What stands before the first that passes
@@ -47,20 +45,20 @@ module _ {A : Type 0} (q : A → Bool) where
   place_before (x ∷ xs) = go (q x) (position q xs) (place_before xs)
     where
       go : (b : Bool) (o : Option ℕ) → take_while (λ x. not (q x)) xs ≡ take (or_else o (length xs)) xs
-          → cond (not b) (x ∷ take_while (λ x. not (q x)) xs) [] ≡ take (or_else (cond b (some 0) (map suc o)) (suc (length xs))) (x ∷ xs)
+          → cond (not b) (x ∷ take_while (λ x. not (q x)) xs) [] ≡ take (or_else (cond b (Some 0) (option_map suc o)) (suc (length xs))) (x ∷ xs)
       go true o e = refl
-      go false none e = ap (λ ys. x ∷ ys) e
-      go false (some k) e = ap (λ ys. x ∷ ys) e
+      go false None e = ap (λ ys. x ∷ ys) e
+      go false (Some k) e = ap (λ ys. x ∷ ys) e
 
   pub place_within : (xs : List A) → or_else (position q xs) (length xs) ≤ length xs
   unfolding position
   place_within [] = omega arith
   place_within (x ∷ xs) = go (q x) (position q xs) (place_within xs)
     where
-      go : (b : Bool) (o : Option ℕ) → or_else o (length xs) ≤ length xs → or_else (cond b (some 0) (map suc o)) (suc (length xs)) ≤ suc (length xs)
+      go : (b : Bool) (o : Option ℕ) → or_else o (length xs) ≤ length xs → or_else (cond b (Some 0) (option_map suc o)) (suc (length xs)) ≤ suc (length xs)
       go true o e = omega arith
-      go false none e = omega arith
-      go false (some k) e = omega arith
+      go false None e = omega arith
+      go false (Some k) e = omega arith
 
   pub any_before : (xs : List A) (g : ℕ) → any q (take g xs) ≡ comes_before (position q xs) g
   unfolding any position
@@ -68,18 +66,18 @@ module _ {A : Type 0} (q : A → Bool) where
   any_before [] (suc g) = refl
   any_before (x ∷ xs) zero = go (q x) (position q xs)
     where
-      go : (b : Bool) (o : Option ℕ) → false ≡ comes_before (cond b (some 0) (map suc o)) 0
+      go : (b : Bool) (o : Option ℕ) → false ≡ comes_before (cond b (Some 0) (option_map suc o)) 0
       go true o = sym (le-ltb 0 0 (omega arith))
-      go false none = refl
-      go false (some k) = sym (le-ltb (suc k) 0 (omega arith))
+      go false None = refl
+      go false (Some k) = sym (le-ltb (suc k) 0 (omega arith))
   any_before (x ∷ xs) (suc g) = go (q x) (position q xs) (any_before xs g)
     where
-      go : (b : Bool) (o : Option ℕ) → any q (take g xs) ≡ comes_before o g → (b || any q (take g xs)) ≡ comes_before (cond b (some 0) (map suc o)) (suc g)
+      go : (b : Bool) (o : Option ℕ) → any q (take g xs) ≡ comes_before o g → (b || any q (take g xs)) ≡ comes_before (cond b (Some 0) (option_map suc o)) (suc g)
       go true o e = sym (lt-ltb 0 (suc g) (omega arith))
-      go false none e = e
-      go false (some k) e = e ∙ ltb_suc k g
+      go false None e = e
+      go false (Some k) e = e ∙ ltb_suc k g
 
-  no_place : (xs : List A) → any q xs ≡ false → position q xs ≡ none
+  no_place : (xs : List A) → any q xs ≡ false → position q xs ≡ None
   unfolding any position
   no_place [] e = refl
   no_place (x ∷ xs) e = let s = or_split (q x) (any q xs) e in rw (s.0, no_place xs s.1)
@@ -145,7 +143,7 @@ module _ (C : List Line) (p : ℕ) where
   pub label_other : (p % 4 ≡ 0 → ⊥) → false ≡ is_label (piece C p)
   unfolding is_label
   label_other h =
-      other_piece (λ ts. false ≡ is_label (pseudo_line none 1 ts)) h (sym (jump_line_no_label (ascii "continue") (origin C p)))
+      other_piece (λ ts. false ≡ is_label (pseudo_line None 1 ts)) h (sym (jump_line_no_label (ascii "continue") (origin C p)))
       (sym (jump_line_no_label (ascii "break") (origin C p))) refl
 
   -- Gotos
@@ -154,12 +152,12 @@ module _ (C : List Line) (p : ℕ) where
   unfolding goto_target
   target_kept o e f = rw (kept_piece e) f
 
-  pub target_other : (p % 4 ≡ 0 → ⊥) → none ≡ goto_target (piece C p)
+  pub target_other : (p % 4 ≡ 0 → ⊥) → None ≡ goto_target (piece C p)
   target_other h =
-      other_piece (λ ts. none ≡ goto_target (pseudo_line none 1 ts)) h (nowhere (jump_line (ascii "continue") (origin C p)) (jump_line_has_no_goto (ascii "continue") (origin C p) (unfold ◌≟◌ in refl)))
+      other_piece (λ ts. None ≡ goto_target (pseudo_line None 1 ts)) h (nowhere (jump_line (ascii "continue") (origin C p)) (jump_line_has_no_goto (ascii "continue") (origin C p) (unfold ◌≟◌ in refl)))
       (nowhere (jump_line (ascii "break") (origin C p)) (jump_line_has_no_goto (ascii "break") (origin C p) (unfold ◌≟◌ in refl))) (unfold goto_target position ◌≟◌ in refl)
     where
-      nowhere : (l : Line) → has_kw l (ascii "goto") ≡ false → none ≡ goto_target (pseudo_line none 1 l.tokens)
+      nowhere : (l : Line) → has_kw l (ascii "goto") ≡ false → None ≡ goto_target (pseudo_line None 1 l.tokens)
       nowhere l e = unfold goto_target in rw (no_place (is_kw (ascii "goto")) l.tokens (unfold has_kw in e))
 
   -- The keyword continue
@@ -172,8 +170,8 @@ module _ (C : List Line) (p : ℕ) where
   unfolding has_kw
   continue_is e = rw (continued_piece e) (sym (with_continue (take (cut_place (origin C p)) (origin C p).tokens)))
 
-  pub continue_before : (f : Found) (g : ℕ) (r : Bool) → p % 4 ≡ 2 → found f ≡ position (is_kw (ascii "continue")) (origin C p).tokens → g ≡ cut_place (origin C p)
-      → r ≡ comes_before (found f) g → r ≡ has_kw (piece C p) (ascii "continue")
+  pub continue_before : (f : Option ℕ) (g : ℕ) (r : Bool) → p % 4 ≡ 2 → f ≡ position (is_kw (ascii "continue")) (origin C p).tokens → g ≡ cut_place (origin C p)
+      → r ≡ comes_before f g → r ≡ has_kw (piece C p) (ascii "continue")
   unfolding has_kw
   continue_before f g r e q d h =
       h ∙ rw (broken_piece e, d, q)
@@ -207,19 +205,19 @@ pub ruleset reads = (label_kept, label_other, target_kept, target_other, continu
 
 -- The place of the first goto
 
-module _ (l : Line) (f : Found) (e : found f ≡ position (is_kw (ascii "goto")) l.tokens) where
-  pub cut_here : (g : ℕ) → f ≡ At g → g ≡ cut_place l
+module _ (l : Line) (f : Option ℕ) (e : f ≡ position (is_kw (ascii "goto")) l.tokens) where
+  pub cut_here : (g : ℕ) → f ≡ Some g → g ≡ cut_place l
   unfolding cut_place
   cut_here g q = rw (← e, q)
 
-  pub cut_whole : (n : ℕ) → f ≡ Nothing → n ≡ length l.tokens → n ≡ cut_place l
+  pub cut_whole : (n : ℕ) → f ≡ None → n ≡ length l.tokens → n ≡ cut_place l
   unfolding cut_place
   cut_whole n q d = rw (← e, q) d
 
-pub before_at : (f : Found) (k g : ℕ) → f ≡ At k → ltb k g ≡ comes_before (found f) g
+pub before_at : (f : Option ℕ) (k g : ℕ) → f ≡ Some k → ltb k g ≡ comes_before f g
 before_at f k g e = rw e
 
-pub before_nothing : (f : Found) (g : ℕ) → f ≡ Nothing → false ≡ comes_before (found f) g
+pub before_nothing : (f : Option ℕ) (g : ℕ) → f ≡ None → false ≡ comes_before f g
 before_nothing f g e = rw e
 
 pub ruleset cuts = (cut_here, cut_whole, before_at, before_nothing)

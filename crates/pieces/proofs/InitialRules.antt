@@ -3,10 +3,11 @@
 --   cut_lines         a line that was cut at its first goto, by its tests
 --   init_pieces       a piece, by its form
 -- Assumes nothing.
+use Rattle.std.specs.Prelude.{Option, None, Some}
+use Rattle.std.specs.Option.{option_map}
 use mathlib.Core.Path.{◌≡◌, refl, sym, ap, ◌∙◌}
 use mathlib.Core.Bool.{Bool, true, false, ◌&&◌, ◌||◌, not, cond, and-false, and_assoc, or-false, or_assoc}
 use mathlib.Core.List.{List, [], ◌∷◌, ◌++◌, append-nil, append_assoc}
-use mathlib.Core.Option.{Option, none, some, map}
 use Prim.Native.Nat.{ℕ, zero, suc, ◌+◌, ◌-◌, ◌%◌, ◌≤◌, ◌<◌}
 use native.Mathlib.Nat.{not-suc-le-zero, le_of_suc-le-suc}
 use native.Mathlib.Omega.{arith}
@@ -21,12 +22,8 @@ use Rattle.definitions.specs.Family.{Family, fam_of, names}
 use Rattle.text.proofs.Loops.{any_found, any_next, any_end}
 use Rattle.loop_theory.proofs.Cases.{true_false}
 use Rattle.family.specs.Register.{names_family}
-use Rattle.pseudo_opt.specs.Places.{found}
 use Rattle.assignment.specs.Assignments.{side, assigned}
-use Rattle.pseudo_opt.specs.declared.Found.{Found}
-use Rattle.pseudo_opt.specs.declared.Found.TheVariants.{At, Nothing}
-use Rattle.assignment.specs.declared.Assigned.{Assigned}
-use Rattle.assignment.specs.declared.Assigned.TheVariants.{Side, Nothing as No}
+use Rattle.assignment.specs.declared.Side.{Side}
 use Rattle.plan.specs.ForLoop.{inits, passes}
 use Rattle.pieces.specs.Pieces.{piece, origin, cut_place, jumped, comes_before}
 use Rattle.pieces.specs.Initial.{cut_from, cut_assigns, calls_next, cut_calls, cut_inits, cut_passes}
@@ -34,21 +31,21 @@ use Rattle.pieces.proofs.Forms.{ltb_suc, place_within, kept_piece, continued_pie
 
 -- A line as it is
 
-module _ (p : Token → Bool) (l : Line) (a : Assigned) (e : assigned l a ≡ assignment l) where
-  pub inits_none : a ≡ No → false ≡ inits p l
+module _ (p : Token → Bool) (l : Line) (a : Option Side) (e : assigned l a ≡ assignment l) where
+  pub inits_none : a ≡ None → false ≡ inits p l
   unfolding inits
   inits_none q = rw (← e, q, inits)
 
-  pub passes_none : a ≡ No → false ≡ passes p l
+  pub passes_none : a ≡ None → false ≡ passes p l
   unfolding passes
   passes_none q = rw (← e, q, passes)
 
-  module _ (i j : ℕ) (q : a ≡ Side i j) (b : Bool) (n : b ≡ p (token l 0)) where
+  module _ (u : Side) (q : a ≡ Some u) (b : Bool) (n : b ≡ p (token l 0)) where
     pub inits_other : b ≡ false → false ≡ inits p l
     unfolding inits
     inits_other f = rw (← e, q, inits, ← n, f)
 
-    module _ (f : b ≡ true) (c : Bool) (m : c ≡ any p (side l i j)) where
+    module _ (f : b ≡ true) (c : Bool) (m : c ≡ any p (side l u.from u.to)) where
       pub inits_reads : c ≡ true → false ≡ inits p l
       unfolding inits
       inits_reads g = rw (← e, q, inits, ← n, f, ← m, g)
@@ -66,14 +63,14 @@ module _ (p : Token → Bool) (l : Line) (a : Assigned) (e : assigned l a ≡ as
       unfolding passes
       passes_names g = rw (← e, q, passes, ← n, f, ← m, g)
 
-      module _ (g : c ≡ false) (o : Found) (u : found o ≡ call_at l) where
-        pub passes_calls : (k : ℕ) → o ≡ At k → false ≡ passes p l
+      module _ (g : c ≡ false) (o : Option ℕ) (uc : o ≡ call_at l) where
+        pub passes_calls : (k : ℕ) → o ≡ Some k → false ≡ passes p l
         unfolding passes
-        passes_calls k t = rw (← e, q, passes, ← n, f, ← m, g, ← u, t)
+        passes_calls k t = rw (← e, q, passes, ← n, f, ← m, g, ← uc, t)
 
-        pub passes_is : o ≡ Nothing → true ≡ passes p l
+        pub passes_is : o ≡ None → true ≡ passes p l
         unfolding passes
-        passes_is t = rw (← e, q, passes, ← n, f, ← m, g, ← u, t)
+        passes_is t = rw (← e, q, passes, ← n, f, ← m, g, ← uc, t)
 
 pub ruleset init_lines = (inits_none, inits_other, inits_reads, inits_is, passes_none, passes_own, passes_names, passes_calls, passes_is)
 
@@ -160,8 +157,8 @@ module _ (p : Token → Bool) (l : Line) (a : Bool) (e : a ≡ cut_assigns l) wh
         cut_passes_is g = rw (← e, f, ← w, h, ← x, g)
 
 before_zero : (o : Option ℕ) → comes_before o 0 ≡ false
-before_zero none = refl
-before_zero (some k) = le-ltb k 0 (omega arith)
+before_zero None = refl
+before_zero (Some k) = le-ltb k 0 (omega arith)
 
 module _ (l : Line) (n : ℕ) (c : n ≡ cut_place l) where
   pub calls_empty : n ≡ 0 → false ≡ cut_calls l
@@ -171,7 +168,7 @@ module _ (l : Line) (n : ℕ) (c : n ≡ cut_place l) where
       let y : 0 - 1 ≡ 0 = omega arith in
       rw (z, y, before_zero (call_at l), le-ltb 0 0 (omega arith))
 
-  module _ (h : n ≡ 0 → ⊥) (o : Found) (b : Bool) (u : found o ≡ call_at l) (x : b ≡ comes_before (found o) (n - 1)) where
+  module _ (h : n ≡ 0 → ⊥) (o : Option ℕ) (b : Bool) (u : o ≡ call_at l) (x : b ≡ comes_before o (n - 1)) where
     pub calls_before : b ≡ true → true ≡ cut_calls l
     unfolding cut_calls
     calls_before f = rw (← c, ← u, ← x, f)
@@ -195,13 +192,13 @@ module _ (kw : List ℕ) where
   abbrev ending : List Token
   ending = tok kw Keyword ∷ tok (ascii ";") Punct ∷ []
 
-last_snoc : (ts : List Token) (u : Token) → last (ts ++ (u ∷ [])) ≡ some u
+last_snoc : (ts : List Token) (u : Token) → last (ts ++ (u ∷ [])) ≡ Some u
 unfolding last
 last_snoc [] u = refl
 last_snoc (t ∷ []) u = refl
 last_snoc (t ∷ (v ∷ ts)) u = last_snoc (v ∷ ts) u
 
-without : (ts : List Token) → without_semicolon (ts ++ (tok (ascii ";") Punct ∷ [])) ≡ some ts
+without : (ts : List Token) → without_semicolon (ts ++ (tok (ascii ";") Punct ∷ [])) ≡ Some ts
 unfolding without_semicolon ◌≟◌
 without ts =
     let n : length (ts ++ (tok (ascii ";") Punct ∷ [])) ≡ length ts + 1 = length-append ts (tok (ascii ";") Punct ∷ []) in
@@ -215,7 +212,7 @@ taken : List ℕ → List Token → ℕ → Assignment
 taken kw ts n = record { lhs = get_or ts 0 no_token; expr = unless_empty (tok (drop 3 (get_or ts 1 no_token).text) Punct) ++ (drop 2 (take n ts) ++ (tok kw Keyword ∷ [])) }
 
 cut_assignment : (kw : List ℕ) (a : Option ℕ) (i : ℕ) (ts : List Token) (n : ℕ) → n ≤ length ts
-    → assignment (pseudo_line a i (take n ts ++ ending kw)) ≡ cond (leb 2 n && starts ts) (some (taken kw ts n)) none
+    → assignment (pseudo_line a i (take n ts ++ ending kw)) ≡ cond (leb 2 n && starts ts) (Some (taken kw ts n)) None
 unfolding assignment starts taken
 cut_assignment kw a i ts zero h = refl
 cut_assignment kw a i [] (suc n) h = absurd (not-suc-le-zero h)
@@ -230,7 +227,7 @@ cut_assignment kw a i (t ∷ (u ∷ ts)) (suc (suc n)) h =
     rw (le-leb 2 (suc (suc (length (D ++ ending kw)))) (omega arith), le-leb 2 (suc (suc n)) (omega arith), e, without (U ++ (D ++ (tok kw Keyword ∷ []))), le-leb 1 (length (U ++ (D ++ (tok kw Keyword ∷ [])))) m)
     (go (eqb t.kind Register) (eqb u.kind Punct) (starts_with (ascii " = ") u.text) (record { lhs = t; expr = U ++ (D ++ (tok kw Keyword ∷ [])) }))
   where
-    go : (x y z : Bool) (r : Assignment) → (require ((x && y) && z) >>= λ _. some r) ≡ cond (x && (y && z)) (some r) none
+    go : (x y z : Bool) (r : Assignment) → (require ((x && y) && z) >>= λ _. Some r) ≡ cond (x && (y && z)) (Some r) None
     go true true true r = refl
     go true true false r = refl
     go true false z r = refl
@@ -248,7 +245,7 @@ cut_callee kw w (t ∷ ts) (suc zero) h =
     let y : 1 - 1 ≡ 0 = omega arith in
     rw (w, y, before_zero (callee (t ∷ ts)), and-false (eqb t.kind Symbol)) (go (eqb t.kind Keyword && starts_with (ascii "((void") t.text))
   where
-    go : (b : Bool) → is_some {A = ℕ} (cond b (some 0) none) ≡ b
+    go : (b : Bool) → is_some {A = ℕ} (cond b (Some 0) None) ≡ b
     go true = refl
     go false = refl
 cut_callee kw w (t ∷ []) (suc (suc n)) h = absurd (omega arith)
@@ -259,12 +256,12 @@ cut_callee kw w (t ∷ (u ∷ ts)) (suc (suc n)) h =
     (go (is_callee t u) (callee (u ∷ (take n ts ++ ending kw))) (callee (u ∷ ts)) (rw (y, lt-ltb 0 (suc n) (omega arith)) at (cut_callee kw w (u ∷ ts) (suc n) (le_of_suc-le-suc h))))
   where
     go : (b : Bool) (o v : Option ℕ) → is_some o ≡ (comes_before v n || calls_next (get_or (u ∷ ts) n no_token))
-        → is_some (cond b (some 0) (map (1 +◌) o)) ≡ (comes_before (cond b (some 0) (map (1 +◌) v)) (suc n) || calls_next (get_or (u ∷ ts) n no_token))
+        → is_some (cond b (Some 0) (option_map (1 +◌) o)) ≡ (comes_before (cond b (Some 0) (option_map (1 +◌) v)) (suc n) || calls_next (get_or (u ∷ ts) n no_token))
     go true o v e = rw (lt-ltb 0 (suc n) (omega arith))
-    go false none none e = e
-    go false none (some k) e = let z : 1 + k ≡ suc k = omega arith in e ∙ rw (ltb_suc k n, z)
-    go false (some j) none e = e
-    go false (some j) (some k) e = let z : 1 + k ≡ suc k = omega arith in e ∙ rw (ltb_suc k n, z)
+    go false None None e = e
+    go false None (Some k) e = let z : 1 + k ≡ suc k = omega arith in e ∙ rw (ltb_suc k n, z)
+    go false (Some j) None e = e
+    go false (Some j) (Some k) e = let z : 1 + k ≡ suc k = omega arith in e ∙ rw (ltb_suc k n, z)
 
 any_append : (p : Token → Bool) (ts us : List Token) → any p (ts ++ us) ≡ (any p ts || any p us)
 unfolding any
@@ -273,13 +270,13 @@ any_append p (t ∷ ts) us = rw (any_append p ts us) (sym (or_assoc (p t) (any p
 
 -- `passes` by the assignment
 unfoldable passes_of : (Token → Bool) → Line → Option Assignment → Bool
-passes_of p m none = false
-passes_of p m (some r) = not (p r.lhs) && (not (any p m.tokens) && not (is_some (call_at m)))
+passes_of p m None = false
+passes_of p m (Some r) = not (p r.lhs) && (not (any p m.tokens) && not (is_some (call_at m)))
 
 passes_by : (p : Token → Bool) (m : Line) (o : Option Assignment) → assignment m ≡ o → passes p m ≡ passes_of p m o
 unfolding passes passes_of
-passes_by p m none e = rw (e, passes)
-passes_by p m (some r) e = rw (e, passes)
+passes_by p m None e = rw (e, passes)
+passes_by p m (Some r) e = rw (e, passes)
 
 -- a line that names nothing does not name it in front
 own : (p : Token → Bool) (n : ℕ) (ts : List Token) → leb 2 n ≡ true → n ≤ length ts → (not (p (get_or ts 0 no_token)) && not (any p (take n ts))) ≡ not (any p (take n ts))
@@ -318,7 +315,7 @@ module _ (p : Token → Bool) (kw : List ℕ) (plain : (s : List ℕ) (k : ℕ) 
     cut_inits_jumped =
         rw (cut_assignment kw a i l.tokens (cut_place l) (within l), inits) (go (leb 2 (cut_place l) && starts l.tokens))
       where
-        go : (b : Bool) → ◌≡◌ {A = Bool} (elim (cond b (some (taken kw l.tokens (cut_place l))) none) [ none ↦ false | some r ↦ p r.lhs && not (any p r.expr) ])
+        go : (b : Bool) → ◌≡◌ {A = Bool} (elim (cond b (Some (taken kw l.tokens (cut_place l))) None) [ None ↦ false | Some r ↦ p r.lhs && not (any p r.expr) ])
             (b && (p (token l 0) && not (any p (drop 2 (take (cut_place l) l.tokens)))))
         go true = unfold taken in ap (λ x. p (token l 0) && not x) (right_side l.tokens (cut_place l))
         go false = refl
@@ -330,12 +327,12 @@ module _ (p : Token → Bool) (kw : List ℕ) (plain : (s : List ℕ) (k : ℕ) 
     cut_passes_jumped : starts_with (ascii "((void") kw ≡ false → passes p (pseudo_line a i (jumped kw l)) ≡ cut_passes p l
     unfolding cut_passes cut_assigns cut_calls starts left_calls
     cut_passes_jumped w =
-        passes_by p (pseudo_line a i (jumped kw l)) (cond (leb 2 (cut_place l) && starts l.tokens) (some (taken kw l.tokens (cut_place l))) none)
+        passes_by p (pseudo_line a i (jumped kw l)) (cond (leb 2 (cut_place l) && starts l.tokens) (Some (taken kw l.tokens (cut_place l))) None)
         (cut_assignment kw a i l.tokens (cut_place l) (within l))
         ∙ go (leb 2 (cut_place l)) (starts l.tokens) refl (all_tokens (take (cut_place l) l.tokens)) (cut_callee kw w l.tokens (cut_place l) (within l))
       where
         go : (b s : Bool) → leb 2 (cut_place l) ≡ b → any p (jumped kw l) ≡ any p (take (cut_place l) l.tokens) → is_some (callee (jumped kw l)) ≡ left_calls
-            → passes_of p (pseudo_line a i (jumped kw l)) (cond (b && s) (some (taken kw l.tokens (cut_place l))) none)
+            → passes_of p (pseudo_line a i (jumped kw l)) (cond (b && s) (Some (taken kw l.tokens (cut_place l))) None)
             ≡ ((b && s) && (not (any p (take (cut_place l) l.tokens)) && not left_calls))
         go true true e x y =
             unfold passes_of taken in
@@ -346,10 +343,10 @@ module _ (p : Token → Bool) (kw : List ℕ) (plain : (s : List ℕ) (k : ℕ) 
         go false s e x y = unfold passes_of in refl
 
 names_plain : (o : Option Family) (s : List ℕ) (k : ℕ) → eqb k Register ≡ false → names_family o (tok s k) ≡ false
-names_plain none s k e = refl
-names_plain (some f) s k e = named (fam_of (tok s k)) (unfold fam_of in rw e) refl
+names_plain None s k e = refl
+names_plain (Some f) s k e = named (fam_of (tok s k)) (unfold fam_of in rw e) refl
   where
-    named : (o : Option Family) → fam_of (tok s k) ≡ none → fam_of (tok s k) ≡ o → names f.name (tok s k) ≡ false
+    named : (o : Option Family) → fam_of (tok s k) ≡ None → fam_of (tok s k) ≡ o → names f.name (tok s k) ≡ false
     named o q r = unfold names in rw (q, names)
 
 module _ (o : Option Family) (C : List Line) (q : ℕ) where
@@ -359,13 +356,13 @@ module _ (o : Option Family) (C : List Line) (q : ℕ) where
 
   pub inits_continued : (r : Bool) → q % 4 ≡ 1 → r ≡ cut_inits (names_family o) (origin C q) → r ≡ inits (names_family o) (piece C q)
   inits_continued r e d =
-      d ∙ sym (cut_inits_jumped (names_family o) (ascii "continue") (names_plain o) none 1 (origin C q))
-      ∙ ap (λ ts. inits (names_family o) (pseudo_line none 1 ts)) (sym (continued_piece C q e))
+      d ∙ sym (cut_inits_jumped (names_family o) (ascii "continue") (names_plain o) None 1 (origin C q))
+      ∙ ap (λ ts. inits (names_family o) (pseudo_line None 1 ts)) (sym (continued_piece C q e))
 
   pub inits_broken : (r : Bool) → q % 4 ≡ 2 → r ≡ cut_inits (names_family o) (origin C q) → r ≡ inits (names_family o) (piece C q)
   inits_broken r e d =
-      d ∙ sym (cut_inits_jumped (names_family o) (ascii "break") (names_plain o) none 1 (origin C q))
-      ∙ ap (λ ts. inits (names_family o) (pseudo_line none 1 ts)) (sym (broken_piece C q e))
+      d ∙ sym (cut_inits_jumped (names_family o) (ascii "break") (names_plain o) None 1 (origin C q))
+      ∙ ap (λ ts. inits (names_family o) (pseudo_line None 1 ts)) (sym (broken_piece C q e))
 
   pub passes_kept : (r : Bool) → q % 4 ≡ 0 → r ≡ passes (names_family o) (origin C q) → r ≡ passes (names_family o) (piece C q)
   unfolding passes assignment
@@ -373,13 +370,13 @@ module _ (o : Option Family) (C : List Line) (q : ℕ) where
 
   pub passes_continued : (r : Bool) → q % 4 ≡ 1 → r ≡ cut_passes (names_family o) (origin C q) → r ≡ passes (names_family o) (piece C q)
   passes_continued r e d =
-      d ∙ sym (cut_passes_jumped (names_family o) (ascii "continue") (names_plain o) none 1 (origin C q) (unfold starts_with in refl))
-      ∙ ap (λ ts. passes (names_family o) (pseudo_line none 1 ts)) (sym (continued_piece C q e))
+      d ∙ sym (cut_passes_jumped (names_family o) (ascii "continue") (names_plain o) None 1 (origin C q) (unfold starts_with in refl))
+      ∙ ap (λ ts. passes (names_family o) (pseudo_line None 1 ts)) (sym (continued_piece C q e))
 
   pub passes_broken : (r : Bool) → q % 4 ≡ 2 → r ≡ cut_passes (names_family o) (origin C q) → r ≡ passes (names_family o) (piece C q)
   passes_broken r e d =
-      d ∙ sym (cut_passes_jumped (names_family o) (ascii "break") (names_plain o) none 1 (origin C q) (unfold starts_with in refl))
-      ∙ ap (λ ts. passes (names_family o) (pseudo_line none 1 ts)) (sym (broken_piece C q e))
+      d ∙ sym (cut_passes_jumped (names_family o) (ascii "break") (names_plain o) None 1 (origin C q) (unfold starts_with in refl))
+      ∙ ap (λ ts. passes (names_family o) (pseudo_line None 1 ts)) (sym (broken_piece C q e))
 
   module _ (a : q % 4 ≡ 0 → ⊥) (b : q % 4 ≡ 1 → ⊥) (c : q % 4 ≡ 2 → ⊥) where
     pub inits_closed : false ≡ inits (names_family o) (piece C q)

@@ -4,10 +4,11 @@
 --   broken_nothing, broken_no, broken_other, broken_with    a line that was cut
 --   tested_kept, tested_continued, tested_broken, tested_closed    a piece, by its form
 -- Assumes nothing.
+use Rattle.std.specs.Prelude.{Option, None, Some}
+use Rattle.std.specs.Option.{option_map}
 use mathlib.Core.Path.{◌≡◌, refl, sym, ap, ap₂, ◌∙◌}
 use mathlib.Core.Bool.{Bool, true, false, cond, and-true, and-false}
 use mathlib.Core.List.{List, [], ◌∷◌, ◌++◌}
-use mathlib.Core.Option.{Option, none, some, map}
 use Prim.Native.Nat.{ℕ, zero, suc, ◌+◌, ◌-◌, ◌%◌, ◌≤◌, ◌<◌}
 use native.Mathlib.Nat.{not-suc-le-zero, le_of_suc-le-suc, sub-zero, zero-add}
 use native.Mathlib.Decide.{dec_le}
@@ -24,9 +25,6 @@ use Rattle.definitions.specs.RecoverGotoLoops.{leading_test}
 use Rattle.text.proofs.Parts.{part_get, part_none, part_tail, part_part, length_part}
 use Rattle.negate.specs.Tests.{test, test_count}
 use Rattle.negate.proofs.TestTokens.{at_first, length_first}
-use Rattle.pseudo_opt.specs.Places.{found}
-use Rattle.pseudo_opt.specs.declared.Found.{Found}
-use Rattle.pseudo_opt.specs.declared.Found.TheVariants.{At, Nothing}
 use Rattle.pieces.specs.Pieces.{piece, origin, cut_place, jumped, text_before}
 use Rattle.pieces.specs.Leading.{test_at, tested, first_of}
 use Rattle.pieces.proofs.Forms.{kept_piece, continued_piece, broken_piece, closed_piece, place_within}
@@ -35,15 +33,15 @@ use Rattle.pieces.proofs.Backs.{text_append, split}
 -- Between `if` and `break`
 
 module _ {A : Type 0} (d : A) where
-  first_is : (xs : List A) → 1 ≤ length xs → first xs ≡ some (get_or xs 0 d)
+  first_is : (xs : List A) → 1 ≤ length xs → first xs ≡ Some (get_or xs 0 d)
   first_is [] h = absurd (not-suc-le-zero h)
   first_is (x ∷ xs) h = refl
 
-  last_is : (xs : List A) → 1 ≤ length xs → last xs ≡ some (get_or xs (length xs - 1) d)
+  last_is : (xs : List A) → 1 ≤ length xs → last xs ≡ Some (get_or xs (length xs - 1) d)
   unfolding last
   last_is [] h = absurd (not-suc-le-zero h)
   last_is (x ∷ []) h = refl
-  last_is (x ∷ (y ∷ xs)) h = last_is (y ∷ xs) (omega arith) ∙ ap (λ k. some (get_or (x ∷ (y ∷ xs)) k d)) more
+  last_is (x ∷ (y ∷ xs)) h = last_is (y ∷ xs) (omega arith) ∙ ap (λ k. Some (get_or (x ∷ (y ∷ xs)) k d)) more
     where
       more : suc (suc (length xs) - 1) ≡ suc (suc (length xs)) - 1
       more = omega arith
@@ -52,26 +50,26 @@ module _ (l : Line) (g m : ℕ) (c : m ≡ test_count l g) where
   count : length (part 1 g l.tokens) ≡ m
   count = length_part l.tokens 1 g ∙ omega arith
 
-  pub test_none : m ≡ 0 → none ≡ test_at l.tokens g
+  pub test_none : m ≡ 0 → None ≡ test_at l.tokens g
   unfolding test_at
   test_none e = go (part 1 g l.tokens) (count ∙ e)
     where
-      go : (xs : List Token) → length xs ≡ 0 → none ≡ (first xs >>= λ opening. require (starts_with (ascii " (") opening.text) >>= λ _. last (on_first (cut_front 2) xs) >>= λ end.
-          require (ends_with (ascii ") ") end.text) >>= λ _. some (negate_cond (cut 2 2 xs)))
+      go : (xs : List Token) → length xs ≡ 0 → None ≡ (first xs >>= λ opening. require (starts_with (ascii " (") opening.text) >>= λ _. last (on_first (cut_front 2) xs) >>= λ end.
+          require (ends_with (ascii ") ") end.text) >>= λ _. Some (negate_cond (cut 2 2 xs)))
       go [] e = refl
       go (x ∷ xs) e = absurd (omega arith)
 
   module _ (some_tokens : m ≡ 0 → ⊥) (b : Bool) (s : List ℕ) (q : s ≡ (token l 1).text) (e : b ≡ starts_with (ascii " (") s) where
-    opening : first (part 1 g l.tokens) ≡ some (token l 1)
-    opening = first_is no_token (part 1 g l.tokens) (omega (arith, count)) ∙ ap some (part_get no_token l.tokens 1 g 0 (omega (arith, count)))
+    opening : first (part 1 g l.tokens) ≡ Some (token l 1)
+    opening = first_is no_token (part 1 g l.tokens) (omega (arith, count)) ∙ ap Some (part_get no_token l.tokens 1 g 0 (omega (arith, count)))
 
-    pub test_shut : b ≡ false → none ≡ test_at l.tokens g
+    pub test_shut : b ≡ false → None ≡ test_at l.tokens g
     unfolding test_at
     test_shut f = rw (opening, ← q, ← e, f)
 
     module _ (f : b ≡ true) (u v : List ℕ) (k : ℕ) (w : u ≡ (token l m).text) (n : k ≡ cond (eqb m 1) 2 0) (x : v ≡ part k (length u) u)
         (y : Bool) (z : y ≡ ends_with (ascii ") ") v) where
-      ending : (t : Token) × (last (on_first (cut_front 2) (part 1 g l.tokens)) ≡ some t) × (t.text ≡ v)
+      ending : (t : Token) × (last (on_first (cut_front 2) (part 1 g l.tokens)) ≡ Some t) × (t.text ≡ v)
       ending =
           (get_or xs (length xs - 1) no_token, last_is no_token xs (omega (arith, size)), ap (λ (t : Token). t.text) is ∙ go (dec_le m 1))
         where
@@ -97,11 +95,11 @@ module _ (l : Line) (g m : ℕ) (c : m ≡ test_count l g) where
           go (yes h) = rw (eq-eqb (m - 1) 0 (omega arith)) (sym (x ∙ rw (n, eq-eqb m 1 (omega arith)) (part_tail u 2 ∙ ap (drop 2) w)))
           go (no h) = rw (ne_eqb (m - 1) 0 (λ r. omega arith)) (sym (x ∙ rw (n, ne_eqb m 1 (λ r. omega arith)) (part_tail u 0 ∙ w)))
 
-      pub test_open : y ≡ false → none ≡ test_at l.tokens g
+      pub test_open : y ≡ false → None ≡ test_at l.tokens g
       unfolding test_at
       test_open h = rw (opening, ← q, ← e, f, ending.1, ending.2, ← z, h)
 
-      pub test_is : y ≡ true → some (negate_cond (test l g)) ≡ test_at l.tokens g
+      pub test_is : y ≡ true → Some (negate_cond (test l g)) ≡ test_at l.tokens g
       unfolding test_at
       test_is h = rw (opening, ← q, ← e, f, ending.1, ending.2, ← z, h)
 
@@ -110,21 +108,21 @@ pub ruleset tests = (test_none, test_shut, test_open, test_is)
 -- A line as it is
 
 module _ (l : Line) (b : Bool) (e : b ≡ is_kw (ascii "if") (token l 0)) where
-  pub kept_no : b ≡ false → none ≡ tested l.tokens
+  pub kept_no : b ≡ false → None ≡ tested l.tokens
   unfolding tested
   kept_no f = rw (← e, f)
 
   module _ (f : b ≡ true) (s : List ℕ) (q : s ≡ text (drop 0 l.tokens)) (x : Bool) (y : x ≡ ends_with (ascii ") break;") s) where
-    pub kept_other : x ≡ false → none ≡ tested l.tokens
+    pub kept_other : x ≡ false → None ≡ tested l.tokens
     unfolding tested
     kept_other g = rw (← e, f, ← q, ← y, g)
 
-    module _ (g : x ≡ true) (p : Found) (w : found p ≡ position (is_kw (ascii "break")) l.tokens) where
-      pub kept_without : p ≡ Nothing → none ≡ tested l.tokens
+    module _ (g : x ≡ true) (p : Option ℕ) (w : p ≡ position (is_kw (ascii "break")) l.tokens) where
+      pub kept_without : p ≡ None → None ≡ tested l.tokens
       unfolding tested
       kept_without h = rw (← e, f, ← q, ← y, g, ← w, h)
 
-      pub kept_with : (k : ℕ) (o : Option (List Token)) → p ≡ At k → o ≡ test_at l.tokens k → o ≡ tested l.tokens
+      pub kept_with : (k : ℕ) (o : Option (List Token)) → p ≡ Some k → o ≡ test_at l.tokens k → o ≡ tested l.tokens
       unfolding tested
       kept_with k o h z = z ∙ sym (rw (← e, f, ← q, ← y, g, ← w, h))
 
@@ -132,13 +130,13 @@ pub ruleset keeps = (kept_no, kept_other, kept_without, kept_with)
 
 -- A line that was cut
 
-pub first_nothing : (f : Found) (n : ℕ) → f ≡ Nothing → n ≡ first_of (found f) n
+pub first_nothing : (f : Option ℕ) (n : ℕ) → f ≡ None → n ≡ first_of f n
 first_nothing f n e = rw e
 
-pub first_before : (f : Found) (k n : ℕ) → f ≡ At k → k < n → k ≡ first_of (found f) n
+pub first_before : (f : Option ℕ) (k n : ℕ) → f ≡ Some k → k < n → k ≡ first_of f n
 first_before f k n e h = rw e (omega arith)
 
-pub first_behind : (f : Found) (k n : ℕ) → f ≡ At k → n ≤ k → n ≡ first_of (found f) n
+pub first_behind : (f : Option ℕ) (k n : ℕ) → f ≡ Some k → n ≤ k → n ≡ first_of f n
 first_behind f k n e h = rw e (omega arith)
 
 pub ruleset firsts = (first_nothing, first_before, first_behind)
@@ -147,22 +145,22 @@ abbrev behind : List Token
 behind = tok (ascii "break") Keyword ∷ tok (ascii ";") Punct ∷ []
 
 break_at : (ts : List Token) (n : ℕ) → n ≤ length ts
-    → position (is_kw (ascii "break")) (take n ts ++ behind) ≡ some (first_of (position (is_kw (ascii "break")) ts) n)
+    → position (is_kw (ascii "break")) (take n ts ++ behind) ≡ Some (first_of (position (is_kw (ascii "break")) ts) n)
 unfolding position ◌≟◌
 break_at [] zero h = refl
 break_at [] (suc n) h = absurd (not-suc-le-zero h)
-break_at (t ∷ ts) zero h = ap some (go (is_kw (ascii "break") t) (position (is_kw (ascii "break")) ts))
+break_at (t ∷ ts) zero h = ap Some (go (is_kw (ascii "break") t) (position (is_kw (ascii "break")) ts))
   where
-    go : (b : Bool) (o : Option ℕ) → 0 ≡ first_of (cond b (some 0) (map suc o)) 0
+    go : (b : Bool) (o : Option ℕ) → 0 ≡ first_of (cond b (Some 0) (option_map suc o)) 0
     go true o = omega arith
-    go false none = refl
-    go false (some k) = omega arith
+    go false None = refl
+    go false (Some k) = omega arith
 break_at (t ∷ ts) (suc n) h = rw (break_at ts n (le_of_suc-le-suc h)) (go (is_kw (ascii "break") t) (position (is_kw (ascii "break")) ts))
   where
-    go : (b : Bool) (o : Option ℕ) → cond b (some 0) (some (suc (first_of o n))) ≡ some (first_of (cond b (some 0) (map suc o)) (suc n))
-    go true o = ap some (omega arith)
-    go false none = refl
-    go false (some k) = ap some (omega arith)
+    go : (b : Bool) (o : Option ℕ) → cond b (Some 0) (Some (suc (first_of o n))) ≡ Some (first_of (cond b (Some 0) (option_map suc o)) (suc n))
+    go true o = ap Some (omega arith)
+    go false None = refl
+    go false (Some k) = ap Some (omega arith)
 
 ends_cut : (s : List ℕ) → ends_with (ascii ") break;") (s ++ ascii "break;") ≡ ends_with (ascii ") ") s
 ends_cut s = go (dec_le 2 (length s))
@@ -201,8 +199,8 @@ start_cut [] (suc k) h f = absurd (not-suc-le-zero h)
 start_cut (t ∷ ts) (suc k) h f = refl
 
 first_within : (o : Option ℕ) (n : ℕ) → first_of o n ≤ n
-first_within none n = omega arith
-first_within (some k) n = omega arith
+first_within None n = omega arith
+first_within (Some k) n = omega arith
 
 test_same : (ts us : List Token) (g : ℕ) → part 1 g ts ≡ part 1 g us → test_at ts g ≡ test_at us g
 unfolding test_at
@@ -213,7 +211,7 @@ module _ (l : Line) (n : ℕ) (c : n ≡ cut_place l) where
   unfolding cut_place
   within = omega (arith, place_within (is_kw (ascii "goto")) l.tokens)
 
-  pub broken_nothing : n ≡ 0 → none ≡ tested (jumped (ascii "break") l)
+  pub broken_nothing : n ≡ 0 → None ≡ tested (jumped (ascii "break") l)
   unfolding tested ◌≟◌
   broken_nothing e = let z : cut_place l ≡ 0 = sym c ∙ e in rw z
 
@@ -221,7 +219,7 @@ module _ (l : Line) (n : ℕ) (c : n ≡ cut_place l) where
     head : is_kw (ascii "if") (get_or (jumped (ascii "break") l) 0 no_token) ≡ b
     head = ap (is_kw (ascii "if")) (start_cut l.tokens (cut_place l) (omega (arith, within)) (λ q. h (c ∙ q))) ∙ sym e
 
-    pub broken_no : b ≡ false → none ≡ tested (jumped (ascii "break") l)
+    pub broken_no : b ≡ false → None ≡ tested (jumped (ascii "break") l)
     unfolding tested
     broken_no f = rw (head, f)
 
@@ -230,11 +228,11 @@ module _ (l : Line) (n : ℕ) (c : n ≡ cut_place l) where
       unfolding text
       ends = ap (ends_with (ascii ") break;")) (text_append (take (cut_place l) l.tokens) behind) ∙ ends_cut (text (take (cut_place l) l.tokens)) ∙ rw (← c, ← q) (sym y)
 
-      pub broken_other : x ≡ false → none ≡ tested (jumped (ascii "break") l)
+      pub broken_other : x ≡ false → None ≡ tested (jumped (ascii "break") l)
       unfolding tested
       broken_other g = rw (head, f, ends, g)
 
-      pub broken_with : x ≡ true → (p : Found) (k : ℕ) (o : Option (List Token)) → found p ≡ position (is_kw (ascii "break")) l.tokens → k ≡ first_of (found p) n
+      pub broken_with : x ≡ true → (p : Option ℕ) (k : ℕ) (o : Option (List Token)) → p ≡ position (is_kw (ascii "break")) l.tokens → k ≡ first_of p n
           → o ≡ test_at l.tokens k → o ≡ tested (jumped (ascii "break") l)
       unfolding tested
       broken_with g p k o w z d =
@@ -247,7 +245,7 @@ pub ruleset breaks = (broken_nothing, broken_no, broken_other, broken_with)
 
 -- A piece, by its form
 
-leading_is : (ts : List Token) → leading_test (pseudo_line none 1 ts) 0 ≡ tested ts
+leading_is : (ts : List Token) → leading_test (pseudo_line None 1 ts) 0 ≡ tested ts
 unfolding leading_test tested test_at
 leading_is ts = refl
 
@@ -258,7 +256,7 @@ no_break s =
     let d : length (s ++ ascii "continue;") - 8 ≡ length s + 1 = omega (arith, n) in
     rw (d, drop-append-add s (ascii "continue;") 1) (and-false (leb 8 (length (s ++ ascii "continue;"))))
 
-continued_no : (l : Line) → none ≡ tested (jumped (ascii "continue") l)
+continued_no : (l : Line) → None ≡ tested (jumped (ascii "continue") l)
 unfolding tested text
 continued_no l =
     let s = text (take (cut_place l) l.tokens) in
@@ -273,13 +271,13 @@ module _ (C : List Line) (p : ℕ) where
   pub tested_broken : (o : Option (List Token)) → p % 4 ≡ 2 → o ≡ tested (jumped (ascii "break") (origin C p)) → o ≡ leading_test (piece C p) 0
   tested_broken o e d = d ∙ ap tested (sym (broken_piece C p e)) ∙ sym (leading_is (piece C p).tokens)
 
-  pub tested_continued : p % 4 ≡ 1 → none ≡ leading_test (piece C p) 0
+  pub tested_continued : p % 4 ≡ 1 → None ≡ leading_test (piece C p) 0
   tested_continued e = continued_no (origin C p) ∙ ap tested (sym (continued_piece C p e)) ∙ sym (leading_is (piece C p).tokens)
 
-  pub tested_closed : (p % 4 ≡ 0 → ⊥) → (p % 4 ≡ 1 → ⊥) → (p % 4 ≡ 2 → ⊥) → none ≡ leading_test (piece C p) 0
+  pub tested_closed : (p % 4 ≡ 0 → ⊥) → (p % 4 ≡ 1 → ⊥) → (p % 4 ≡ 2 → ⊥) → None ≡ leading_test (piece C p) 0
   tested_closed a b c = closed_no ∙ ap tested (sym (closed_piece C p a b c)) ∙ sym (leading_is (piece C p).tokens)
     where
-      closed_no : none ≡ tested (tok (ascii "}") Punct ∷ [])
+      closed_no : None ≡ tested (tok (ascii "}") Punct ∷ [])
       closed_no = unfold tested ◌≟◌ in refl
 
 pub ruleset leads = (tested_kept, tested_broken, tested_continued, tested_closed)

@@ -5,8 +5,7 @@
 --   jumped_family l     the family of its first token, where the line does not start with the goto
 --   piece_rest C p      the texts of the piece's tokens behind the first
 -- Assumes nothing.
-use Rattle.std.specs.Prelude.{if◌then◌else◌, ℕ, Bool, false, ◌||◌, List, eqb, take, drop}
-use Rattle.std.proofs.Math.Option.{Option, none}
+use Rattle.std.specs.Prelude.{if◌then◌else◌, ℕ, Bool, false, ◌||◌, List, eqb, take, drop, Option, None}
 use Rattle.definitions.specs.Lists.{starts_with, ascii}
 use Rattle.definitions.specs.Model.{Line, token, text}
 use Rattle.definitions.specs.Family.{Family, fam_of}
@@ -22,7 +21,7 @@ abbrev pub jumped_steps : Line → Bool
 jumped_steps l = if eqb (cut_place l) 0 then false else adds_to (text_between l (cut_place l))
 
 abbrev pub jumped_family : Line → Option Family
-jumped_family l = if eqb (cut_place l) 0 then none else fam_of (token l 0)
+jumped_family l = if eqb (cut_place l) 0 then None else fam_of (token l 0)
 
 abbrev pub piece_rest : List Line → ℕ → List ℕ
 piece_rest C p = text (drop 1 (piece C p).tokens)

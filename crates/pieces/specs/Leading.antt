@@ -6,20 +6,17 @@
 --   broken_test l       the one that it is where it is cut at its first goto
 --   first_of o n        the place o, or n where it is none or not before n
 -- Assumes nothing.
-use Rattle.std.specs.Prelude.{ℕ, min, ◌&&◌, List, get_or}
-use Rattle.std.proofs.Math.Option.{Option, none, some}
+use Rattle.std.specs.Prelude.{ℕ, min, ◌&&◌, List, get_or, Option, None, Some}
 use Rattle.definitions.specs.Lists.{◌>>=◌, require, position, first, last, part, on_first, starts_with, ends_with, ascii}
 use Rattle.definitions.specs.Model.{Token, Line, no_token, text}
 use Rattle.definitions.specs.Statements.{is_kw}
 use Rattle.definitions.specs.Condition.{cut_front, cut, negate_cond}
 use Rattle.negate.specs.Tests.{test}
-use Rattle.pseudo_opt.specs.declared.Found.{Found}
-use Rattle.pseudo_opt.specs.declared.Found.TheVariants.{At, Nothing}
 use Rattle.pieces.specs.Pieces.{jumped}
 
-abbrev pub leading : Line → Found → Option (List Token)
-leading l (At g) = some (negate_cond (test l g))
-leading l Nothing = none
+abbrev pub leading : Line → Option ℕ → Option (List Token)
+leading l (Some g) = Some (negate_cond (test l g))
+leading l None = None
 
 unfoldable pub test_at : List Token → ℕ → Option (List Token)
 test_at ts g = do
@@ -27,7 +24,7 @@ test_at ts g = do
   _ ← require (starts_with (ascii " (") opening.text)
   end ← last (on_first (cut_front 2) (part 1 g ts))
   _ ← require (ends_with (ascii ") ") end.text)
-  some (negate_cond (cut 2 2 (part 1 g ts)))
+  Some (negate_cond (cut 2 2 (part 1 g ts)))
 
 unfoldable pub tested : List Token → Option (List Token)
 tested ts = do
@@ -42,5 +39,5 @@ abbrev pub broken_test : Line → Option (List Token)
 broken_test l = tested (jumped (ascii "break") l)
 
 abbrev pub first_of : Option ℕ → ℕ → ℕ
-first_of none n = n
-first_of (some k) n = min k n
+first_of None n = n
+first_of (Some k) n = min k n

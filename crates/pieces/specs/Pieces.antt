@@ -8,8 +8,7 @@
 --   JumpWord kw         no byte of `goto ` is the first of kw
 --   comes_before o g    the place o is below g
 -- Assumes nothing.
-use Rattle.std.specs.Prelude.{ℕ, ◌/◌, Bool, false, ◌≡◌, List, [], ◌∷◌, ◌++◌, eqb, ltb, length, take}
-use Rattle.std.proofs.Math.Option.{Option, none, some}
+use Rattle.std.specs.Prelude.{ℕ, ◌/◌, Bool, false, ◌≡◌, List, [], ◌∷◌, ◌++◌, eqb, ltb, length, take, Option, None, Some}
 use Rattle.definitions.specs.Lists.{or_else, position, ascii}
 use Rattle.definitions.specs.Model.{Token, Line, tok, line, text, Keyword, Punct}
 use Rattle.definitions.specs.Statements.{is_kw}
@@ -34,8 +33,8 @@ abbrev pub jumped : List ℕ → Line → List Token
 jumped kw l = take (cut_place l) l.tokens ++ (tok kw Keyword ∷ tok (ascii ";") Punct ∷ [])
 
 abbrev pub comes_before : Option ℕ → ℕ → Bool
-comes_before none g = false
-comes_before (some k) g = ltb k g
+comes_before None g = false
+comes_before (Some k) g = ltb k g
 
 pub record JumpWord (kw : List ℕ) : Type 0 where
   pub start : ℕ

@@ -2,28 +2,22 @@
 ghost use Rattle.std.specs.Prelude.{◌≡◌, true, ◌++◌, ◌-◌};
 ghost use Rattle.definitions.specs.Lists.{◌≟◌, ascii};
 ghost use Rattle.definitions.specs.Model.{line};
-ghost use Rattle.definitions.specs.Columns.{listing};
 ghost use Rattle.definitions.specs.Questions.{question_2};
+ghost use Rattle.model.specs.Listings.{listing_of};
 ghost use Rattle.pieces.specs.Pieces.{piece_text, text_before, JumpWord};
 
 use crate::reading::cut_place;
+use model::listing::Listing;
 use pseudo_types::texts::text_from;
-use text::less;
 
 // The texts of the first g tokens of line i, one after the other.
-pub fn text_before<'a>(
-    lines: &[u32],
-    tokens: &[u32],
-    text: &'a [u8],
-    i: usize,
-    g: usize,
-) -> &'a [u8]
-    requires { question_2 lines.now tokens.now text.now ≡ true }
-    ensures { result.now ≡ text_before (line (listing lines.now tokens.now text.now) i) g }
+pub fn text_before<'a>(code: &Listing<'a>, i: usize, g: usize) -> &'a [u8]
+    requires { question_2 code.now.lines.now code.now.tokens.now code.now.text.now ≡ true }
+    ensures { result.now ≡ text_before (line (listing_of code.now) i) g }
 {
-    let s = text_from(lines, tokens, text, i, 0);
-    let n = text_from(lines, tokens, text, i, g).len();
-    text::part(s, 0, less(s.len(), n))
+    let s = text_from(code, i, 0);
+    let n = text_from(code, i, g).len();
+    text::part(s, 0, s.len().saturating_sub(n))
 }
 
 // The bytes a, then b, are s.
@@ -31,14 +25,7 @@ fn joins(a: &[u8], b: &[u8], s: &[u8]) -> bool
     ensures { result ≡ ((a.now ++ b.now) ≟ s.now) }
 {
     let n = a.len();
-    if s.len() < n {
-        return false;
-    }
-    if text::equal(a, text::part(s, 0, n)) {
-        text::equal(b, text::part(s, n, s.len()))
-    } else {
-        false
-    }
+    n <= s.len() && text::equal(a, text::part(s, 0, n)) && text::equal(b, text::part(s, n, s.len()))
 }
 
 // The text s reads `goto h;`.
@@ -57,32 +44,20 @@ fn jump_reads(s: &[u8], kw: &[u8], h: &[u8]) -> bool
     requires { JumpWord kw.now }
     ensures { result ≡ ((s.now ++ (kw.now ++ ascii ";")) ≟ (ascii "goto " ++ (h.now ++ ascii ";"))) }
 {
-    if text::starts_with(s, b"goto ") {
-        joins(text::part(s, 5, s.len()), kw, h)
-    } else {
-        false
-    }
+    text::starts_with(s, b"goto ") && joins(text::part(s, 5, s.len()), kw, h)
 }
 
 // The piece p reads `goto h;`.
-pub fn is_back(lines: &[u32], tokens: &[u32], text: &[u8], p: usize, h: &[u8]) -> bool
-    requires { question_2 lines.now tokens.now text.now ≡ true }
-    ensures { let C = listing lines.now tokens.now text.now in
+pub fn is_back(code: &Listing, p: usize, h: &[u8]) -> bool
+    requires { question_2 code.now.lines.now code.now.tokens.now code.now.text.now ≡ true }
+    ensures { let C = listing_of code.now in
         result ≡ (piece_text C p ≟ (ascii "goto " ++ (h.now ++ ascii ";"))) }
 {
     let i = p / 4;
     match p % 4 {
-        0 => kept_reads(text_from(lines, tokens, text, i, 0), h),
-        1 => jump_reads(
-            text_before(lines, tokens, text, i, cut_place(lines, tokens, text, i)),
-            b"continue",
-            h,
-        ),
-        2 => jump_reads(
-            text_before(lines, tokens, text, i, cut_place(lines, tokens, text, i)),
-            b"break",
-            h,
-        ),
+        0 => kept_reads(text_from(code, i, 0), h),
+        1 => jump_reads(text_before(code, i, cut_place(code, i)), b"continue", h),
+        2 => jump_reads(text_before(code, i, cut_place(code, i)), b"break", h),
         _ => false,
     }
 }

@@ -3,12 +3,12 @@
 --   map_all, map_any, map_position, map_position_from                                            tests
 --   map_on_part                                                      a changed part, where the change is known of elements that pass a test
 -- Assumes nothing.
+use Rattle.std.specs.Prelude.{Some}
+use Rattle.std.specs.Option.{option_map}
 use Prim.Native.Nat.{ℕ, zero, suc, ◌+◌, ◌-◌}
 use mathlib.Core.Path.{◌≡◌, refl, sym, ap, ap₂, ◌∙◌}
 use mathlib.Core.List.{List, [], ◌∷◌, ◌++◌, map}
 use mathlib.Core.Bool.{Bool, true, ◌&&◌, ◌||◌, cond}
-use mathlib.Core.Option
-use mathlib.Core.Option.{some}
 use lib.ListN.{take, drop, set}
 use Rattle.definitions.specs.Lists.{part, all, any, position, position_from, remove, on_part}
 use Rattle.loop_theory.proofs.Cases.{and_split}
@@ -52,10 +52,10 @@ module _ {A B : Type 0} (g : A → B) where
   pub map_position : (p : B → Bool) (xs : List A) → position p (map g xs) ≡ position (λ x. p (g x)) xs
   unfolding position
   map_position p [] = refl
-  map_position p (x ∷ xs) = ap (λ o. cond (p (g x)) (some 0) (Option.map suc o)) (map_position p xs)
+  map_position p (x ∷ xs) = ap (λ o. cond (p (g x)) (Some 0) (option_map suc o)) (map_position p xs)
 
   pub map_position_from : (k : ℕ) (p : B → Bool) (xs : List A) → position_from k p (map g xs) ≡ position_from k (λ x. p (g x)) xs
-  map_position_from k p xs = ap (λ ys. Option.map (k +◌) (position p ys)) (sym (map_drop k xs)) ∙ ap (Option.map (k +◌)) (map_position p (drop k xs))
+  map_position_from k p xs = ap (λ ys. option_map (k +◌) (position p ys)) (sym (map_drop k xs)) ∙ ap (option_map (k +◌)) (map_position p (drop k xs))
 
   module _ (q : A → Bool) (f : A → A) (h : B → B) (e : (x : A) → q x ≡ true → g (f x) ≡ h (g x)) where
     map_both : (xs : List A) → all q xs ≡ true → map g (map f xs) ≡ map h (map g xs)

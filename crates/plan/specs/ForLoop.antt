@@ -7,8 +7,7 @@
 --   for_tests L w e c p        what is asked of the header at w with condition c, of the body and of its close at e, but for the initialiser
 --   for_made L w e k c         the header at w made a for header with the initialiser at k
 -- Assumes nothing.
-use Rattle.std.specs.Prelude.{if◌then◌else◌, ℕ, zero, suc, ◌+◌, ◌-◌, Bool, false, ◌&&◌, not, List, eqb, leb, drop, set}
-use Rattle.std.proofs.Math.Option.{Option, none, some}
+use Rattle.std.specs.Prelude.{if◌then◌else◌, ℕ, zero, suc, ◌+◌, ◌-◌, Bool, false, ◌&&◌, not, List, eqb, leb, drop, set, Option, None, Some}
 use Rattle.definitions.specs.Lists.{is_some, any, part, remove, ascii}
 use Rattle.definitions.specs.Model.{Token, Line, pseudo_line, line, text}
 use Rattle.definitions.specs.Statements.{has_kw, is_label, call_at, assignment}
@@ -16,19 +15,19 @@ use Rattle.definitions.specs.ToFor.{is_step, for_head}
 use Rattle.definitions.specs.Passes.{lone_brace}
 
 unfoldable pub inits : (Token → Bool) → Line → Bool
-inits p m = elim (assignment m) [ none ↦ false | some a ↦ p a.lhs && not (any p a.expr) ]
+inits p m = elim (assignment m) [ None ↦ false | Some a ↦ p a.lhs && not (any p a.expr) ]
 
 unfoldable pub passes : (Token → Bool) → Line → Bool
-passes p m = elim (assignment m) [ none ↦ false | some a ↦ not (p a.lhs) && (not (any p m.tokens) && not (is_some (call_at m))) ]
+passes p m = elim (assignment m) [ None ↦ false | Some a ↦ not (p a.lhs) && (not (any p m.tokens) && not (is_some (call_at m))) ]
 
 unfoldable pub init_from : (Token → Bool) → List Line → ℕ → ℕ → ℕ → Option ℕ
-init_from p L ind zero k = none
-init_from p L ind (suc n) zero = none
+init_from p L ind zero k = None
+init_from p L ind (suc n) zero = None
 init_from p L ind (suc n) (suc k) =
     let earlier = init_from p L ind n k in
-    if eqb (line L k).indent ind && inits p (line L k) then some k
+    if eqb (line L k).indent ind && inits p (line L k) then Some k
     else if eqb (line L k).indent ind && passes p (line L k) then earlier
-    else none
+    else None
 
 abbrev pub ends : ℕ → Line → Bool
 ends ind m = leb m.indent ind && not (is_label m)

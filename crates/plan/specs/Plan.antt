@@ -10,8 +10,7 @@
 --   render S ws               the lines that the words of a plan stand for: the vector that the Rust has at hand
 --   word i h p t a z          the word with indent i, header h, piece p, test t, initialiser a and step z
 -- Assumes nothing.
-use Rattle.std.specs.Prelude.{ℕ, zero, suc, ◌+◌, ◌*◌, ◌/◌, ◌%◌, List, [], ◌∷◌, map}
-use Rattle.std.proofs.Math.Option.{none}
+use Rattle.std.specs.Prelude.{ℕ, zero, suc, ◌+◌, ◌*◌, ◌/◌, ◌%◌, List, [], ◌∷◌, map, None}
 use Rattle.definitions.specs.Lists.{or_else, ascii}
 use Rattle.definitions.specs.Model.{Token, Line, tok, pseudo_line, line, Punct}
 use Rattle.definitions.specs.Statements.{merge}
@@ -60,7 +59,7 @@ piece_tokens S p = form_tokens p.form (line S p.source)
 
 -- the line of a piece, at the indent that the leading test of a header at indent 0 has
 abbrev pub piece_line : List Line → Piece → Line
-piece_line S p = pseudo_line none 1 (piece_tokens S p)
+piece_line S p = pseudo_line None 1 (piece_tokens S p)
 
 unfoldable pub test_tokens : List Line → Piece → Test → List Token
 test_tokens S p guard = or_else (condition (piece_line S p) (ascii "if")) []

@@ -62,10 +62,8 @@ pub fn start(lines: &[u32], plan: &mut [usize])
     requires { (length lines.now ≤ length plan.old) × (length lines.now ≤ 1024) }
     ensures { take (length lines.now) plan.new ≡ kept_words 0 lines.now }
 {
-    let mut i = 0;
-    while i < lines.len() {
+    for i in 0..lines.len() {
         plan[i] = text::word(lines, i) % 256 + 8192 * i;
-        i += 1;
     }
 }
 
@@ -115,14 +113,12 @@ pub fn move_out(plan: &mut [usize], n: usize, a: usize, e: usize) -> bool
     ensures value { result ≡ all is_out (part a e (take n plan.old)) }
     ensures plan_after { result ≡ true → take n plan.new ≡ on_part a e moved_out (take n plan.old) }
 {
-    let mut k = a;
-    while k < e {
+    for k in a..e {
         let w = plan[k];
         if w % 256 == 0 {
             return false;
         }
         plan[k] = w - 1;
-        k += 1;
     }
     true
 }

@@ -1,10 +1,10 @@
 -- A token by its kind and its text, as rules for `search`: what is looked up of a part, said of the token that has that text.
 --   family_at, names_at
 -- Assumes nothing.
+use Rattle.std.specs.Prelude.{Option}
 use mathlib.Core.Path.{◌≡◌}
 use mathlib.Core.Bool.{Bool}
 use mathlib.Core.List.{List}
-use mathlib.Core.Option.{Option}
 use Prim.Native.Nat.{ℕ}
 use Rattle.definitions.specs.Model.{Token, tok}
 use Rattle.definitions.specs.Family.{Family, fam_of}

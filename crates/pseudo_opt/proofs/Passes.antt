@@ -2,11 +2,11 @@
 --   pass_start, pass_found, pass_next, pass_end           r ≡ any p of them
 --   seek_start, seek_found, seek_next, seek_end           r is the place of the first that p holds of
 -- Assumes nothing.
+use Rattle.std.specs.Prelude.{Option, None, Some}
 use Prim.Native.Nat.{ℕ, ◌+◌, ◌-◌, ◌≤◌, ◌<◌}
 use mathlib.Core.Path.{◌≡◌, sym, ap, ◌∙◌}
 use mathlib.Core.Bool.{Bool, true, false}
 use mathlib.Core.List.{List}
-use mathlib.Core.Option.{Option, none, some}
 use native.Mathlib.Omega.{arith}
 use lib.ListN.{get_or, drop}
 use Rattle.definitions.specs.Lists.{any, position}
@@ -66,7 +66,7 @@ module _ (p : Token → Bool) (l t x : List ℕ) (i s k : ℕ) where
 
   module _ (e : ℕ) (a : s ≡ line_start l i) (b : e ≡ line_end l t i) (r : Option ℕ) (inv : r ≡ placed p l t x i s k) where
     module _ (f : Bool) (g : s ≤ k) (h : k < e) (q : f ≡ p (get_or (token_list t x) k no_token)) where
-      pub seek_found : f ≡ true → some (k - s) ≡ r
+      pub seek_found : f ≡ true → Some (k - s) ≡ r
       unfolding placed
       seek_found y =
           place_found p (line (listing l t x) i).tokens r (k - s) (line_end l t i - line_start l i) inv (sym (line_length l t x i)) no_token f
@@ -80,7 +80,7 @@ module _ (p : Token → Bool) (l t x : List ℕ) (i s k : ℕ) where
           (place_next p (line (listing l t x) i).tokens r (k - s) (line_end l t i - line_start l i) inv (sym (line_length l t x i)) no_token f
           (inside l t i s k e a b g h) (here p l t x i s k e a b f g h q) y)
 
-    pub seek_end : s ≤ k → e ≤ k → none ≡ r
+    pub seek_end : s ≤ k → e ≤ k → None ≡ r
     unfolding placed
     seek_end g h =
         place_end p (line (listing l t x) i).tokens r (k - s) (line_end l t i - line_start l i) inv (sym (line_length l t x i)) (omega arith)

@@ -2,10 +2,11 @@
 --   equal_of, starts_of, ends_of, texts    what a comparison says of a part, said of the text that the part is
 --   place_from, place-..                   the loop of a search for a place
 -- Assumes nothing.
+use Rattle.std.specs.Prelude.{Option, None, Some}
+use Rattle.std.specs.Option.{option_map}
 use mathlib.Core.Path.{◌≡◌, refl, sym, ap, ◌∙◌}
 use mathlib.Core.Bool.{Bool, true, false}
 use mathlib.Core.List.{List}
-use mathlib.Core.Option.{Option, none, some, map}
 use Prim.Native.Nat.{ℕ, ◌+◌, ◌≤◌, ◌<◌}
 use native.Mathlib.Nat.{zero-add}
 use lib.ListN.{length, get_or}
@@ -34,13 +35,13 @@ module _ {A : Type 0} (p : A → Bool) (xs : List A) where
   unfolding place_from
   place_start = go (position p xs)
     where
-      go : (o : Option ℕ) → o ≡ map (0 +◌) o
-      go none = refl
-      go (some k) = ap some (sym (zero-add k))
+      go : (o : Option ℕ) → o ≡ option_map (0 +◌) o
+      go None = refl
+      go (Some k) = ap Some (sym (zero-add k))
 
   module _ (r : Option ℕ) (j n : ℕ) (inv : r ≡ place_from p xs j) (e : n ≡ length xs) where
     module _ (d : A) (b : Bool) (h : j < n) (q : b ≡ p (get_or xs j d)) where
-      pub place_found : b ≡ true → some j ≡ r
+      pub place_found : b ≡ true → Some j ≡ r
       unfolding place_from
       place_found f = position_found p xs j n e r inv d b h q f
 
@@ -48,7 +49,7 @@ module _ {A : Type 0} (p : A → Bool) (xs : List A) where
       unfolding place_from
       place_next f = position_next p xs j n e r inv d b h q f
 
-    pub place_end : n ≤ j → none ≡ r
+    pub place_end : n ≤ j → None ≡ r
     unfolding place_from
     place_end h = position_end p xs j n e r inv h
 

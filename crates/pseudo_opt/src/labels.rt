@@ -5,85 +5,69 @@
 ghost use Rattle.std.specs.Prelude.{◌≡◌, [], ◌+◌, eqb, drop};
 ghost use Rattle.definitions.specs.Lists.{or_else};
 ghost use Rattle.definitions.specs.Model.{token, line, Symbol};
-ghost use Rattle.definitions.specs.Columns.{listing};
 ghost use Rattle.definitions.specs.Statements.{is_label, first_symbol, goto_target};
+ghost use Rattle.model.specs.Listings.{listing_of};
 ghost use Rattle.pseudo_opt.specs.Places.{text_at};
 
-use crate::Found;
 use crate::keywords::keyword_at;
+use model::listing::Listing;
 
 // Line i is a label: its name is the text of its first token.
-pub fn is_label(lines: &[u32], tokens: &[u32], text: &[u8], i: usize) -> bool
-    ensures { result ≡ is_label (line (listing lines.now tokens.now text.now) i) }
+pub fn is_label(code: &Listing, i: usize) -> bool
+    ensures { result ≡ is_label (line (listing_of code.now) i) }
 {
-    if model::columns::token_count(lines, tokens, text, i) != 2 {
-        return false;
-    }
-    if model::columns::kind(lines, tokens, text, i, 0) != 4 {
-        return false;
-    }
-    text::equal(model::columns::text_at(lines, tokens, text, i, 1), b":")
+    code.token_count(i) == 2 && code.kind(i, 0) == 4 && text::equal(code.text_at(i, 1), b":")
 }
 
-fn is_symbol(lines: &[u32], tokens: &[u32], text: &[u8], i: usize, j: usize) -> bool
-    ensures { result ≡ eqb (token (line (listing lines.now tokens.now text.now) i) j).kind Symbol }
+fn is_symbol(code: &Listing, i: usize, j: usize) -> bool
+    ensures { result ≡ eqb (token (line (listing_of code.now) i) j).kind Symbol }
 {
-    model::columns::kind(lines, tokens, text, i, j) == 4
+    code.kind(i, j) == 4
 }
 
 // The first symbol of line i after place k: where a goto at place k leads.
-pub fn first_symbol(lines: &[u32], tokens: &[u32], text: &[u8], i: usize, k: usize) -> Found
-    ensures { let l = line (listing lines.now tokens.now text.now) i in
+pub fn first_symbol(code: &Listing, i: usize, k: usize) -> Option<usize>
+    ensures { let l = line (listing_of code.now) i in
         text_at l result ≡ first_symbol (drop (k + 1) l.tokens) }
 {
-    let n = model::columns::token_count(lines, tokens, text, i);
+    let n = code.token_count(i);
     if n <= k {
-        return Found::Nothing;
+        return None;
     }
-    let mut j = k + 1;
-    while j < n {
-        if is_symbol(lines, tokens, text, i, j) {
-            return Found::At(j);
+    for j in k + 1..n {
+        if is_symbol(code, i, j) {
+            return Some(j);
         }
-        j += 1;
     }
-    Found::Nothing
+    None
 }
 
 // Its text, as a part of the lent text: empty where there is none, which `first_symbol` tells.
-pub fn target_after<'a>(
-    lines: &[u32],
-    tokens: &[u32],
-    text: &'a [u8],
-    i: usize,
-    k: usize,
-) -> &'a [u8]
-    ensures { let l = line (listing lines.now tokens.now text.now) i in
+pub fn target_after<'a>(code: &Listing<'a>, i: usize, k: usize) -> &'a [u8]
+    ensures { let l = line (listing_of code.now) i in
         result.now ≡ or_else (first_symbol (drop (k + 1) l.tokens)) [] }
 {
-    let Found::At(j) = first_symbol(lines, tokens, text, i, k) else {
-        return &text[..0];
+    let Some(j) = first_symbol(code, i, k) else {
+        return &code.text[..0];
     };
-    model::columns::text_at(lines, tokens, text, i, j)
+    code.text_at(i, j)
 }
 
 // The symbol that the first goto of line i leads to.
-pub fn goto_symbol(lines: &[u32], tokens: &[u32], text: &[u8], i: usize) -> Found
-    ensures { let l = line (listing lines.now tokens.now text.now) i in
+pub fn goto_symbol(code: &Listing, i: usize) -> Option<usize>
+    ensures { let l = line (listing_of code.now) i in
         text_at l result ≡ goto_target l }
 {
-    let Found::At(g) = keyword_at(lines, tokens, text, i, b"goto") else {
-        return Found::Nothing;
-    };
-    first_symbol(lines, tokens, text, i, g)
+    let g = keyword_at(code, i, b"goto")?;
+    first_symbol(code, i, g)
 }
 
 // Its text, as a part of the lent text: empty where there is none, which `goto_symbol` tells.
-pub fn goto_target<'a>(lines: &[u32], tokens: &[u32], text: &'a [u8], i: usize) -> &'a [u8]
-    ensures { result.now ≡ or_else (goto_target (line (listing lines.now tokens.now text.now) i)) [] }
+pub fn goto_target<'a>(code: &Listing<'a>, i: usize) -> &'a [u8]
+    ensures { result.now ≡ or_else (goto_target (line (listing_of code.now) i)) [] }
 {
-    let Found::At(k) = goto_symbol(lines, tokens, text, i) else {
-        return &text[..0];
+    let Some(k) = goto_symbol(code, i) else {
+        return &code.text[..0];
     };
-    model::columns::text_at(lines, tokens, text, i, k)
+    code.text_at(i, k)
 }

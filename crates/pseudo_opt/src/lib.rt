@@ -9,10 +9,3 @@ pub mod calls;
 pub mod keywords;
 pub mod labels;
 pub mod registers;
-
-// A place among a line's tokens.
-#[derive(Drop)]
-pub enum Found {
-    At(usize),
-    Nothing,
-}

@@ -6,63 +6,39 @@
 ghost use Rattle.std.specs.Prelude.{◌≡◌};
 ghost use Rattle.definitions.specs.Lists.{any};
 ghost use Rattle.definitions.specs.Model.{token, line};
-ghost use Rattle.definitions.specs.Columns.{listing};
 ghost use Rattle.definitions.specs.Family.{fam_of};
+ghost use Rattle.model.specs.Listings.{listing_of};
 ghost use Rattle.family.specs.Register.{family_of, names_family};
 
 use family::Register;
+use model::listing::Listing;
 
 // The family of token j of line i.
-pub fn register_at(lines: &[u32], tokens: &[u32], text: &[u8], i: usize, j: usize) -> Register
-    ensures { let l = line (listing lines.now tokens.now text.now) i in
+pub fn register_at(code: &Listing, i: usize, j: usize) -> Register
+    ensures { let l = line (listing_of code.now) i in
         family_of (token l j).text result ≡ fam_of (token l j) }
 {
-    family::fam_of(
-        model::columns::kind(lines, tokens, text, i, j),
-        model::columns::text_at(lines, tokens, text, i, j),
-    )
+    family::fam_of(code.kind(i, j), code.text_at(i, j))
 }
 
 // Token j of line i names the family that the answer r of the text s is.
-pub fn token_names(
-    lines: &[u32],
-    tokens: &[u32],
-    text: &[u8],
-    i: usize,
-    j: usize,
-    s: &[u8],
-    r: Register,
-) -> bool
-    ensures { let l = line (listing lines.now tokens.now text.now) i in
+pub fn token_names(code: &Listing, i: usize, j: usize, s: &[u8], r: Register) -> bool
+    ensures { let l = line (listing_of code.now) i in
         result ≡ names_family (family_of s.now r) (token l j) }
 {
-    family::names(
-        model::columns::kind(lines, tokens, text, i, j),
-        model::columns::text_at(lines, tokens, text, i, j),
-        s,
-        r,
-    )
+    family::names(code.kind(i, j), code.text_at(i, j), s, r)
 }
 
 // A token of line i names it.
-pub fn line_names(
-    lines: &[u32],
-    tokens: &[u32],
-    text: &[u8],
-    i: usize,
-    s: &[u8],
-    r: Register,
-) -> bool
-    ensures { let l = line (listing lines.now tokens.now text.now) i in
+pub fn line_names(code: &Listing, i: usize, s: &[u8], r: Register) -> bool
+    ensures { let l = line (listing_of code.now) i in
         result ≡ any (names_family (family_of s.now r)) l.tokens }
 {
-    let n = model::columns::token_count(lines, tokens, text, i);
-    let mut j = 0;
-    while j < n {
-        if token_names(lines, tokens, text, i, j, s, r) {
+    let n = code.token_count(i);
+    for j in 0..n {
+        if token_names(code, i, j, s, r) {
             return true;
         }
-        j += 1;
     }
     false
 }

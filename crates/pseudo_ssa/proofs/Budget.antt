@@ -3,11 +3,11 @@
 --   within_enough     with a budget of 4,294,967,295 sweeps the call is that without one
 --   of_limits         with question 1's limits it is the web call
 -- Assumes nothing.
+use Rattle.std.specs.Prelude.{Option, None, Some}
 use Prim.Native.Nat.{ℕ, suc, ◌+◌, ◌-◌, ◌*◌, ◌≤◌}
 use mathlib.Core.Path.{◌≡◌, refl}
 use mathlib.Core.Bool.{Bool, true, false, cond, not}
 use mathlib.Core.List.{List, [], ◌∷◌, map}
-use mathlib.Core.Option.{Option, none, some}
 use native.Mathlib.Omega.{arith}
 use native.Mathlib.Nat.{suc-mul, mul-le-mul_right}
 use borrow.Author.Tests.{le-leb, leb-true}
@@ -28,7 +28,7 @@ use Rattle.theory.proofs.Accepted.{all_webs}
 use Rattle.model.proofs.Ands.{both}
 use Rattle.model.proofs.Decode.{length_listing}
 use Rattle.families.proofs.Numbered.{families_all, families_few}
-use Rattle.pseudo_ssa.proofs.Asking.{refusal_yes}
+use Rattle.questions.proofs.Refusing.{refusal_yes}
 use Rattle.pseudo_ssa.proofs.Written.{accepted_webs, refused_webs}
 use Rattle.pseudo_ssa.specs.Within.{web_refusal_within, web_call_of, within_budget, web_call_within}
 
@@ -64,10 +64,10 @@ module _ (L : List Line) (few : length L ≤ 1024) where
       length_preds G = rw (length-map, length_range)
 
       go : (b : Bool) → leb 2 (length L) ≡ b → (o : Option (List (List ℕ)))
-          → total_sweeps (or_else (require b >>= λ _. o >>= λ G. some (all_webs L G)) []) ≤ 4294967295
+          → total_sweeps (or_else (require b >>= λ _. o >>= λ G. Some (all_webs L G)) []) ≤ 4294967295
       go false e o = omega arith
-      go true e none = omega arith
-      go true e (some G) =
+      go true e None = omega arith
+      go true e (Some G) =
           let preds = predecessor_lists L G in
           let a = families_sum L preds (λ f. not (address_taken L f)) (defined_families L) 0 in
           let two = leb-true 2 (length L) e in
@@ -80,19 +80,19 @@ module _ (L : List Line) (few : length L ≤ 1024) where
   budget_kept = go (webs_refusal L) refl
     where
       go : (o : Option ℕ) → webs_refusal L ≡ o → within_budget 4294967295 (webs L) ≡ webs L
-      go (some n) e = rw (refused_webs L n e)
-      go none e = rw (accepted_webs L e, le-leb _ _ total_few)
+      go (Some n) e = rw (refused_webs L n e)
+      go None e = rw (accepted_webs L e, le-leb _ _ total_few)
 
 pub within_enough : (m : Limits) (l t x : List ℕ) (o : Lent) → m.lines ≤ 1024 → web_call_within m 4294967295 l t x o ≡ web_call_of m l t x o
 unfolding web_call_within web_call_of
 within_enough m l t x o few = go (web_refusal_within m l t x o) refl
   where
     called_with : Option ℕ → Answer Numbered → Called ℕ
-    called_with q a = elim q [ some n ↦ record { answer = refused n; lent = o } | none ↦ webs_written a o ]
+    called_with q a = elim q [ Some n ↦ record { answer = refused n; lent = o } | None ↦ webs_written a o ]
 
     go : (q : Option ℕ) → web_refusal_within m l t x o ≡ q → called_with q (within_budget 4294967295 (webs (listing l t x))) ≡ called_with q (webs (listing l t x))
-    go (some n) e = refl
-    go none e =
+    go (Some n) e = refl
+    go None e =
         let y : question_1 m l t x ≡ true = (refusal_yes 1 _ _ e).0 in
         let h : length l ≤ m.lines = leb-true _ _ (both _ _ (both _ _ y).0).0 in
         rw (budget_kept (listing l t x) (rw (length_listing l t x) (omega arith)))

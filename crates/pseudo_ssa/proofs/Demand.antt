@@ -9,10 +9,12 @@ use Rattle.definitions.specs.Columns.{listing}
 use Rattle.definitions.specs.Answers.{accepted}
 use Rattle.definitions.specs.Calls.{Lent, Called, web_call}
 use Rattle.theory.proofs.Called.{Demand3Of, web_call_demand}
-use Rattle.pseudo_ssa.specs.declared.Webs.{Webs}
-use Rattle.pseudo_ssa.specs.Answers.{answer_of, called, Demand3Over}
+use Rattle.std.specs.Prelude.{Result}
+use Rattle.questions.specs.Refusals.{answer_of}
+use Rattle.questions.specs.declared.Refusal.{Refusal}
+use Rattle.pseudo_ssa.specs.Answers.{called, Demand3Over}
 
-module _ (l t x : List ℕ) (o : Lent) (a : Webs) (ns ms ws : List ℕ) (equation : called a ns ms ws ≡ web_call l t x o)
+module _ (l t x : List ℕ) (o : Lent) (a : Result ℕ Refusal) (ns ms ws : List ℕ) (equation : called a ns ms ws ≡ web_call l t x o)
     (s : ℕ) (yes : answer_of a ≡ accepted s) where
   pub every_type {ℓ} : Demand3Of {ℓ} (listing l t x) ns
   every_type =

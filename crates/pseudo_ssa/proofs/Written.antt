@@ -8,12 +8,11 @@
 --   space_swapped            what the working space held at first does not matter
 --   within_answered, within_refused    questions 1 to 5
 -- Assumes nothing.
-use Prim.Native.Nat.{ℕ, zero, suc, ◌≤◌, ◌<◌}
+use Rattle.std.specs.Prelude.{Option, None, Some, Ok, Err}
+use Prim.Native.Nat.{ℕ, ◌≤◌, ◌<◌}
 use mathlib.Core.Path.{◌≡◌, refl, sym, ap, ◌∙◌}
-use mathlib.Core.Logic.{◌≢◌}
 use mathlib.Core.Bool.{Bool, true, false}
 use mathlib.Core.List.{List, [], ◌++◌}
-use mathlib.Core.Option.{none, some}
 use native.Mathlib.Omega.{arith}
 use native.Mathlib.Numerals.{unary_clauses}
 use borrow.Author.Tests.{leb-true, lt-leb}
@@ -29,16 +28,14 @@ use Rattle.definitions.specs.Answers.{Answer, refused, accepted, Numbered, numbe
 use Rattle.definitions.specs.Calls.{zeros, filled, webs_written}
 use Rattle.bits.specs.Edges.{row_words}
 use Rattle.text.specs.Zeroed.{zeroed}
-use Rattle.questions.specs.Refusals.{refused as asked_refused}
+use Rattle.questions.specs.Refusals.{number}
+use Rattle.questions.specs.declared.Refusal.{Refusal}
+use Rattle.questions.specs.declared.Refusal.TheVariants.{TooShort, OverBudget}
 use Rattle.model.proofs.Decode.{length_listing}
-use Rattle.sweep.specs.declared.Sweeps.{Sweeps}
-use Rattle.sweep.specs.declared.Sweeps.TheVariants.{Done, OverBudget}
 use Rattle.sweep.specs.Solved.{answer as recovered}
 use Rattle.webs.specs.Steps.{AllDone}
-use Rattle.flow.specs.declared.graph.Flow.{Flow}
-use Rattle.flow.specs.Graph.{Graph, flow_refusal, refused as flow_refused}
+use Rattle.flow.specs.Graph.{Graph, flow_refusal}
 use Rattle.flow.proofs.Graphs.{webs_refusal_flow, graph_predecessors}
-use Rattle.pseudo_ssa.specs.declared.Webs.TheVariants.{Accepted, Refused}
 use Rattle.pseudo_ssa.specs.Asked.{Asked, Ready}
 use Rattle.pseudo_ssa.specs.Within.{web_refusal_within, within_budget, web_call_within}
 use Rattle.pseudo_ssa.specs.Answers.{lent, called}
@@ -63,51 +60,51 @@ zeroed_zeros ws old e = simp unary_clauses (rw e)
 
 -- The cases
 
-over≢done : {s : ℕ} → OverBudget ≡ Done s → ⊥
+over≢done : {s : ℕ} → None ≡ Some s → ⊥
 over≢done e = let z : ◌≡◌ {A = ℕ} 0 1 = cc in absurd (omega arith)
 
-done_sweeps : {s c : ℕ} → Done s ≡ Done c → s ≡ c
+done_sweeps : {s c : ℕ} → Some s ≡ Some c → s ≡ c
 done_sweeps e = cc
 
-done_within : (b s c : ℕ) → Done s ≡ recovered b c → c ≤ b
+done_within : (b s c : ℕ) → Some s ≡ recovered b c → c ≤ b
 done_within b s c e = go (leb c b) refl
   where
     go : (t : Bool) → leb c b ≡ t → c ≤ b
     go true f = leb-true c b f
-    go false f = let z : OverBudget ≡ Done s = sym (e ∙ rw f) in absurd (over≢done z)
+    go false f = let z : None ≡ Some s = sym (e ∙ rw f) in absurd (over≢done z)
 
-pub accepted_webs : (L : List Line) → webs_refusal L ≡ none → webs L ≡ accepted (numbered_webs L (or_else (recover L) []))
+pub accepted_webs : (L : List Line) → webs_refusal L ≡ None → webs L ≡ accepted (numbered_webs L (or_else (recover L) []))
 unfolding webs
 accepted_webs L e = rw (e, webs)
 
-pub refused_webs : (L : List Line) (n : ℕ) → webs_refusal L ≡ some n → webs L ≡ refused n
+pub refused_webs : (L : List Line) (n : ℕ) → webs_refusal L ≡ Some n → webs L ≡ refused n
 unfolding webs
 refused_webs L n e = rw (e, webs)
 
 module _ (L : List Line) (b : ℕ) (ns ms ws ns₁ ms₁ ws₁ : List ℕ) where
-  pub written_refused : (n : ℕ) → webs_refusal L ≡ some n → ns₁ ≡ zeros ns → ms₁ ≡ zeros ms → ws₁ ≡ zeros ws
-      → called (Refused n) ns₁ ms₁ ws₁ ≡ webs_written (within_budget b (webs L)) (lent ns ms ws)
+  pub written_refused : (r : Refusal) → webs_refusal L ≡ Some (number r) → ns₁ ≡ zeros ns → ms₁ ≡ zeros ms → ws₁ ≡ zeros ws
+      → called (Err r) ns₁ ms₁ ws₁ ≡ webs_written (within_budget b (webs L)) (lent ns ms ws)
   unfolding within_budget webs_written
-  written_refused n e p q u = rw (refused_webs L n e, p, q, u)
+  written_refused r e p q u = rw (refused_webs L (number r) e, p, q, u)
 
   module _ (N : Numbered) (yes : webs L ≡ accepted N) where
-    pub written_done : (s : ℕ) → Done s ≡ recovered b N.sweeps → ns₁ ≡ filled N.numbers ns → ms₁ ≡ filled N.marks ms → ws₁ ≡ zeros ws
-        → called (Accepted s) ns₁ ms₁ ws₁ ≡ webs_written (within_budget b (webs L)) (lent ns ms ws)
+    pub written_done : (s : ℕ) → Some s ≡ recovered b N.sweeps → ns₁ ≡ filled N.numbers ns → ms₁ ≡ filled N.marks ms → ws₁ ≡ zeros ws
+        → called (Ok s) ns₁ ms₁ ws₁ ≡ webs_written (within_budget b (webs L)) (lent ns ms ws)
     unfolding within_budget webs_written
     written_done s e p q u = go (leb N.sweeps b) refl
       where
-        go : (t : Bool) → leb N.sweeps b ≡ t → called (Accepted s) ns₁ ms₁ ws₁ ≡ webs_written (within_budget b (webs L)) (lent ns ms ws)
-        go true f = let z : Done s ≡ Done N.sweeps = e ∙ rw f in rw (yes, f, p, q, u, done_sweeps z)
-        go false f = let z : OverBudget ≡ Done s = sym (e ∙ rw f) in absurd (over≢done z)
+        go : (t : Bool) → leb N.sweeps b ≡ t → called (Ok s) ns₁ ms₁ ws₁ ≡ webs_written (within_budget b (webs L)) (lent ns ms ws)
+        go true f = let z : Some s ≡ Some N.sweeps = e ∙ rw f in rw (yes, f, p, q, u, done_sweeps z)
+        go false f = let z : None ≡ Some s = sym (e ∙ rw f) in absurd (over≢done z)
 
-    pub written_over : OverBudget ≡ recovered b N.sweeps → ns₁ ≡ zeros ns → ms₁ ≡ zeros ms → ws₁ ≡ zeros ws
-        → called (Refused 13) ns₁ ms₁ ws₁ ≡ webs_written (within_budget b (webs L)) (lent ns ms ws)
+    pub written_over : None ≡ recovered b N.sweeps → ns₁ ≡ zeros ns → ms₁ ≡ zeros ms → ws₁ ≡ zeros ws
+        → called (Err OverBudget) ns₁ ms₁ ws₁ ≡ webs_written (within_budget b (webs L)) (lent ns ms ws)
     unfolding within_budget webs_written
     written_over e p q u = go (leb N.sweeps b) refl
       where
-        go : (t : Bool) → leb N.sweeps b ≡ t → called (Refused 13) ns₁ ms₁ ws₁ ≡ webs_written (within_budget b (webs L)) (lent ns ms ws)
+        go : (t : Bool) → leb N.sweeps b ≡ t → called (Err OverBudget) ns₁ ms₁ ws₁ ≡ webs_written (within_budget b (webs L)) (lent ns ms ws)
         go false f = rw (yes, f, p, q, u)
-        go true f = let z : OverBudget ≡ Done N.sweeps = e ∙ rw f in absurd (over≢done z)
+        go true f = let z : None ≡ Some N.sweeps = e ∙ rw f in absurd (over≢done z)
 
 -- The same, by what the code's calls leave
 
@@ -117,22 +114,22 @@ module _ (l t x ns ms ws : List ℕ) (r b : ℕ) (R : Ready l t x ns ms ws r) wh
 
   module _ (p q ws₀ ns₁ ms₁ ws₁ : List ℕ) (lp : length p ≡ length (take (length t) ns)) (lq : length q ≡ length (take (length t) ms)) (lw : length ws₀ ≡ length ws)
       (w : ws₁ ≡ zeroed 0 ws₀) where
-    pub numbered_done : (a : Sweeps) (s : ℕ) → AllDone b answer p q a → a ≡ Done s
+    pub numbered_done : (a : Option ℕ) (s : ℕ) → AllDone b answer p q a → a ≡ Some s
         → ns₁ ≡ zeroed (length t) (p ++ drop (length t) ns) → ms₁ ≡ zeroed (length t) (q ++ drop (length t) ms)
-        → called (Accepted s) ns₁ ms₁ ws₁ ≡ webs_written (within_budget b (webs (listing l t x))) (lent ns ms ws)
+        → called (Ok s) ns₁ ms₁ ws₁ ≡ webs_written (within_budget b (webs (listing l t x))) (lent ns ms ws)
     numbered_done a s D g u v =
-        let e : Done s ≡ recovered b answer.sweeps = sym g ∙ D.answers in
+        let e : Some s ≡ recovered b answer.sweeps = sym g ∙ D.answers in
         let within = done_within b s answer.sweeps e in
         written_done (listing l t x) b ns ms ws ns₁ ms₁ ws₁ answer (accepted_webs (listing l t x) R.accepted) s e
         (u ∙ zeroed_filled (length t) p ns lp R.asked.numbers_room ∙ rw (D.numbers within))
         (v ∙ zeroed_filled (length t) q ms lq R.asked.marks_room ∙ rw (D.marks within))
         (w ∙ zeroed_zeros ws₀ ws lw)
 
-    pub numbered_over : (a : Sweeps) → AllDone b answer p q a → a ≡ OverBudget
+    pub numbered_over : (a : Option ℕ) → AllDone b answer p q a → a ≡ None
         → ns₁ ≡ zeroed 0 (p ++ drop (length t) ns) → ms₁ ≡ zeroed 0 (q ++ drop (length t) ms)
-        → called (Refused 13) ns₁ ms₁ ws₁ ≡ webs_written (within_budget b (webs (listing l t x))) (lent ns ms ws)
+        → called (Err OverBudget) ns₁ ms₁ ws₁ ≡ webs_written (within_budget b (webs (listing l t x))) (lent ns ms ws)
     numbered_over a D g u v =
-        let e : OverBudget ≡ recovered b answer.sweeps = sym g ∙ D.answers in
+        let e : None ≡ recovered b answer.sweeps = sym g ∙ D.answers in
         written_over (listing l t x) b ns ms ws ns₁ ms₁ ws₁ answer (accepted_webs (listing l t x) R.accepted) e
         (u ∙ zeroed_zeros (p ++ drop (length t) ns) ns (whole_length (length t) p ns lp R.asked.numbers_room))
         (v ∙ zeroed_zeros (q ++ drop (length t) ms) ms (whole_length (length t) q ms lq R.asked.marks_room))
@@ -142,23 +139,23 @@ module _ (l t x ns ms ws : List ℕ) (r b : ℕ) (R : Ready l t x ns ms ws r) wh
 
 module _ (l t x ns ms ws ws₀ ns₁ ms₁ ws₁ : List ℕ) (b : ℕ) (lw : length ws₀ ≡ length ws)
     (u : ns₁ ≡ zeroed 0 ns) (v : ms₁ ≡ zeroed 0 ms) (w : ws₁ ≡ zeroed 0 ws₀) where
-  pub answered_7 : length l < 2 → called (Refused 7) ns₁ ms₁ ws₁ ≡ webs_written (within_budget b (webs (listing l t x))) (lent ns ms ws)
+  pub answered_7 : length l < 2 → called (Err TooShort) ns₁ ms₁ ws₁ ≡ webs_written (within_budget b (webs (listing l t x))) (lent ns ms ws)
   unfolding webs_refusal
   answered_7 h =
-      written_refused (listing l t x) b ns ms ws ns₁ ms₁ ws₁ 7 (rw (length_listing l t x, lt-leb 2 (length l) h)) (u ∙ zeroed_zeros ns ns refl) (v ∙ zeroed_zeros ms ms refl) (w ∙ zeroed_zeros ws₀ ws lw)
+      written_refused (listing l t x) b ns ms ws ns₁ ms₁ ws₁ TooShort (rw (length_listing l t x, lt-leb 2 (length l) h)) (u ∙ zeroed_zeros ns ns refl) (v ∙ zeroed_zeros ms ms refl) (w ∙ zeroed_zeros ws₀ ws lw)
 
-  pub answered_flow : (f : Flow) (n : ℕ) → 2 ≤ length l → flow_refused f ≡ flow_refusal (listing l t x) → flow_refused f ≡ some n
-      → called (Refused n) ns₁ ms₁ ws₁ ≡ webs_written (within_budget b (webs (listing l t x))) (lent ns ms ws)
-  answered_flow f n h e g =
-      written_refused (listing l t x) b ns ms ws ns₁ ms₁ ws₁ n
-      (webs_refusal_flow (listing l t x) (rw (length_listing l t x) h) ∙ sym e ∙ g) (u ∙ zeroed_zeros ns ns refl) (v ∙ zeroed_zeros ms ms refl) (w ∙ zeroed_zeros ws₀ ws lw)
+  pub answered_flow : (r : Refusal) → 2 ≤ length l → Some (number r) ≡ flow_refusal (listing l t x)
+      → called (Err r) ns₁ ms₁ ws₁ ≡ webs_written (within_budget b (webs (listing l t x))) (lent ns ms ws)
+  answered_flow r h e =
+      written_refused (listing l t x) b ns ms ws ns₁ ms₁ ws₁ r
+      (webs_refusal_flow (listing l t x) (rw (length_listing l t x) h) ∙ sym e) (u ∙ zeroed_zeros ns ns refl) (v ∙ zeroed_zeros ms ms refl) (w ∙ zeroed_zeros ws₀ ws lw)
 
 -- The flow graph is drawn
 
-pub ready : (l t x ns ms ws ws₀ : List ℕ) (r : ℕ) (f : Flow) → Asked l t x ns ms ws → length ws₀ ≡ length ws → 2 ≤ length l → r ≡ row_words (length l)
-    → flow_refused f ≡ flow_refusal (listing l t x) → flow_refused f ≡ none → Graph (listing l t x) (length l) r ws ws₀
+pub ready : (l t x ns ms ws ws₀ : List ℕ) (r : ℕ) → Asked l t x ns ms ws → length ws₀ ≡ length ws → 2 ≤ length l → r ≡ row_words (length l)
+    → None ≡ flow_refusal (listing l t x) → Graph (listing l t x) (length l) r ws ws₀
     → Ready l t x ns ms ws₀ r
-ready l t x ns ms ws ws₀ r f A lw two row e g G = record {
+ready l t x ns ms ws ws₀ r A lw two row e G = record {
   asked = record {
     lines = A.lines;
     tokens = A.tokens;
@@ -169,7 +166,7 @@ ready l t x ns ms ws ws₀ r f A lw two row e g G = record {
   };
   row = row;
   two = two;
-  accepted = webs_refusal_flow (listing l t x) (rw (length_listing l t x) two) ∙ sym e ∙ g;
+  accepted = webs_refusal_flow (listing l t x) (rw (length_listing l t x) two) ∙ sym e;
   drawn = record {
     graph = G.graph;
     flow = G.flow;
@@ -192,15 +189,11 @@ space_swapped (accepted r) ns ms ws ws₀ e = rw e
 
 -- Questions 1 to 5
 
-module _ (m : Limits) (b : ℕ) (l t x ns ms ws : List ℕ) (q : ℕ) (e : asked_refused q ≡ web_refusal_within m l t x (lent ns ms ws)) where
-  pub within_answered : q ≡ 0 → webs_written (within_budget b (webs (listing l t x))) (lent ns ms ws) ≡ web_call_within m b l t x (lent ns ms ws)
+module _ (m : Limits) (b : ℕ) (l t x ns ms ws : List ℕ) where
+  pub within_answered : None ≡ web_refusal_within m l t x (lent ns ms ws) → webs_written (within_budget b (webs (listing l t x))) (lent ns ms ws) ≡ web_call_within m b l t x (lent ns ms ws)
   unfolding web_call_within
-  within_answered z = let n : none ≡ web_refusal_within m l t x (lent ns ms ws) = rw z at e in rw (← n, web_call_within)
+  within_answered e = rw (← e, web_call_within)
 
-  pub within_refused : q ≢ 0 → called (Refused q) ns ms ws ≡ web_call_within m b l t x (lent ns ms ws)
+  pub within_refused : (r : Refusal) → Some (number r) ≡ web_refusal_within m l t x (lent ns ms ws) → called (Err r) ns ms ws ≡ web_call_within m b l t x (lent ns ms ws)
   unfolding web_call_within
-  within_refused z = go q e z
-    where
-      go : (q : ℕ) → asked_refused q ≡ web_refusal_within m l t x (lent ns ms ws) → q ≢ 0 → called (Refused q) ns ms ws ≡ web_call_within m b l t x (lent ns ms ws)
-      go zero e z = absurd (z refl)
-      go (suc q) e z = rw (← e, web_call_within)
+  within_refused r e = rw (← e, web_call_within)

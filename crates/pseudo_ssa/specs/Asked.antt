@@ -2,8 +2,7 @@
 --   Asked    questions 1 to 5 are answered yes
 --   Ready    questions 7 to 9 too, and the flow graph is drawn
 -- Assumes nothing.
-use Rattle.std.specs.Prelude.{ℕ, ◌≤◌, ◌≡◌, true, List, length}
-use Rattle.std.proofs.Math.Option.{none}
+use Rattle.std.specs.Prelude.{ℕ, ◌≤◌, ◌≡◌, true, List, length, None}
 use Rattle.definitions.specs.Columns.{listing}
 use Rattle.definitions.specs.Questions.{question_2, space_words}
 use Rattle.definitions.specs.Answers.{webs_refusal}
@@ -22,5 +21,5 @@ pub record Ready (l t x numbers marks space : List ℕ) (r : ℕ) : Type 0 where
   pub asked : Asked l t x numbers marks space
   pub row : r ≡ row_words (length l)
   pub two : 2 ≤ length l
-  pub accepted : webs_refusal (listing l t x) ≡ none
+  pub accepted : webs_refusal (listing l t x) ≡ None
   pub drawn : Drawn (listing l t x) (length l) r space

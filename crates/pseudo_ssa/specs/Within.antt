@@ -4,8 +4,7 @@
 --   web_call_of m l t x o           the web call with the limits m
 --   web_call_within m b l t x o     the same with at most b sweeps
 -- Assumes nothing.
-use Rattle.std.specs.Prelude.{if◌then◌else◌, ℕ, List, [], ◌∷◌, leb, length}
-use Rattle.std.proofs.Math.Option.{Option, none, some}
+use Rattle.std.specs.Prelude.{if◌then◌else◌, ℕ, List, [], ◌∷◌, leb, length, Option, None, Some}
 use Rattle.definitions.specs.Columns.{listing}
 use Rattle.definitions.specs.Questions.{Limits, question_1, question_2, question_3, question_4, question_5, refusal}
 use Rattle.definitions.specs.Answers.{Answer, refused, accepted, Numbered, webs}
@@ -18,8 +17,8 @@ web_refusal_within m l t x o = refusal (
 
 unfoldable pub web_call_of : Limits → List ℕ → List ℕ → List ℕ → Lent → Called ℕ
 web_call_of m l t x o = elim (web_refusal_within m l t x o) [
-  | some n ↦ record { answer = refused n; lent = o }
-  | none ↦ webs_written (webs (listing l t x)) o
+  | Some n ↦ record { answer = refused n; lent = o }
+  | None ↦ webs_written (webs (listing l t x)) o
 ]
 
 -- the number of a refusal for want of budget
@@ -32,6 +31,6 @@ within_budget b (accepted r) = if leb r.sweeps b then accepted r else refused ov
 
 unfoldable pub web_call_within : Limits → ℕ → List ℕ → List ℕ → List ℕ → Lent → Called ℕ
 web_call_within m b l t x o = elim (web_refusal_within m l t x o) [
-  | some n ↦ record { answer = refused n; lent = o }
-  | none ↦ webs_written (within_budget b (webs (listing l t x))) o
+  | Some n ↦ record { answer = refused n; lent = o }
+  | None ↦ webs_written (within_budget b (webs (listing l t x))) o
 ]

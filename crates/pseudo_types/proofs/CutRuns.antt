@@ -8,10 +8,10 @@
 --   run_found, run_next, run_over     the loop of `names_from`
 --   names_of                          the families that a condition names
 -- Assumes nothing.
+use Rattle.std.specs.Prelude.{Option, None, Some}
 use mathlib.Core.Path.{◌≡◌, refl, sym, ap, subst, ◌∙◌}
 use mathlib.Core.Bool.{Bool, true, false, not, cond, ◌||◌}
 use mathlib.Core.List.{List, [], ◌∷◌}
-use mathlib.Core.Option.{Option, none, some}
 use Prim.Native.Nat.{ℕ, zero, suc, ◌+◌, ◌-◌, ◌≤◌, ◌<◌}
 use native.Mathlib.Omega.{arith}
 use native.Mathlib.Numerals.{add-one}
@@ -28,8 +28,7 @@ use Rattle.definitions.specs.Condition.{cut_front, cut_end, cut, condition}
 use Rattle.text.proofs.Texts.{≟_eq}
 use Rattle.family.specs.Register.{names_family}
 use Rattle.condition.specs.Conditions.{conditional}
-use Rattle.condition.specs.declared.Conditional.{Conditional}
-use Rattle.condition.specs.declared.Conditional.TheVariants.{Cut, Nothing}
+use Rattle.condition.specs.declared.Cut.{Cut}
 use Rattle.pseudo_types.specs.Cuts.{front, back, cut_token, cut_run, Bounds, Within}
 
 module _ (l : Line) (k n : ℕ) where
@@ -114,22 +113,22 @@ filter_any p h (t ∷ ts) = go (is_empty t) refl (filter_any p h ts)
     go true e r = rw (h t e) r
     go false e r = ap (λ b. p t || b) r
 
-nil_family : family [] ≡ none
+nil_family : family [] ≡ None
 unfolding family legacy_family legacy other_family ◌≟◌ starts_with position
 nil_family = refl
 
-no_family : (t : Token) → t.text ≡ [] → fam_of t ≡ none
+no_family : (t : Token) → t.text ≡ [] → fam_of t ≡ None
 unfolding fam_of
 no_family t e = rw (e, nil_family) (go (eqb t.kind 1))
   where
-    go : (b : Bool) → cond {A = Option Family} b none none ≡ none
+    go : (b : Bool) → cond {A = Option Family} b None None ≡ None
     go true = refl
     go false = refl
 
 pub empty_names : (o : Option Family) (t : Token) → is_empty t ≡ true → names_family o t ≡ false
 unfolding names
-empty_names none t e = refl
-empty_names (some f) t e = rw (no_family t (≟_eq t.text [] e), names)
+empty_names None t e = refl
+empty_names (Some f) t e = rw (no_family t (≟_eq t.text [] e), names)
 
 -- Where a token is cut
 
@@ -189,22 +188,22 @@ module _ (p : Token → Bool) (l : Line) (k n j m : ℕ) (c : m ≡ length l.tok
 
 pub ruleset cut_names = (run_found, run_next, run_over)
 
-module _ (l : Line) (o : Option Family) (a : Conditional) (p : conditional l a ≡ condition l (ascii "if")) where
-  pub names_nothing : a ≡ Nothing → false ≡ any (names_family o) (or_else (condition l (ascii "if")) [])
+module _ (l : Line) (o : Option Family) (a : Option Cut) (p : conditional l a ≡ condition l (ascii "if")) where
+  pub names_nothing : a ≡ None → false ≡ any (names_family o) (or_else (condition l (ascii "if")) [])
   unfolding any
   names_nothing e = rw (← p, e)
 
-  module _ (k n : ℕ) (e : a ≡ Cut k n) (w : Within l a) where
-    bounds : Bounds l k n
+  module _ (u : Cut) (e : a ≡ Some u) (w : Within l a) where
+    bounds : Bounds l u.keyword u.end
     bounds = subst (Within l) e w
 
-    pub names_is : (r : Bool) → r ≡ any (names_family o) (cut_run l k n (k + 1)) → r ≡ any (names_family o) (or_else (condition l (ascii "if")) [])
+    pub names_is : (r : Bool) → r ≡ any (names_family o) (cut_run l u.keyword u.end (u.keyword + 1)) → r ≡ any (names_family o) (or_else (condition l (ascii "if")) [])
     names_is r q =
         q
-        ∙ (sym (filter_any (names_family o) (empty_names o) (cut_run l k n (k + 1)))
-        ∙ (ap (any (names_family o)) (sym (cut_is_run l k n bounds.opened)) ∙ rw (← p, e)))
+        ∙ (sym (filter_any (names_family o) (empty_names o) (cut_run l u.keyword u.end (u.keyword + 1)))
+        ∙ (ap (any (names_family o)) (sym (cut_is_run l u.keyword u.end bounds.opened)) ∙ rw (← p, e)))
 
-    pub names_past : (m : ℕ) (r : Bool) → m ≡ length l.tokens → m ≤ k → r ≡ any (names_family o) (or_else (condition l (ascii "if")) [])
+    pub names_past : (m : ℕ) (r : Bool) → m ≡ length l.tokens → m ≤ u.keyword → r ≡ any (names_family o) (or_else (condition l (ascii "if")) [])
     names_past m r c h = let b = bounds.opened in absurd (omega arith)
 
 pub ruleset names_of = (names_nothing, names_is, names_past)

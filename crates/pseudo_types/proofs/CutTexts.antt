@@ -4,6 +4,7 @@
 --   same_no_if, same_no_while, same_is       two conditions compared
 --   step_of                                  what is asked of a part, said of the text that it is
 -- Assumes nothing.
+use Rattle.std.specs.Prelude.{Option, Some, None}
 use mathlib.Core.Path.{◌≡◌, refl, sym, ap, ap₂, subst, ◌∙◌}
 use mathlib.Core.Bool.{Bool, true, false, not, cond}
 use mathlib.Core.List.{List, [], ◌∷◌, ◌++◌, append-nil}
@@ -19,8 +20,7 @@ use Rattle.definitions.specs.ToFor.{is_step}
 use Rattle.text.proofs.Parts.{part_none}
 use Rattle.text.proofs.Texts.{≟_eq}
 use Rattle.condition.specs.Conditions.{conditional}
-use Rattle.condition.specs.declared.Conditional.{Conditional}
-use Rattle.condition.specs.declared.Conditional.TheVariants.{Cut, Nothing}
+use Rattle.condition.specs.declared.Cut.{Cut}
 use Rattle.pseudo_types.specs.Cuts.{text_from, Bounds, Within, same_condition}
 
 -- Dropping empty tokens drops no byte.
@@ -98,21 +98,21 @@ pub ruleset cut_texts = (text_past, text_cut, text_gone)
 
 -- Two compared
 
-module _ (l m : Line) (a : Conditional) (p : conditional l a ≡ condition l (ascii "if")) where
-  pub same_no_if : a ≡ Nothing → false ≡ same_condition l m
+module _ (l m : Line) (a : Option Cut) (p : conditional l a ≡ condition l (ascii "if")) where
+  pub same_no_if : a ≡ None → false ≡ same_condition l m
   same_no_if e = rw (← p, e)
 
-  module _ (j v : ℕ) (e : a ≡ Cut j v) (b : Conditional) (q : conditional m b ≡ condition m (ascii "while")) where
-    pub same_no_while : b ≡ Nothing → false ≡ same_condition l m
+  module _ (c : Cut) (e : a ≡ Some c) (b : Option Cut) (q : conditional m b ≡ condition m (ascii "while")) where
+    pub same_no_while : b ≡ None → false ≡ same_condition l m
     same_no_while f = rw (← p, e, ← q, f)
 
-    pub same_is : Within l a → Within m b → (k w : ℕ) → b ≡ Cut k w → (r : Bool) (s u : List ℕ)
-        → s ≡ part 2 (length (text_from l (j + 1)) - v) (text_from l (j + 1)) → u ≡ part 2 (length (text_from m (k + 1)) - w) (text_from m (k + 1))
+    pub same_is : Within l a → Within m b → (d : Cut) → b ≡ Some d → (r : Bool) (s u : List ℕ)
+        → s ≡ part 2 (length (text_from l (c.keyword + 1)) - c.end) (text_from l (c.keyword + 1)) → u ≡ part 2 (length (text_from m (d.keyword + 1)) - d.end) (text_from m (d.keyword + 1))
         → r ≡ (s ≟ u) → r ≡ same_condition l m
-    same_is x y k w f r s u g h d =
-        let B : Bounds l j v = subst (Within l) e x in
-        let C : Bounds m k w = subst (Within m) f y in
-        d ∙ ap₂ ◌≟◌ (g ∙ sym (cut_text l j v B)) (h ∙ sym (cut_text m k w C)) ∙ rw (← p, e, ← q, f)
+    same_is x y d f r s u g h k' =
+        let B : Bounds l c.keyword c.end = subst (Within l) e x in
+        let D : Bounds m d.keyword d.end = subst (Within m) f y in
+        k' ∙ ap₂ ◌≟◌ (g ∙ sym (cut_text l c.keyword c.end B)) (h ∙ sym (cut_text m d.keyword d.end D)) ∙ rw (← p, e, ← q, f)
 
 pub ruleset same_conditions = (same_no_if, same_no_while, same_is)
 

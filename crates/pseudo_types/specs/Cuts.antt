@@ -6,13 +6,11 @@
 --   same_text c d          both are conditions, with the same text
 --   same_condition l m     line l has a condition behind if, line m one behind while, and both have the same text
 -- Assumes nothing.
-use Rattle.std.specs.Prelude.{if◌then◌else◌, ℕ, ◌+◌, ◌-◌, ◌≤◌, ◌<◌, Bool, false, List, map, eqb, length, drop}
-use Rattle.std.proofs.Math.Option.{Option, none, some}
+use Rattle.std.specs.Prelude.{if◌then◌else◌, ℕ, ◌+◌, ◌-◌, ◌≤◌, ◌<◌, Bool, false, List, map, eqb, length, drop, Option, None, Some}
 use Rattle.definitions.specs.Lists.{part, range, ◌≟◌, ascii}
 use Rattle.definitions.specs.Model.{Token, Line, tok, token, text}
 use Rattle.definitions.specs.Condition.{condition}
-use Rattle.condition.specs.declared.Conditional.{Conditional}
-use Rattle.condition.specs.declared.Conditional.TheVariants.{Cut, Nothing}
+use Rattle.condition.specs.declared.Cut.{Cut}
 
 abbrev pub text_from : Line → ℕ → List ℕ
 text_from l j = text (drop j l.tokens)
@@ -34,14 +32,14 @@ pub record Bounds (l : Line) (k n : ℕ) : Type 0 where
   pub front : 2 ≤ length (token l (k + 1)).text
   pub end : n ≤ length (token l (length l.tokens - 1)).text
 
-abbrev pub Within : Line → Conditional → Type 0
-Within l (Cut k n) = Bounds l k n
-Within l Nothing = Unit {0}
+abbrev pub Within : Line → Option Cut → Type 0
+Within l (Some c) = Bounds l c.keyword c.end
+Within l None = Unit {0}
 
 abbrev pub same_text : Option (List Token) → Option (List Token) → Bool
-same_text none d = false
-same_text (some c) none = false
-same_text (some c) (some d) = text c ≟ text d
+same_text None d = false
+same_text (Some c) None = false
+same_text (Some c) (Some d) = text c ≟ text d
 
 abbrev pub same_condition : Line → Line → Bool
 same_condition l m = same_text (condition l (ascii "if")) (condition m (ascii "while"))

@@ -5,25 +5,17 @@
 ghost use Rattle.std.specs.Prelude.{◌≡◌, true, [], ◌+◌, ◌-◌, ◌≤◌, ◌<◌, length};
 ghost use Rattle.definitions.specs.Lists.{any, part, or_else, starts_with, ascii};
 ghost use Rattle.definitions.specs.Model.{token, line};
-ghost use Rattle.definitions.specs.Columns.{listing};
 ghost use Rattle.definitions.specs.Questions.{question_2};
 ghost use Rattle.definitions.specs.Condition.{closing, condition};
+ghost use Rattle.model.specs.Listings.{listing_of};
 ghost use Rattle.family.specs.Register.{family_of, names_family};
 ghost use Rattle.condition.specs.Conditions.{cut_by, conditional};
 ghost use Rattle.pseudo_types.specs.Cuts.{text_from, front, back, cut_token, cut_run, Within, same_condition};
 
 use crate::texts::text_from;
-use condition::Conditional;
+use condition::Cut;
 use family::Register;
-use model::columns::{kind, text_at, token_count};
-use pseudo_opt::Found;
-
-// n - 1, 0 where there is none.
-fn before(n: usize) -> usize
-    ensures { result ≡ n - 1 }
-{
-    if 0 < n { n - 1 } else { 0 }
-}
+use model::listing::Listing;
 
 // How many bytes the text loses at its end, 0 where it does not close a condition.
 fn closing(s: &[u8]) -> usize
@@ -39,80 +31,71 @@ fn closing(s: &[u8]) -> usize
 }
 
 // The same of the last token of line i, where it has n tokens.
-fn closes(lines: &[u32], tokens: &[u32], text: &[u8], i: usize, n: usize) -> usize
-    ensures { let s = (token (line (listing lines.now tokens.now text.now) i) (n - 1)).text in
+fn closes(code: &Listing, i: usize, n: usize) -> usize
+    ensures { let s = (token (line (listing_of code.now) i) (n - 1)).text in
         (cut_by result ≡ closing s) × (result ≤ length s) }
 {
-    closing(text_at(lines, tokens, text, i, before(n)))
+    closing(code.text_at(i, n.saturating_sub(1)))
 }
 
-fn opens(lines: &[u32], tokens: &[u32], text: &[u8], i: usize, k: usize) -> bool
-    ensures { let l = line (listing lines.now tokens.now text.now) i in
+fn opens(code: &Listing, i: usize, k: usize) -> bool
+    ensures { let l = line (listing_of code.now) i in
         result ≡ starts_with (ascii " (") (token l k).text }
 {
-    text::starts_with(text_at(lines, tokens, text, i, k), b" (")
+    text::starts_with(code.text_at(i, k), b" (")
 }
 
 // The condition after the first keyword kw of line i.
-pub fn condition(lines: &[u32], tokens: &[u32], text: &[u8], i: usize, kw: &[u8]) -> Conditional
-    ensures result_value { let l = line (listing lines.now tokens.now text.now) i in
+pub fn condition(code: &Listing, i: usize, kw: &[u8]) -> Option<Cut>
+    ensures result_value { let l = line (listing_of code.now) i in
         conditional l result ≡ condition l kw.now }
-    ensures within { Within (line (listing lines.now tokens.now text.now) i) result }
+    ensures within { Within (line (listing_of code.now) i) result }
 {
-    let Found::At(k) = pseudo_opt::keywords::keyword_at(lines, tokens, text, i, kw) else {
-        return Conditional::Nothing;
-    };
-    let n = token_count(lines, tokens, text, i);
-    if before(n) <= k {
-        return Conditional::Nothing;
+    let k = pseudo_opt::keywords::keyword_at(code, i, kw)?;
+    let n = code.token_count(i);
+    if n.saturating_sub(1) <= k {
+        return None;
     }
-    if opens(lines, tokens, text, i, k + 1) {
-        let end = closes(lines, tokens, text, i, n);
+    if opens(code, i, k + 1) {
+        let end = closes(code, i, n);
         if end != 0 {
-            return Conditional::Cut { keyword: k, end };
+            return Some(Cut { keyword: k, end });
         }
     }
-    Conditional::Nothing
+    None
 }
 
 // The text of the condition behind place k of line i, of which `end` bytes are cut off at the end.
-fn condition_text<'a>(
-    lines: &[u32],
-    tokens: &[u32],
-    text: &'a [u8],
-    i: usize,
-    k: usize,
-    end: usize,
-) -> &'a [u8]
-    requires { question_2 lines.now tokens.now text.now ≡ true }
-    ensures { let s = text_from (line (listing lines.now tokens.now text.now) i) (k + 1) in
+fn condition_text<'a>(code: &Listing<'a>, i: usize, k: usize, end: usize) -> &'a [u8]
+    requires { question_2 code.now.lines.now code.now.tokens.now code.now.text.now ≡ true }
+    ensures { let s = text_from (line (listing_of code.now) i) (k + 1) in
         result.now ≡ part 2 (length s - end) s }
 {
-    if token_count(lines, tokens, text, i) <= k {
-        return &text[..0];
+    if code.token_count(i) <= k {
+        return &code.text[..0];
     }
-    let s = text_from(lines, tokens, text, i, k + 1);
+    let s = text_from(code, i, k + 1);
     if end <= s.len() {
         text::part(s, 2, s.len() - end)
     } else {
-        &text[..0]
+        &code.text[..0]
     }
 }
 
 // Line i has a condition behind if, line w the same text as one behind while.
-pub fn same_condition(lines: &[u32], tokens: &[u32], text: &[u8], i: usize, w: usize) -> bool
-    requires { question_2 lines.now tokens.now text.now ≡ true }
-    ensures { let L = listing lines.now tokens.now text.now in result ≡ same_condition (line L i) (line L w) }
+pub fn same_condition(code: &Listing, i: usize, w: usize) -> bool
+    requires { question_2 code.now.lines.now code.now.tokens.now code.now.text.now ≡ true }
+    ensures { let L = listing_of code.now in result ≡ same_condition (line L i) (line L w) }
 {
-    let Conditional::Cut { keyword: j, end: m } = condition(lines, tokens, text, i, b"if") else {
+    let Some(a) = condition(code, i, b"if") else {
         return false;
     };
-    let Conditional::Cut { keyword: k, end: n } = condition(lines, tokens, text, w, b"while") else {
+    let Some(b) = condition(code, w, b"while") else {
         return false;
     };
     text::equal(
-        condition_text(lines, tokens, text, i, j, m),
-        condition_text(lines, tokens, text, w, k, n),
+        condition_text(code, i, a.keyword, a.end),
+        condition_text(code, w, b.keyword, b.end),
     )
 }
 
@@ -144,27 +127,17 @@ fn left(m: usize, end: usize, j: usize, n: usize) -> usize
 }
 
 // The text of token j of line i as a token of the condition behind place k, of which `end` bytes are cut off at the end.
-pub fn cut_text<'a>(
-    lines: &[u32],
-    tokens: &[u32],
-    text: &'a [u8],
-    i: usize,
-    k: usize,
-    end: usize,
-    j: usize,
-) -> &'a [u8]
-    ensures { result.now ≡ (cut_token (line (listing lines.now tokens.now text.now) i) k end j).text }
+pub fn cut_text<'a>(code: &Listing<'a>, i: usize, k: usize, end: usize, j: usize) -> &'a [u8]
+    ensures { result.now ≡ (cut_token (line (listing_of code.now) i) k end j).text }
 {
-    let m = token_count(lines, tokens, text, i);
-    let s = text_at(lines, tokens, text, i, j);
+    let m = code.token_count(i);
+    let s = code.text_at(i, j);
     text::part(s, front(k, j), left(m, end, j, s.len()))
 }
 
 // Token j of it names the family that the answer r of the text s is.
 fn cut_names(
-    lines: &[u32],
-    tokens: &[u32],
-    text: &[u8],
+    code: &Listing,
     i: usize,
     k: usize,
     end: usize,
@@ -172,22 +145,15 @@ fn cut_names(
     s: &[u8],
     r: Register,
 ) -> bool
-    ensures { let l = line (listing lines.now tokens.now text.now) i in
+    ensures { let l = line (listing_of code.now) i in
         result ≡ names_family (family_of s.now r) (cut_token l k end j) }
 {
-    family::names(
-        kind(lines, tokens, text, i, j),
-        cut_text(lines, tokens, text, i, k, end, j),
-        s,
-        r,
-    )
+    family::names(code.kind(i, j), cut_text(code, i, k, end, j), s, r)
 }
 
 // A token of it from place `from` on does.
 fn names_from(
-    lines: &[u32],
-    tokens: &[u32],
-    text: &[u8],
+    code: &Listing,
     i: usize,
     k: usize,
     end: usize,
@@ -195,37 +161,26 @@ fn names_from(
     s: &[u8],
     r: Register,
 ) -> bool
-    ensures { let l = line (listing lines.now tokens.now text.now) i in
+    ensures { let l = line (listing_of code.now) i in
         result ≡ any (names_family (family_of s.now r)) (cut_run l k end from) }
 {
-    let m = token_count(lines, tokens, text, i);
-    let mut j = from;
-    while j < m {
-        if cut_names(lines, tokens, text, i, k, end, j, s, r) {
+    let m = code.token_count(i);
+    for j in from..m {
+        if cut_names(code, i, k, end, j, s, r) {
             return true;
         }
-        j += 1;
     }
     false
 }
 
 // The condition after the keyword if of line i names the family that the answer r of the text s is.
-pub fn condition_names(
-    lines: &[u32],
-    tokens: &[u32],
-    text: &[u8],
-    i: usize,
-    s: &[u8],
-    r: Register,
-) -> bool
-    ensures { let l = line (listing lines.now tokens.now text.now) i in
+pub fn condition_names(code: &Listing, i: usize, s: &[u8], r: Register) -> bool
+    ensures { let l = line (listing_of code.now) i in
         result ≡ any (names_family (family_of s.now r)) (or_else (condition l (ascii "if")) []) }
 {
-    let Conditional::Cut { keyword: k, end } = condition(lines, tokens, text, i, b"if") else {
+    let Some(cut) = condition(code, i, b"if") else {
         return false;
     };
-    if token_count(lines, tokens, text, i) <= k {
-        return false;
-    }
-    names_from(lines, tokens, text, i, k, end, k + 1, s, r)
+    cut.keyword < code.token_count(i)
+        && names_from(code, i, cut.keyword, cut.end, cut.keyword + 1, s, r)
 }

@@ -3,13 +3,15 @@
 // Contracts cite `text` of Rattle.definitions.specs.Model, `is_guard`, `lone_brace` and `is_step`.
 ghost use Rattle.std.specs.Prelude.{◌≡◌, true};
 ghost use Rattle.definitions.specs.Model.{line};
-ghost use Rattle.definitions.specs.Columns.{listing};
 ghost use Rattle.definitions.specs.Questions.{question_2};
 ghost use Rattle.definitions.specs.ToFor.{is_step};
 ghost use Rattle.definitions.specs.Passes.{lone_brace};
 ghost use Rattle.definitions.specs.RecoverLoops.{is_guard};
 ghost use Rattle.model.specs.Places.{token_start};
+ghost use Rattle.model.specs.Listings.{listing_of};
 ghost use Rattle.pseudo_types.specs.Cuts.{text_from};
+
+use model::listing::Listing;
 
 // The first byte of token k of all.
 pub fn token_start(tokens: &[u32], k: usize) -> usize
@@ -23,41 +25,45 @@ pub fn token_start(tokens: &[u32], k: usize) -> usize
 }
 
 // The texts of the tokens of line i from place j on, one after the other, as a part of the lent text.
-pub fn text_from<'a>(lines: &[u32], tokens: &[u32], text: &'a [u8], i: usize, j: usize) -> &'a [u8]
-    requires { question_2 lines.now tokens.now text.now ≡ true }
-    ensures { result.now ≡ text_from (line (listing lines.now tokens.now text.now) i) j }
+pub fn text_from<'a>(code: &Listing<'a>, i: usize, j: usize) -> &'a [u8]
+    requires { question_2 code.now.lines.now code.now.tokens.now code.now.text.now ≡ true }
+    ensures { result.now ≡ text_from (line (listing_of code.now) i) j }
 {
-    let s = model::columns::line_start(lines, i);
-    let e = model::columns::line_end(lines, tokens, i);
+    let s = code.line_start(i);
+    let e = code.line_end(i);
     if s < e {
         if j < e - s {
-            text::part(text, token_start(tokens, s + j), token_start(tokens, e))
+            text::part(
+                code.text,
+                token_start(code.tokens, s + j),
+                token_start(code.tokens, e),
+            )
         } else {
-            &text[..0]
+            &code.text[..0]
         }
     } else {
-        &text[..0]
+        &code.text[..0]
     }
 }
 
 // Guard: first token keyword if, text ends `) {`.
-pub fn is_guard(lines: &[u32], tokens: &[u32], text: &[u8], i: usize) -> bool
-    requires { question_2 lines.now tokens.now text.now ≡ true }
-    ensures { result ≡ is_guard (line (listing lines.now tokens.now text.now) i) }
+pub fn is_guard(code: &Listing, i: usize) -> bool
+    requires { question_2 code.now.lines.now code.now.tokens.now code.now.text.now ≡ true }
+    ensures { result ≡ is_guard (line (listing_of code.now) i) }
 {
-    if pseudo_opt::keywords::is_kw(lines, tokens, text, i, 0, b"if") {
-        text::ends_with(text_from(lines, tokens, text, i, 0), b") {")
+    if pseudo_opt::keywords::is_kw(code, i, 0, b"if") {
+        text::ends_with(text_from(code, i, 0), b") {")
     } else {
         false
     }
 }
 
 // Line i reads `}`.
-pub fn is_brace(lines: &[u32], tokens: &[u32], text: &[u8], i: usize) -> bool
-    requires { question_2 lines.now tokens.now text.now ≡ true }
-    ensures { result ≡ lone_brace (line (listing lines.now tokens.now text.now) i) }
+pub fn is_brace(code: &Listing, i: usize) -> bool
+    requires { question_2 code.now.lines.now code.now.tokens.now code.now.text.now ≡ true }
+    ensures { result ≡ lone_brace (line (listing_of code.now) i) }
 {
-    text::equal(text_from(lines, tokens, text, i, 0), b"}")
+    text::equal(text_from(code, i, 0), b"}")
 }
 
 // The text steps a register.
@@ -70,16 +76,13 @@ fn steps(s: &[u8]) -> bool
     if text::equal(s, b"--;") {
         return true;
     }
-    if text::starts_with(s, b" += ") {
-        return true;
-    }
-    text::starts_with(s, b" -= ")
+    text::starts_with(s, b" += ") || text::starts_with(s, b" -= ")
 }
 
 // Line i steps its first token.
-pub fn is_step(lines: &[u32], tokens: &[u32], text: &[u8], i: usize) -> bool
-    requires { question_2 lines.now tokens.now text.now ≡ true }
-    ensures { result ≡ is_step (text_from (line (listing lines.now tokens.now text.now) i) 1) }
+pub fn is_step(code: &Listing, i: usize) -> bool
+    requires { question_2 code.now.lines.now code.now.tokens.now code.now.text.now ≡ true }
+    ensures { result ≡ is_step (text_from (line (listing_of code.now) i) 1) }
 {
-    steps(text_from(lines, tokens, text, i, 1))
+    steps(text_from(code, i, 1))
 }

@@ -5,13 +5,11 @@
 --   rises_of                                       the ends in two words
 --   kind_of                                        the kind in a word
 --   utf8_of, tokens_length                         question 3 of a token
---   refusal_here, refusal_next, refusal_none       the first question that is answered no
 --   asked                                          the rules
 -- Assumes nothing.
 use mathlib.Core.Path.{◌≡◌, refl, sym, ◌∙◌}
 use mathlib.Core.Bool.{Bool, true, false, ◌&&◌, and_assoc, and-true}
 use mathlib.Core.List.{List, [], ◌∷◌}
-use mathlib.Core.Option.{Option, none, some}
 use Prim.Native.Nat.{ℕ, ◌+◌, ◌-◌, ◌/◌, ◌%◌, ◌≤◌, ◌<◌}
 use native.Mathlib.Omega.{arith}
 use borrow.Author.Tests.{le-leb}
@@ -21,7 +19,7 @@ use Rattle.definitions.specs.Lists.{all}
 use Rattle.definitions.specs.Model.{Token}
 use Rattle.definitions.specs.Columns.{token_list}
 use Rattle.definitions.specs.Utf8.{is_utf8}
-use Rattle.definitions.specs.Questions.{covers, refusal}
+use Rattle.definitions.specs.Questions.{covers}
 use Rattle.text.proofs.Parts.{drop_step, drop_end}
 use Rattle.model.proofs.Decode.{length_tokens}
 
@@ -91,19 +89,4 @@ utf8_of b s k e q = e ∙ rw q
 pub tokens_length : (t x : List ℕ) → length t ≡ length (token_list t x)
 tokens_length t x = sym (length_tokens t x)
 
--- The refusal
-
-module _ (n : ℕ) (x : Bool) (qs : List (ℕ × Bool)) (b : Bool) (e : b ≡ x) where
-  pub refusal_here : b ≡ false → some n ≡ refusal ((n, x) ∷ qs)
-  unfolding refusal
-  refusal_here f = rw (← e, f)
-
-  pub refusal_next : b ≡ true → (r : Option ℕ) → r ≡ refusal qs → r ≡ refusal ((n, x) ∷ qs)
-  unfolding refusal
-  refusal_next f r g = rw (← e, f) g
-
-pub refusal_none : none ≡ refusal []
-unfolding refusal
-refusal_none = refl
-
-pub ruleset asked = (rising_start, rising_next, rising_end, covers_empty, covers_last, covers_falls, kinds_next, kinds_end, rises_of, kind_of, utf8_of, tokens_length, refusal_here, refusal_next, refusal_none)
+pub ruleset asked = (rising_start, rising_next, rising_end, covers_empty, covers_last, covers_falls, kinds_next, kinds_end, rises_of, kind_of, utf8_of, tokens_length)

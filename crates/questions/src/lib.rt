@@ -3,18 +3,18 @@
 //
 // Contracts cite `question_1`, `question_2`, `question_3` and `refusal` of Rattle.definitions.specs.Questions.
 
-#![tactic(auto)]
+#![tactic(auto, using(model::proofs::Ands::ands))]
 
 ghost use Rattle.std.specs.Prelude.{◌≡◌, ◌&&◌, ℕ, ◌-◌, ◌/◌, ◌%◌, ◌<◌, ◌≤◌, eqb, leb, get_or, length};
 ghost use Rattle.definitions.specs.Lists.{all};
 ghost use Rattle.definitions.specs.Model.{no_token};
-ghost use Rattle.definitions.specs.Columns.{token_list};
 ghost use Rattle.definitions.specs.Utf8.{is_utf8};
 ghost use Rattle.definitions.specs.Questions.{covers, question_1, question_2, question_3};
-ghost use Rattle.questions.specs.Refusals.{at_most, first_questions, refused};
+ghost use Rattle.model.specs.Listings.{tokens_of};
+ghost use Rattle.questions.specs.Refusals.{at_most, first_questions, number, refused};
 ghost use Rattle.questions.specs.Bounds.{Bounded};
 
-use model::columns::token_text;
+use model::listing::Listing;
 
 // How many lines, tokens and text bytes a listing may have.
 #[derive(Drop)]
@@ -24,19 +24,50 @@ pub struct Limits {
     pub text: usize,
 }
 
-// 1: are there at most so many lines, tokens and text bytes?
-pub fn question_1(lines: &[u32], tokens: &[u32], text: &[u8], most: Limits) -> bool
-    ensures { result ≡ question_1 (at_most most) lines.now tokens.now text.now }
-{
-    if lines.len() <= most.lines {
-        if tokens.len() <= most.tokens {
-            text.len() <= most.text
-        } else {
-            false
+// Why a call is refused: the question that is answered no.
+#[derive(Clone, Copy, Debug, PartialEq, Eq)]
+pub enum Refusal {
+    TooLarge,
+    Malformed,
+    NotUtf8,
+    NoRoom,
+    NoSpace,
+    Overflow,
+    TooShort,
+    UnmatchedBrace,
+    UnknownLabel,
+    NotJson,
+    OverBudget,
+}
+
+impl Refusal {
+    // The number of the question, for C and for what is printed; 13 for want of budget.
+    pub fn number(self) -> usize
+        ensures { result ≡ number self }
+    {
+        match self {
+            Refusal::TooLarge => 1,
+            Refusal::Malformed => 2,
+            Refusal::NotUtf8 => 3,
+            Refusal::NoRoom => 4,
+            Refusal::NoSpace => 5,
+            Refusal::Overflow => 6,
+            Refusal::TooShort => 7,
+            Refusal::UnmatchedBrace => 8,
+            Refusal::UnknownLabel => 9,
+            Refusal::NotJson => 10,
+            Refusal::OverBudget => 13,
         }
-    } else {
-        false
     }
+}
+
+// 1: are there at most so many lines, tokens and text bytes?
+pub fn question_1(code: &Listing, most: Limits) -> bool
+    ensures { result ≡ question_1 (at_most most) code.now.lines.now code.now.tokens.now code.now.text.now }
+{
+    code.lines.len() <= most.lines
+        && code.tokens.len() <= most.tokens
+        && code.text.len() <= most.text
 }
 
 // No step of the loops of question 2 stops, so that the compiler asks several words at once.
@@ -60,10 +91,8 @@ fn never_falls(ws: &[u32], by: usize) -> bool
     ensures { (n : ℕ) → covers by 0 ws.now n ≡ (result && eqb (get_or ws.now (length ws.now - 1) 0 / by) n) }
 {
     let mut ok = true;
-    let mut i = 1;
-    while i < ws.len() {
+    for i in 1..ws.len() {
         ok = both(ok, rises(ws, by, i));
-        i += 1;
     }
     ok
 }
@@ -73,13 +102,11 @@ fn covers(ws: &[u32], by: usize, n: usize) -> bool
     requires { 0 < by }
     ensures { result ≡ covers by 0 ws.now n }
 {
-    if ws.len() == 0 {
-        return 0 == n;
+    if ws.is_empty() {
+        0 == n
+    } else {
+        never_falls(ws, by) && text::word(ws, ws.len() - 1) / by == n
     }
-    if never_falls(ws, by) {
-        return text::word(ws, ws.len() - 1) / by == n;
-    }
-    false
 }
 
 fn is_kind(tokens: &[u32], k: usize) -> bool
@@ -92,45 +119,34 @@ fn are_kinds(tokens: &[u32]) -> bool
     ensures { result ≡ all (λ w. leb (w % 256) 7) tokens.now }
 {
     let mut ok = true;
-    let mut k = 0;
-    while k < tokens.len() {
+    for k in 0..tokens.len() {
         ok = both(ok, is_kind(tokens, k));
-        k += 1;
     }
     ok
 }
 
 // 2: do the lines cover the tokens, and the tokens the text, in order without gap, kinds at most 7?
-pub fn question_2(lines: &[u32], tokens: &[u32], text: &[u8]) -> bool
-    ensures { result ≡ question_2 lines.now tokens.now text.now }
+pub fn question_2(code: &Listing) -> bool
+    ensures { result ≡ question_2 code.now.lines.now code.now.tokens.now code.now.text.now }
 {
-    if covers(lines, 512, tokens.len()) {
-        if covers(tokens, 256, text.len()) {
-            are_kinds(tokens)
-        } else {
-            false
-        }
-    } else {
-        false
-    }
+    covers(code.lines, 512, code.tokens.len())
+        && covers(code.tokens, 256, code.text.len())
+        && are_kinds(code.tokens)
 }
 
-fn is_text(tokens: &[u32], text: &[u8], k: usize) -> bool
-    ensures { result ≡ is_utf8 (get_or (token_list tokens.now text.now) k no_token).text }
+fn is_text(code: &Listing, k: usize) -> bool
+    ensures { result ≡ is_utf8 (get_or (tokens_of code.now) k no_token).text }
 {
-    text::is_utf8(token_text(tokens, text, k))
+    text::is_utf8(code.token_text(k))
 }
 
 // Each token's text is UTF-8, asked token by token.
-fn are_texts(tokens: &[u32], text: &[u8]) -> bool
-    ensures { result ≡ question_3 tokens.now text.now }
+fn are_texts(code: &Listing) -> bool
+    ensures { result ≡ question_3 code.now.tokens.now code.now.text.now }
 {
-    let n = tokens.len();
-    let mut k = 0;
-    while k < n {
-        if is_text(tokens, text, k) {
-            k += 1;
-        } else {
+    let n = code.tokens.len();
+    for k in 0..n {
+        if !is_text(code, k) {
             return false;
         }
     }
@@ -148,35 +164,32 @@ fn bound(s: &[u8]) -> u8
     ensures { Bounded result (length s.now) s.now }
 {
     let mut most = 0;
-    let mut k = 0;
-    while k < s.len() {
+    for k in 0..s.len() {
         most = larger(most, s[k]);
-        k += 1;
     }
     most
 }
 
 // 3: is each token's text UTF-8? Of a text that is all ASCII it is; one pass over its bytes tells, which the compiler does by vectors.
-pub fn question_3(tokens: &[u32], text: &[u8]) -> bool
-    ensures { result ≡ question_3 tokens.now text.now }
+pub fn question_3(code: &Listing) -> bool
+    ensures { result ≡ question_3 code.now.tokens.now code.now.text.now }
 {
-    if bound(text) < 0x80 {
-        return true;
-    }
-    are_texts(tokens, text)
+    bound(code.text) < 0x80 || are_texts(code)
 }
 
-// The number of the first of the three questions that is answered no, 0 where each is answered yes.
-pub fn refusal(lines: &[u32], tokens: &[u32], text: &[u8], most: Limits) -> usize
-    ensures { refused result ≡ first_questions (at_most most) lines.now tokens.now text.now }
+// Asks the three questions in order: refused by the first that is answered no.
+#[tactic(auto, unfolding(definitions::specs::Questions::refusal))]
+pub fn ask(code: &Listing, most: Limits) -> Result<(), Refusal>
+    ensures { refused result ≡ first_questions (at_most most) code.now.lines.now code.now.tokens.now code.now.text.now }
 {
-    if question_1(lines, tokens, text, most) {
-        if question_2(lines, tokens, text) {
-            if question_3(tokens, text) { 0 } else { 3 }
-        } else {
-            2
-        }
-    } else {
-        1
+    if !question_1(code, most) {
+        return Err(Refusal::TooLarge);
     }
+    if !question_2(code) {
+        return Err(Refusal::Malformed);
+    }
+    if !question_3(code) {
+        return Err(Refusal::NotUtf8);
+    }
+    Ok(())
 }

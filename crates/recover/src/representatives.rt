@@ -2,30 +2,21 @@
 // each set already found: one link takes time linear in the family's definitions.
 //
 // Contracts cite `link` of Rattle.definitions.specs.Recover.
-ghost use Rattle.std.specs.Prelude.{◌≡◌, map, cond, min, ◌≤◌, ◌<◌, eqb, length, get_or, set};
+ghost use Rattle.std.specs.Prelude.{◌≡◌, map, cond, ◌≤◌, ◌<◌, eqb, length, get_or, set};
 ghost use Rattle.definitions.specs.Lists.{all, up_to};
 ghost use Rattle.definitions.specs.Recover.{link};
 ghost use Rattle.recover.specs.Numbers.{Least, Within, alike, marked, merged, earlier};
 
-use words::{narrow, number, wide, word};
+use words::{narrow, number, word};
 
 // Each definition is its own representative.
 pub fn alone(rep: &mut [u16])
     requires { length rep.old ≤ 65536 }
     ensures { rep.new ≡ up_to (length rep.old) }
 {
-    let mut d = 0;
-    while d < rep.len() {
-        let v = narrow(d);
-        rep[d] = v;
-        d += 1;
+    for d in 0..rep.len() {
+        rep[d] = narrow(d);
     }
-}
-
-fn lesser(a: u16, b: u16) -> u16
-    ensures { result ≡ min a b }
-{
-    if a < b { a } else { b }
 }
 
 // The representative of the definition at place k of ds.
@@ -41,10 +32,8 @@ fn least(rep: &[u16], ds: &[u16]) -> u16
     ensures { Least rep.now ds.now result }
 {
     let mut m = rep_of(rep, ds, 0);
-    let mut k = 1;
-    while k < ds.len() {
-        m = lesser(m, rep_of(rep, ds, k));
-        k += 1;
+    for k in 1..ds.len() {
+        m = m.min(rep_of(rep, ds, k));
     }
     m
 }
@@ -52,7 +41,7 @@ fn least(rep: &[u16], ds: &[u16]) -> u16
 fn mark(marks: &mut [u8], r: u16)
     ensures { marks.new ≡ set marks.old r 1 }
 {
-    let k = wide(r);
+    let k = usize::from(r);
     if k < marks.len() {
         marks[k] = 1;
     }
@@ -62,34 +51,28 @@ fn mark(marks: &mut [u8], r: u16)
 fn mark_all(rep: &[u16], ds: &[u16], marks: &mut [u8])
     ensures { marks.new ≡ marked rep.now marks.old ds.now }
 {
-    let mut k = 0;
-    while k < ds.len() {
+    for k in 0..ds.len() {
         mark(marks, rep_of(rep, ds, k));
-        k += 1;
     }
 }
 
 fn merged(marks: &[u8], m: u16, r: u16) -> u16
     ensures { result ≡ merged m marks.now r }
 {
-    let k = wide(r);
-    if k < marks.len() {
-        if marks[k] == 1 {
-            return m;
-        }
+    let k = usize::from(r);
+    if k < marks.len() && marks[k] == 1 {
+        m
+    } else {
+        r
     }
-    r
 }
 
 // Every representative that is marked becomes m.
 fn merge(rep: &mut [u16], marks: &[u8], m: u16)
     ensures { rep.new ≡ map (merged m marks.now) rep.old }
 {
-    let mut d = 0;
-    while d < rep.len() {
-        let v = merged(marks, m, rep[d]);
-        rep[d] = v;
-        d += 1;
+    for r in rep.iter_mut() {
+        *r = merged(marks, m, *r);
     }
 }
 
@@ -104,11 +87,8 @@ fn is_same(rep: &[u16], ds: &[u16], k: usize) -> bool
 fn are_same(rep: &[u16], ds: &[u16]) -> bool
     ensures { result ≡ all (alike rep.now ds.now) ds.now }
 {
-    let mut k = 0;
-    while k < ds.len() {
-        if is_same(rep, ds, k) {
-            k += 1;
-        } else {
+    for k in 0..ds.len() {
+        if !is_same(rep, ds, k) {
             return false;
         }
     }
@@ -126,7 +106,7 @@ pub fn link(rep: &mut [u16], ds: &[u16], marks: &mut [u8])
     if are_same(rep, ds) {
         return;
     }
-    text::zero_bytes(marks, 0);
+    text::zero(marks, 0);
     mark_all(rep, ds, marks);
     let m = least(rep, ds);
     merge(rep, marks, m);
@@ -138,12 +118,9 @@ pub fn ranks(rep: &[u16], rank: &mut [u16])
     ensures { rank.new ≡ map (earlier rep.now) (up_to (length rep.now)) }
 {
     let mut count = 0;
-    let mut d = 0;
-    while d < rank.len() {
-        let c = narrow(count);
-        rank[d] = c;
+    for d in 0..rank.len() {
+        rank[d] = narrow(count);
         count += starts(rep, d);
-        d += 1;
     }
 }
 

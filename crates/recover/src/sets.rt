@@ -8,7 +8,7 @@ ghost use Rattle.visit.specs.Layout.{Room};
 ghost use Rattle.recover.specs.Reaching.{bits_from, Put, Reached, FirstReached, Swept, Slices, Links};
 
 use crate::representatives::link;
-use words::{narrow, number};
+use words::narrow;
 
 // b at place m, where `yes`; answers the place behind.
 pub fn put(set: &mut [u16], m: usize, b: usize, yes: bool) -> usize
@@ -102,9 +102,7 @@ pub fn link_reads(
     requires { Swept n r w nums.now space.old × ((j : ℕ) → j < length reads.now → get_or reads.now j 0 < n) × Slices n nums.now rep.old set.old marks.old }
     ensures { Links n r w nums.now space.old space.new rep.old rep.new reads.now }
 {
-    let mut j = 0;
-    while j < reads.len() {
-        link_line(space, nums, n, r, w, number(reads, j), rep, set, marks);
-        j += 1;
+    for i in reads {
+        link_line(space, nums, n, r, w, usize::from(*i), rep, set, marks);
     }
 }

@@ -5,137 +5,122 @@
 
 #![tactic(auto)]
 
-ghost use Rattle.std.specs.Prelude.{◌≡◌, ◌≤◌, length};
-ghost use Rattle.std.proofs.Math.Option.{none};
+ghost use Rattle.std.specs.Prelude.{◌≡◌, ◌≤◌, length, None};
 ghost use Rattle.definitions.specs.Answers.{loops};
-ghost use Rattle.definitions.specs.Columns.{listing};
 ghost use Rattle.definitions.specs.Calls.{pass_refusal, pass_call};
+ghost use Rattle.model.specs.Listings.{listing_of};
 ghost use Rattle.line_keywords.specs.Masks.{Masks};
 ghost use Rattle.write.specs.Holds.{columns};
 ghost use Rattle.pass_call.specs.Answers.{passed_with};
 
 use loops::turns::Planned;
-use pass_call::Answer;
+use model::listing::Listing;
+use questions::{Limits, Refusal};
 
 // Questions 1 to 4 are answered yes. The plan and the masks are lent.
 fn passed_in(
-    lines: &[u32],
+    code: &Listing,
     addresses: &[u64],
-    tokens: &[u32],
-    text: &[u8],
     masks: &[u8],
     plan: &mut [usize],
     rows: &mut [u32],
     places: &mut [u64],
     words: &mut [u32],
     bytes: &mut [u8],
-) -> Answer
-    requires lines_in_bounds { length lines.now ≤ length plan.old }
-    requires bytes_value { pass_refusal (columns lines.now addresses.now tokens.now text.now) (columns rows.old places.old words.old bytes.old) ≡ none }
-    requires masks { Masks (listing lines.now tokens.now text.now) masks.now }
-    ensures { let c = columns lines.now addresses.now tokens.now text.now in
+) -> Result<Limits, Refusal>
+    requires lines_in_bounds { length code.now.lines.now ≤ length plan.old }
+    requires bytes_value { pass_refusal (columns code.now.lines.now addresses.now code.now.tokens.now code.now.text.now) (columns rows.old places.old words.old bytes.old) ≡ None }
+    requires masks { Masks (listing_of code.now) masks.now }
+    ensures { let c = columns code.now.lines.now addresses.now code.now.tokens.now code.now.text.now in
         passed_with result (columns rows.new places.new words.new bytes.new)
         ≡ pass_call loops c (columns rows.old places.old words.old bytes.old) }
 {
-    let Planned::Lines(n) = loops::turns::plan_loops(lines, tokens, text, masks, plan) else {
+    let Planned::Lines(n) = loops::turns::plan_loops(code, masks, plan) else {
         pass_call::zero_all(rows, places, words, bytes);
-        return Answer::Overflow;
+        return Err(Refusal::Overflow);
     };
-    pass_call::written(
-        lines, addresses, tokens, text, plan, n, rows, places, words, bytes,
-    )
+    Ok(pass_call::written(code, addresses, plan, n, rows, places, words, bytes))
 }
 
 // Questions 1 to 4 are answered yes.
 fn passed_long(
-    lines: &[u32],
+    code: &Listing,
     addresses: &[u64],
-    tokens: &[u32],
-    text: &[u8],
     rows: &mut [u32],
     places: &mut [u64],
     words: &mut [u32],
     bytes: &mut [u8],
-) -> Answer
-    requires { pass_refusal (columns lines.now addresses.now tokens.now text.now) (columns rows.old places.old words.old bytes.old) ≡ none }
-    ensures { let c = columns lines.now addresses.now tokens.now text.now in
+) -> Result<Limits, Refusal>
+    requires { pass_refusal (columns code.now.lines.now addresses.now code.now.tokens.now code.now.text.now) (columns rows.old places.old words.old bytes.old) ≡ None }
+    ensures { let c = columns code.now.lines.now addresses.now code.now.tokens.now code.now.text.now in
         passed_with result (columns rows.new places.new words.new bytes.new)
         ≡ pass_call loops c (columns rows.old places.old words.old bytes.old) }
 {
     let mut masks = [0u8; 1024];
     let mut plan = [0usize; 1024];
-    line_keywords::masks(lines, tokens, text, &mut masks);
+    line_keywords::masks(code, &mut masks);
     passed_in(
-        lines, addresses, tokens, text, &masks, &mut plan, rows, places, words, bytes,
+        code, addresses, &masks, &mut plan, rows, places, words, bytes,
     )
 }
 
 // The same of a listing of at most 64 lines: shorter arrays to zero.
 fn passed_short(
-    lines: &[u32],
+    code: &Listing,
     addresses: &[u64],
-    tokens: &[u32],
-    text: &[u8],
     rows: &mut [u32],
     places: &mut [u64],
     words: &mut [u32],
     bytes: &mut [u8],
-) -> Answer
-    requires lines_len_bound { length lines.now ≤ 64 }
-    requires bytes_value { pass_refusal (columns lines.now addresses.now tokens.now text.now) (columns rows.old places.old words.old bytes.old) ≡ none }
-    ensures { let c = columns lines.now addresses.now tokens.now text.now in
+) -> Result<Limits, Refusal>
+    requires lines_len_bound { length code.now.lines.now ≤ 64 }
+    requires bytes_value { pass_refusal (columns code.now.lines.now addresses.now code.now.tokens.now code.now.text.now) (columns rows.old places.old words.old bytes.old) ≡ None }
+    ensures { let c = columns code.now.lines.now addresses.now code.now.tokens.now code.now.text.now in
         passed_with result (columns rows.new places.new words.new bytes.new)
         ≡ pass_call loops c (columns rows.old places.old words.old bytes.old) }
 {
     let mut masks = [0u8; 64];
     let mut plan = [0usize; 64];
-    line_keywords::masks(lines, tokens, text, &mut masks);
+    line_keywords::masks(code, &mut masks);
     passed_in(
-        lines, addresses, tokens, text, &masks, &mut plan, rows, places, words, bytes,
+        code, addresses, &masks, &mut plan, rows, places, words, bytes,
     )
 }
 
 // The same, with arrays that fit the listing.
 fn passed(
-    lines: &[u32],
+    code: &Listing,
     addresses: &[u64],
-    tokens: &[u32],
-    text: &[u8],
     rows: &mut [u32],
     places: &mut [u64],
     words: &mut [u32],
     bytes: &mut [u8],
-) -> Answer
-    requires { pass_refusal (columns lines.now addresses.now tokens.now text.now) (columns rows.old places.old words.old bytes.old) ≡ none }
-    ensures { let c = columns lines.now addresses.now tokens.now text.now in
+) -> Result<Limits, Refusal>
+    requires { pass_refusal (columns code.now.lines.now addresses.now code.now.tokens.now code.now.text.now) (columns rows.old places.old words.old bytes.old) ≡ None }
+    ensures { let c = columns code.now.lines.now addresses.now code.now.tokens.now code.now.text.now in
         passed_with result (columns rows.new places.new words.new bytes.new)
         ≡ pass_call loops c (columns rows.old places.old words.old bytes.old) }
 {
-    if lines.len() <= 64 {
-        passed_short(lines, addresses, tokens, text, rows, places, words, bytes)
+    if code.lines.len() <= 64 {
+        passed_short(code, addresses, rows, places, words, bytes)
     } else {
-        passed_long(lines, addresses, tokens, text, rows, places, words, bytes)
+        passed_long(code, addresses, rows, places, words, bytes)
     }
 }
 
 // Guarded do-while loops made while or for loops.
 pub fn recover_loops(
-    lines: &[u32],
+    code: &Listing,
     addresses: &[u64],
-    tokens: &[u32],
-    text: &[u8],
     rows: &mut [u32],
     places: &mut [u64],
     words: &mut [u32],
     bytes: &mut [u8],
-) -> Answer
-    ensures { let c = columns lines.now addresses.now tokens.now text.now in
+) -> Result<Limits, Refusal>
+    ensures { let c = columns code.now.lines.now addresses.now code.now.tokens.now code.now.text.now in
         passed_with result (columns rows.new places.new words.new bytes.new)
         ≡ pass_call loops c (columns rows.old places.old words.old bytes.old) }
 {
-    let n = pass_call::asked(lines, addresses, tokens, text, rows, places, words, bytes);
-    if n == 0 {
-        return passed(lines, addresses, tokens, text, rows, places, words, bytes);
-    }
-    pass_call::refusal(n)
+    pass_call::asked(code, addresses, rows, places, words, bytes)?;
+    passed(code, addresses, rows, places, words, bytes)
 }

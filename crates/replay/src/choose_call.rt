@@ -1,18 +1,19 @@
 // Call 3: the chooser.
 use crate::{columns, print};
 use choose::Choice;
+use model::listing::Listing;
 use std::rt::Stdout;
 use streams::Output;
 
 // Calls, and prints which was chosen and the answer. Outputs and working space start filled, so that an entry that is not written shows;
 // there are entries for 256 tokens, and working space for 64 lines.
-pub fn answer(out: &mut Output<Stdout>, lines: &[u32], tokens: &[u32], text: &[u8]) {
+pub fn answer(out: &mut Output<Stdout>, code: &Listing) {
     let mut numbers = [7u32; 256];
     let mut marks = [7u8; 256];
     let mut space = [7u64; 832];
-    let n = tokens.len();
-    match choose::choose(lines, tokens, text, &mut numbers, &mut marks, &mut space) {
-        Choice::ByWebs(sweeps) => {
+    let n = code.tokens.len();
+    match choose::choose(code, &mut numbers, &mut marks, &mut space) {
+        Ok(Choice::ByWebs(sweeps)) => {
             out.text(b"webs ");
             print::entries(
                 out,
@@ -21,7 +22,7 @@ pub fn answer(out: &mut Output<Stdout>, lines: &[u32], tokens: &[u32], text: &[u
                 text::part(&marks, 0, n),
             );
         }
-        Choice::BySplits => {
+        Ok(Choice::BySplits) => {
             out.text(b"splits ");
             print::entries(
                 out,
@@ -30,6 +31,6 @@ pub fn answer(out: &mut Output<Stdout>, lines: &[u32], tokens: &[u32], text: &[u
                 text::part(&marks, 0, n),
             );
         }
-        Choice::Refused(q) => print::refused(out, q),
+        Err(refusal) => print::refused(out, refusal),
     }
 }

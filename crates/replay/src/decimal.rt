@@ -31,7 +31,7 @@ fn wide(b: u8) -> u64
 fn is_blank(b: u8) -> bool
     ensures { result ≡ is_blank b }
 {
-    if b == 32 { true } else { b == 10 }
+    b == 32 || b == 10
 }
 
 // The first place from `at` on where neither a blank nor a line feed stands.

@@ -1,4 +1,5 @@
 // Answers, each one line on standard output.
+use questions::Refusal;
 use std::rt::Stdout;
 use streams::Output;
 
@@ -16,33 +17,27 @@ fn spaced(out: &mut Output<Stdout>, x: u64) {
 }
 
 fn words(out: &mut Output<Stdout>, xs: &[u32]) {
-    let mut i = 0;
-    while i < xs.len() {
+    for i in 0..xs.len() {
         spaced(out, wide32(xs[i]));
-        i += 1;
     }
 }
 
 fn words64(out: &mut Output<Stdout>, xs: &[u64]) {
-    let mut i = 0;
-    while i < xs.len() {
+    for i in 0..xs.len() {
         spaced(out, xs[i]);
-        i += 1;
     }
 }
 
 fn bytes(out: &mut Output<Stdout>, xs: &[u8]) {
-    let mut i = 0;
-    while i < xs.len() {
+    for i in 0..xs.len() {
         spaced(out, wide8(xs[i]));
-        i += 1;
     }
 }
 
 // `refused Q`: question Q is answered no.
-pub fn refused(out: &mut Output<Stdout>, q: usize) {
+pub fn refused(out: &mut Output<Stdout>, refusal: Refusal) {
     out.text(b"refused");
-    spaced(out, q as u64);
+    spaced(out, refusal.number() as u64);
     out.text(b"\n");
 }
 

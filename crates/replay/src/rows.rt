@@ -2,9 +2,10 @@
 ghost use Rattle.std.specs.Prelude.{◌+◌, ◌<◌};
 ghost use Rattle.replay.specs.Places.{row_end};
 
-use crate::columns::{Listing, Sizes};
+use crate::columns::Sizes;
 use crate::decimal::Found;
 use crate::{columns, decimal};
+use model::listing::Listing;
 use std::rt::Stdout;
 use streams::Output;
 
@@ -16,20 +17,13 @@ pub enum Row {
 }
 
 // Makes the call and prints its answer. Whether there is such a call.
-fn call(
-    out: &mut Output<Stdout>,
-    which: u64,
-    lines: &[u32],
-    addresses: &[u64],
-    tokens: &[u32],
-    text: &[u8],
-) -> bool {
+fn call(out: &mut Output<Stdout>, which: u64, code: &Listing, addresses: &[u64]) -> bool {
     match which {
-        1 => crate::web_call::answer(out, lines, tokens, text),
-        2 => crate::split_call::answer(out, lines, tokens, text),
-        3 => crate::choose_call::answer(out, lines, tokens, text),
-        4 => crate::pass_calls::loops(out, lines, addresses, tokens, text),
-        5 => crate::pass_calls::goto_loops(out, lines, addresses, tokens, text),
+        1 => crate::web_call::answer(out, code),
+        2 => crate::split_call::answer(out, code),
+        3 => crate::choose_call::answer(out, code),
+        4 => crate::pass_calls::loops(out, code, addresses),
+        5 => crate::pass_calls::goto_loops(out, code, addresses),
         _ => return false,
     }
     true
@@ -53,13 +47,18 @@ fn answer(
         out.text(b"too large\n");
         return true;
     }
+    let rows = columns::first(lines, n.lines);
+    let words = columns::first(tokens, n.tokens);
+    let listing = Listing {
+        lines: rows,
+        tokens: words,
+        text: text::part(text, 0, n.text),
+    };
     call(
         out,
         which,
-        columns::first(lines, n.lines),
+        &listing,
         columns::first64(addresses, n.addresses),
-        columns::first(tokens, n.tokens),
-        text::part(text, 0, n.text),
     )
 }
 
@@ -74,7 +73,7 @@ fn replay_row(out: &mut Output<Stdout>, s: &[u8], at: usize) -> Row
     let Found::Number(call, start) = decimal::number(s, at) else {
         return Row::Bad;
     };
-    let Listing::Read(sizes, next) = columns::read_listing(
+    let columns::Listing::Read(sizes, next) = columns::read_listing(
         s,
         start,
         &mut lines,

@@ -1,16 +1,16 @@
 // Call 2: the split call.
 use crate::{columns, print};
-use splits::call::Splits;
+use model::listing::Listing;
 use std::rt::Stdout;
 use streams::Output;
 
 // Calls, and prints the answer. Outputs start filled, so that an entry that is not written shows; there are entries for 256 tokens.
-pub fn answer(out: &mut Output<Stdout>, lines: &[u32], tokens: &[u32], text: &[u8]) {
+pub fn answer(out: &mut Output<Stdout>, code: &Listing) {
     let mut numbers = [7u32; 256];
     let mut marks = [7u8; 256];
-    match splits::call::split_call(lines, tokens, text, &mut numbers, &mut marks) {
-        Splits::Written => {
-            let n = tokens.len();
+    match splits::call::split_call(code, &mut numbers, &mut marks) {
+        Ok(()) => {
+            let n = code.tokens.len();
             out.text(b"splits ");
             print::entries(
                 out,
@@ -19,6 +19,6 @@ pub fn answer(out: &mut Output<Stdout>, lines: &[u32], tokens: &[u32], text: &[u
                 text::part(&marks, 0, n),
             );
         }
-        Splits::Refused(q) => print::refused(out, q),
+        Err(refusal) => print::refused(out, refusal),
     }
 }

@@ -3,11 +3,11 @@
 --   web_asked, split_asked, choose_asked    so they are where the call accepts
 --   printed                                 what has room is printed
 -- Assumes nothing.
+use Rattle.std.specs.Prelude.{Option, None, Some}
 use Prim.Native.Nat.{ℕ, ◌≤◌}
 use mathlib.Core.Path.{◌≡◌, refl}
 use mathlib.Core.Bool.{Bool, true, false}
 use mathlib.Core.List.{List, ◌∷◌}
-use mathlib.Core.Option.{Option, none, some}
 use native.Mathlib.Omega.{arith}
 use lib.ListN.{length}
 use Rattle.definitions.specs.Columns.{listing}
@@ -20,7 +20,7 @@ use Rattle.rows.specs.Rows.{Printed}
 abbrev pub Asked : List ℕ → List ℕ → List ℕ → Type 0
 Asked l t x = (question_1 limits l t x ≡ true) × (question_2 l t x ≡ true)
 
-first_two : (a b : Bool) (qs : List (ℕ × Bool)) → refusal ((1, a) ∷ (2, b) ∷ qs) ≡ none → (a ≡ true) × (b ≡ true)
+first_two : (a b : Bool) (qs : List (ℕ × Bool)) → refusal ((1, a) ∷ (2, b) ∷ qs) ≡ None → (a ≡ true) × (b ≡ true)
 unfolding refusal
 first_two true true qs e = (refl, refl)
 first_two true false qs e = let z : ◌≡◌ {A = ℕ} 0 1 = cc in absurd (omega arith)
@@ -29,13 +29,13 @@ first_two false b qs e = let z : ◌≡◌ {A = ℕ} 0 1 = cc in absurd (omega a
 module _ (l t x : List ℕ) (o : Lent) where
   -- a call that its questions refuse, or that goes on
   called : {A : Type 0} → Called A → Option ℕ → Called A
-  called on q = elim q [ some n ↦ record { answer = refused n; lent = o } | none ↦ on ]
+  called on q = elim q [ Some n ↦ record { answer = refused n; lent = o } | None ↦ on ]
 
-  asked : {A : Type 0} (a : A) (on : Called A) (q : Option ℕ) → (q ≡ none → Asked l t x)
+  asked : {A : Type 0} (a : A) (on : Called A) (q : Option ℕ) → (q ≡ None → Asked l t x)
       → (called on q).answer ≡ accepted a → Asked l t x
   unfolding called
-  asked a on none h e = h refl
-  asked a on (some n) h e = let z : ◌≡◌ {A = ℕ} 0 1 = cc in absurd (omega arith)
+  asked a on None h e = h refl
+  asked a on (Some n) h e = let z : ◌≡◌ {A = ℕ} 0 1 = cc in absurd (omega arith)
 
   pub web_asked : (s : ℕ) → (web_call l t x o).answer ≡ accepted s → Asked l t x
   unfolding web_call called

@@ -4,11 +4,11 @@
 --   rows_short         the rows of a listing within question 1 of which question 2 is answered yes
 --   refused_short      a refusal
 -- Assumes nothing.
+use Rattle.std.specs.Prelude.{Option, None, Some}
 use Prim.Native.Nat.{ℕ, zero, suc, ◌+◌, ◌*◌, ◌-◌, ◌/◌, ◌%◌, ◌≤◌, ◌<◌}
 use mathlib.Core.Path.{◌≡◌}
 use mathlib.Core.Bool.{true, ◌&&◌}
 use mathlib.Core.List.{List, [], ◌∷◌, ◌++◌, map}
-use mathlib.Core.Option.{Option, none, some}
 use native.Mathlib.Nat.{add-zero}
 use native.Mathlib.Omega.{arith}
 use borrow.Author.Tests.{ltb-false, leb-true}
@@ -84,9 +84,9 @@ legacy_short s =
     no_row : Named 3 (legacy_family [] s)
     no_row = unfold legacy_family in omega arith
 
-width_short : (n : ℕ) (name : List ℕ) → length name ≤ n → (o : Option ℕ) → Named n (o >>= (λ w. some (record { name = name; width = w })))
-width_short n name h none = omega arith
-width_short n name h (some w) = h
+width_short : (n : ℕ) (name : List ℕ) → length name ≤ n → (o : Option ℕ) → Named n (o >>= (λ w. Some (record { name = name; width = w })))
+width_short n name h None = omega arith
+width_short n name h (Some w) = h
 
 other_short : (s : List ℕ) → Named (length s + 3) (other_family s)
 unfolding other_family
@@ -103,9 +103,9 @@ unfolding fam_of family
 name_short t =
     if_has (Named (length t.text + 3)) (eqb t.kind Register) (λ _. go (legacy_family legacy t.text) (legacy_short t.text)) (λ _. omega arith)
   where
-    go : (o : Option Family) → Named 3 o → Named (length t.text + 3) (elim o [ some f ↦ some f | none ↦ other_family t.text ])
-    go none h = other_short t.text
-    go (some f) h = omega arith
+    go : (o : Option Family) → Named 3 o → Named (length t.text + 3) (elim o [ Some f ↦ Some f | None ↦ other_family t.text ])
+    go None h = other_short t.text
+    go (Some f) h = omega arith
 
 -- Rows
 
@@ -176,8 +176,8 @@ module _ (l t x numbers marks : List ℕ) (few : length l ≤ 1024) (short : len
 pub rows_short : (l t x numbers marks : List ℕ) → ((k : ℕ) → Fits w32 (get_or numbers k 0)) → Short l t x (all_rows l t x numbers marks)
 rows_short l t x numbers marks words one two =
     let few = (and_split (leb (length l) 1024 && leb (length t) 16384) (leb (length x) 262144) one).0 in
-    let some = and_split (leb (length l) 1024) (leb (length t) 16384) few in
-    covered_short l t x numbers marks (leb-true (length l) 1024 some.0) (leb-true (length t) 16384 some.1) (formed_lines l t x two) (formed_tokens l t x two)
+    let sizes = and_split (leb (length l) 1024) (leb (length t) 16384) few in
+    covered_short l t x numbers marks (leb-true (length l) 1024 sizes.0) (leb-true (length t) 16384 sizes.1) (formed_lines l t x two) (formed_tokens l t x two)
     (λ k. omega (arith, words k))
 
 pub refused_short : (n : ℕ) → n < 100000000000000000000 → length (refused_text n) ≤ 29

@@ -14,8 +14,7 @@
 --   Short l t x w          of columns that questions 1 and 2 let pass: w is no longer than 28 bytes for each token and the text
 --   Printed w out e        the first e bytes of out are w
 -- Assumes nothing.
-use Rattle.std.specs.Prelude.{if◌then◌else◌, ℕ, ◌+◌, ◌*◌, ◌-◌, ◌≤◌, ◌≡◌, true, List, [], ◌++◌, map, eqb, length, take, get_or}
-use Rattle.std.proofs.Math.Option.{Option, none, some}
+use Rattle.std.specs.Prelude.{if◌then◌else◌, ℕ, ◌+◌, ◌*◌, ◌-◌, ◌≤◌, ◌≡◌, true, List, [], ◌++◌, map, eqb, length, take, get_or, Option, None, Some}
 use Rattle.definitions.specs.Lists.{concat, range, ascii}
 use Rattle.definitions.specs.Model.{Token, no_token}
 use Rattle.definitions.specs.Columns.{token_list}
@@ -26,8 +25,8 @@ use Rattle.model.specs.Places.{line_start, line_end}
 use Rattle.json_definitions.specs.Writer.{decimal}
 
 abbrev pub name_of : Option Family → List ℕ
-name_of none = []
-name_of (some f) = f.name
+name_of None = []
+name_of (Some f) = f.name
 
 unfoldable pub number_text : ℕ → List ℕ
 number_text n = decimal n ++ ascii " "

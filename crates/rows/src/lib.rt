@@ -9,10 +9,10 @@ mod names;
 
 ghost use Rattle.std.specs.Prelude.{◌≡◌, ◌-◌, ◌≤◌, length, get_or};
 ghost use Rattle.definitions.specs.Model.{no_token};
-ghost use Rattle.definitions.specs.Columns.{token_list};
 ghost use Rattle.definitions.specs.Family.{fam_of};
 ghost use Rattle.family.specs.Register.{family_of};
 ghost use Rattle.model.specs.Places.{line_start};
+ghost use Rattle.model.specs.Listings.{tokens_of};
 ghost use Rattle.json_append.specs.Appended.{Appended};
 ghost use Rattle.rows.specs.Rows.{name_of, number_text, place_text, mark_text, web_text, row_text, row_at, line_rows, all_rows, refused_text, Short};
 
@@ -20,7 +20,7 @@ use crate::names::put_name;
 use family::{Register, fam_of};
 use json_append::bytes::put;
 use json_append::values::put_decimal;
-use model::columns::{line_end, line_start, token_kind, token_text};
+use model::listing::Listing;
 
 // The number of a token without a family.
 const NO_FAMILY: usize = 4294967295;
@@ -75,8 +75,7 @@ fn put_web(out: &mut [u8], at: usize, web: usize, mark: u8) -> usize
 fn put_row(
     out: &mut [u8],
     at: usize,
-    tokens: &[u32],
-    text: &[u8],
+    code: &Listing,
     i: usize,
     j: usize,
     k: usize,
@@ -84,10 +83,10 @@ fn put_row(
     mark: u8,
 ) -> usize
     ensures { Appended out.old at
-        (row_text i j (name_of (fam_of (get_or (token_list tokens.now text.now) k no_token))) web mark) out.new result }
+        (row_text i j (name_of (fam_of (get_or (tokens_of code.now) k no_token))) web mark) out.new result }
 {
-    let s = token_text(tokens, text, k);
-    let r = fam_of(token_kind(tokens, text, k), s);
+    let s = code.token_text(k);
+    let r = fam_of(code.token_kind(k), s);
     let a = put_place(out, at, i, j, s, r);
     put_web(out, a, web, mark)
 }
@@ -96,69 +95,54 @@ fn put_row(
 fn put_token(
     out: &mut [u8],
     at: usize,
-    lines: &[u32],
-    tokens: &[u32],
-    text: &[u8],
+    code: &Listing,
     numbers: &[u32],
     marks: &[u8],
     i: usize,
     k: usize,
 ) -> usize
-    requires { line_start lines.now i ≤ k }
+    requires { line_start code.now.lines.now i ≤ k }
     ensures { Appended out.old at
-        (row_at lines.now tokens.now text.now numbers.now marks.now i k) out.new result }
+        (row_at code.now.lines.now code.now.tokens.now code.now.text.now numbers.now marks.now i k) out.new result }
 {
     let web = text::word(numbers, k);
     if web == NO_FAMILY {
         return put(out, at, b"");
     }
-    let j = k - line_start(lines, i);
-    put_row(out, at, tokens, text, i, j, k, web, byte(marks, k))
+    let j = k - code.line_start(i);
+    put_row(out, at, code, i, j, k, web, byte(marks, k))
 }
 
 // The rows of line i.
 fn put_line(
     out: &mut [u8],
     at: usize,
-    lines: &[u32],
-    tokens: &[u32],
-    text: &[u8],
+    code: &Listing,
     numbers: &[u32],
     marks: &[u8],
     i: usize,
 ) -> usize
     ensures { Appended out.old at
-        (line_rows lines.now tokens.now text.now numbers.now marks.now i) out.new result }
+        (line_rows code.now.lines.now code.now.tokens.now code.now.text.now numbers.now marks.now i) out.new result }
 {
-    let end = line_end(lines, tokens, i);
+    let end = code.line_end(i);
     let mut to = at;
-    let mut k = line_start(lines, i);
-    while k < end {
-        to = put_token(out, to, lines, tokens, text, numbers, marks, i, k);
-        k += 1;
+    for k in code.line_start(i)..end {
+        to = put_token(out, to, code, numbers, marks, i, k);
     }
     to
 }
 
 // The rows of the listing.
-pub fn put_rows(
-    out: &mut [u8],
-    lines: &[u32],
-    tokens: &[u32],
-    text: &[u8],
-    numbers: &[u32],
-    marks: &[u8],
-) -> usize
+pub fn put_rows(out: &mut [u8], code: &Listing, numbers: &[u32], marks: &[u8]) -> usize
     ensures appended { Appended out.old 0
-        (all_rows lines.now tokens.now text.now numbers.now marks.now) out.new result }
-    ensures short { Short lines.now tokens.now text.now
-        (all_rows lines.now tokens.now text.now numbers.now marks.now) }
+        (all_rows code.now.lines.now code.now.tokens.now code.now.text.now numbers.now marks.now) out.new result }
+    ensures short { Short code.now.lines.now code.now.tokens.now code.now.text.now
+        (all_rows code.now.lines.now code.now.tokens.now code.now.text.now numbers.now marks.now) }
 {
     let mut to = 0;
-    let mut i = 0;
-    while i < lines.len() {
-        to = put_line(out, to, lines, tokens, text, numbers, marks, i);
-        i += 1;
+    for i in 0..code.lines.len() {
+        to = put_line(out, to, code, numbers, marks, i);
     }
     to
 }

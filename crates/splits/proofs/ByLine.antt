@@ -2,11 +2,11 @@
 --   by_line_start, by_line_next, by_line_end     lines one after the other: what is written for the first i lines stands in front
 --   per_token_by_line      what is written for each line's tokens is `per_token`
 -- Assumes nothing.
+use Rattle.std.specs.Prelude.{None, Some}
 use Prim.Native.Nat.{ℕ, zero, suc, ◌+◌, ◌-◌, ◌/◌, ◌<◌, ◌≤◌}
 use mathlib.Core.Path.{◌≡◌, refl, sym, ap, ap₂, ◌∙◌, fun_ext}
 use mathlib.Core.Bool.{true}
 use mathlib.Core.List.{List, [], ◌∷◌, ◌++◌, map, map-append, append_assoc, append-nil}
-use mathlib.Core.Option.{none, some}
 use native.Mathlib.Nat.{zero-add}
 use native.Mathlib.Numerals.{add-one}
 use native.Mathlib.Omega.{arith}
@@ -119,7 +119,7 @@ module _ (l t x : List ℕ) (ok : covers 512 0 l (length t) ≡ true) where
       ap (λ (e : ℕ). part (line_start l i) e (token_list t x)) z ∙ ap (λ (m : Line). m.tokens) (sym (line_at l t x i))
 
   module _ (other : ℕ) (f : List ℕ → ℕ → ℕ) (g : ℕ → Token → ℕ)
-      (same : (i : ℕ) → i < length l → (u : Token) → g i u ≡ (elim (fam_of u) [ none ↦ other | some y ↦ f y.name i ])) where
+      (same : (i : ℕ) → i < length l → (u : Token) → g i u ≡ (elim (fam_of u) [ None ↦ other | Some y ↦ f y.name i ])) where
     pub per_token_by_line : by_line l t g (token_list t x) (length l) ≡ per_token other (λ n i k. f n i) (listing l t x)
     unfolding by_line per_token
     per_token_by_line =
@@ -129,7 +129,7 @@ module _ (l t x : List ℕ) (ok : covers 512 0 l (length t) ≡ true) where
         one i = map (g i) (part (line_start l i) (line_end l t i) (token_list t x))
 
         says : ℕ → Token → ℕ
-        says i u = elim (fam_of u) [ none ↦ other | some y ↦ f y.name i ]
+        says i u = elim (fam_of u) [ None ↦ other | Some y ↦ f y.name i ]
 
         all : ℕ → List ℕ
         all i = map (λ k. says i (token (line (listing l t x) i) k)) (up_to (length (line (listing l t x) i).tokens))

@@ -9,11 +9,11 @@
 --   accepts, refuses             `split_call_within`
 --   within_limits                with the limits of question 1 it is the call
 -- Assumes nothing.
+use Rattle.std.specs.Prelude.{Option, None, Some, Ok, Err}
 use Prim.Native.Nat.{ℕ, zero, suc, ◌+◌, ◌-◌, ◌<◌, ◌≤◌}
 use mathlib.Core.Path.{◌≡◌, refl, sym, ap, ap₂, ◌∙◌}
 use mathlib.Core.Bool.{Bool, true, false, cond, ◌&&◌}
 use mathlib.Core.List.{List, [], ◌∷◌, ◌++◌}
-use mathlib.Core.Option.{Option, none, some}
 use native.Mathlib.Omega.{arith}
 use borrow.Author.Tests.{eqb-true, le-leb, lt-leb, leb-true}
 use lib.Dec.{leb}
@@ -29,7 +29,9 @@ use Rattle.definitions.specs.Answers.{no_family, per_token, mark, accepted, spli
 use Rattle.definitions.specs.Answers as Answers
 use Rattle.definitions.specs.Calls.{Lent, Called, filled, written, split_call}
 use Rattle.text.specs.Zeroed.{zeroed}
-use Rattle.questions.specs.Refusals.{first_questions, refused}
+use Rattle.questions.specs.Refusals.{first_three, first_questions, number}
+use Rattle.questions.specs.declared.Refusal.{Refusal}
+use Rattle.questions.proofs.Refusing.{refusal_yes, refusal_earlier, refusal_later}
 use Rattle.model.proofs.Ands.{both}
 use Rattle.model.proofs.Decode.{length_listing}
 use Rattle.model.proofs.Formed.{formed_lines}
@@ -38,7 +40,6 @@ use Rattle.families.specs.Tokens.{Finds}
 use Rattle.families.proofs.Numbered.{families_all}
 use Rattle.splits.specs.Starts.{Starts}
 use Rattle.splits.specs.Tokens.{tally, token_number, token_mark, by_line}
-use Rattle.splits.specs.declared.call.Splits.TheVariants.{Written, Refused}
 use Rattle.splits.specs.Call.{lent, called, questions, split_within}
 use Rattle.splits.proofs.Places.{start_small, number_is, mark_is}
 use Rattle.splits.proofs.ByLine.{per_token_by_line}
@@ -106,86 +107,59 @@ filled_by s sub old out n p q e =
 -- Questions
 
 module _ (m : Limits) (l t x : List ℕ) (a b : ℕ) where
-  pub questions_first : (q : ℕ) → (q ≡ 0 → ⊥) → refused q ≡ first_questions m l t x → refused q ≡ questions m l t x a b
-  unfolding questions refusal
-  questions_first zero h e = absurd (h refl)
-  questions_first (suc n) h e = go (question_1 m l t x) (question_2 l t x) (question_3 t x) e
-    where
-      go : (u v w : Bool) → ◌≡◌ {A = Option ℕ} (some (suc n)) (cond u (cond v (cond w none (some 3)) (some 2)) (some 1))
-          → ◌≡◌ {A = Option ℕ} (some (suc n)) (cond u (cond v (cond w (cond (leb (length t) a && leb (length t) b) none (some 4)) (some 3)) (some 2)) (some 1))
-      go true true true e = let z : ◌≡◌ {A = ℕ} 0 1 = cc in absurd (omega arith)
-      go true true false e = e
-      go true false w e = e
-      go false v w e = e
+  abbrev fourth : List (ℕ × Bool)
+  fourth = (4, leb (length t) a && leb (length t) b) ∷ []
 
-  -- the first three are answered yes
-  last : (q : ℕ) → q ≡ 0 → refused q ≡ first_questions m l t x → questions m l t x a b ≡ cond (leb (length t) a && leb (length t) b) none (some 4)
-  unfolding questions refusal
-  last zero h e = go (question_1 m l t x) (question_2 l t x) (question_3 t x) e
-    where
-      four : Option ℕ
-      four = cond (leb (length t) a && leb (length t) b) none (some 4)
+  pub questions_first : (k : ℕ) → Some k ≡ first_questions m l t x → Some k ≡ questions m l t x a b
+  unfolding questions
+  questions_first k e = refusal_earlier k (first_three m l t x) fourth e
 
-      go : (u v w : Bool) → ◌≡◌ {A = Option ℕ} none (cond u (cond v (cond w none (some 3)) (some 2)) (some 1)) → cond u (cond v (cond w four (some 3)) (some 2)) (some 1) ≡ four
-      go true true true e = refl
-      go true true false e = let z : ◌≡◌ {A = ℕ} 0 1 = cc in absurd (omega arith)
-      go true false w e = let z : ◌≡◌ {A = ℕ} 0 1 = cc in absurd (omega arith)
-      go false v w e = let z : ◌≡◌ {A = ℕ} 0 1 = cc in absurd (omega arith)
-  last (suc n) h e = absurd (omega arith)
+  module _ (e : None ≡ first_questions m l t x) where
+    last : questions m l t x a b ≡ refusal fourth
+    unfolding questions
+    last = refusal_later (first_three m l t x) fourth e
 
-  module _ (q : ℕ) (h : q ≡ 0) (e : refused q ≡ first_questions m l t x) where
-    pub questions_yes : length t ≤ a → length t ≤ b → refused 0 ≡ questions m l t x a b
-    questions_yes p r = sym (last q h e ∙ rw (le-leb (length t) a p, le-leb (length t) b r))
+    pub questions_yes : length t ≤ a → length t ≤ b → None ≡ questions m l t x a b
+    unfolding refusal
+    questions_yes p r = rw (last, le-leb (length t) a p, le-leb (length t) b r)
 
-    pub questions_few_marks : length t ≤ a → b < length t → refused 4 ≡ questions m l t x a b
-    questions_few_marks p r = sym (last q h e ∙ rw (le-leb (length t) a p, lt-leb (length t) b r))
+    pub questions_few_marks : length t ≤ a → b < length t → Some 4 ≡ questions m l t x a b
+    unfolding refusal
+    questions_few_marks p r = rw (last, le-leb (length t) a p, lt-leb (length t) b r)
 
-    pub questions_few_numbers : a < length t → refused 4 ≡ questions m l t x a b
-    questions_few_numbers p = sym (last q h e ∙ rw (lt-leb (length t) a p))
+    pub questions_few_numbers : a < length t → Some 4 ≡ questions m l t x a b
+    unfolding refusal
+    questions_few_numbers p = rw (last, lt-leb (length t) a p)
 
-  -- each is answered yes
-  answered : (q : ℕ) → q ≡ 0 → refused q ≡ questions m l t x a b
-      → (question_1 m l t x ≡ true) × (question_2 l t x ≡ true) × ((leb (length t) a && leb (length t) b) ≡ true)
-  unfolding questions refusal
-  answered zero h e = go (question_1 m l t x) (question_2 l t x) (question_3 t x) (leb (length t) a && leb (length t) b) e
-    where
-      go : (u v w y : Bool) → ◌≡◌ {A = Option ℕ} none (cond u (cond v (cond w (cond y none (some 4)) (some 3)) (some 2)) (some 1)) → (u ≡ true) × (v ≡ true) × (y ≡ true)
-      go true true true true e = (refl, refl, refl)
-      go true true true false e = let z : ◌≡◌ {A = ℕ} 0 1 = cc in absurd (omega arith)
-      go true true false y e = let z : ◌≡◌ {A = ℕ} 0 1 = cc in absurd (omega arith)
-      go true false w y e = let z : ◌≡◌ {A = ℕ} 0 1 = cc in absurd (omega arith)
-      go false v w y e = let z : ◌≡◌ {A = ℕ} 0 1 = cc in absurd (omega arith)
-  answered (suc n) h e = absurd (omega arith)
-
-  pub room : (q : ℕ) → q ≡ 0 → refused q ≡ questions m l t x a b → m.lines ≤ 1024
+  pub room : None ≡ questions m l t x a b → m.lines ≤ 1024
       → (length l ≤ 1024) × (covers 512 0 l (length t) ≡ true) × (length t ≤ a) × (length t ≤ b)
-  room q h e few =
-      let r = answered q h e in
-      let one = both (leb (length l) m.lines) (leb (length t) m.tokens) (both (leb (length l) m.lines && leb (length t) m.tokens) (leb (length x) m.text) r.0).0 in
-      let four = both (leb (length t) a) (leb (length t) b) r.2 in
-      (omega (arith, leb-true (length l) m.lines one.0), formed_lines l t x r.1, leb-true (length t) a four.0, leb-true (length t) b four.1)
+  unfolding questions
+  room e few =
+      let y1 = refusal_yes 1 _ _ (sym e) in
+      let y2 = refusal_yes 2 _ _ y1.1 in
+      let y3 = refusal_yes 3 _ _ y2.1 in
+      let y4 = refusal_yes 4 _ _ y3.1 in
+      let one = both (leb (length l) m.lines) (leb (length t) m.tokens) (both (leb (length l) m.lines && leb (length t) m.tokens) (leb (length x) m.text) y1.0).0 in
+      let four = both (leb (length t) a) (leb (length t) b) y4.0 in
+      (omega (arith, leb-true (length l) m.lines one.0), formed_lines l t x y2.0, leb-true (length t) a four.0, leb-true (length t) b four.1)
 
 -- The call
 
-module _ (m : Limits) (l t x ns₀ ms₀ : List ℕ) (q : ℕ) (e : refused q ≡ questions m l t x (length ns₀) (length ms₀)) where
+module _ (m : Limits) (l t x ns₀ ms₀ : List ℕ) where
   abbrev left : Option ℕ → Called (Unit {0})
   left o = elim o [
-    | some n ↦ record { answer = Answers.refused n; lent = lent ns₀ ms₀ }
-    | none ↦ record { answer = accepted tt; lent = written (splits (listing l t x)) (lent ns₀ ms₀) }
+    | Some n ↦ record { answer = Answers.refused n; lent = lent ns₀ ms₀ }
+    | None ↦ record { answer = accepted tt; lent = written (splits (listing l t x)) (lent ns₀ ms₀) }
   ]
 
-  pub accepts : q ≡ 0 → (ns ms : List ℕ) → ns ≡ filled (splits (listing l t x)).numbers ns₀ → ms ≡ filled (splits (listing l t x)).marks ms₀
-      → called Written ns ms ≡ split_within m l t x (lent ns₀ ms₀)
+  pub accepts : None ≡ questions m l t x (length ns₀) (length ms₀) → (ns ms : List ℕ) → ns ≡ filled (splits (listing l t x)).numbers ns₀ → ms ≡ filled (splits (listing l t x)).marks ms₀
+      → called (Ok tt) ns ms ≡ split_within m l t x (lent ns₀ ms₀)
   unfolding split_within
-  accepts z ns ms p r = ap₂ (called Written) p r ∙ ap left (sym (ap refused z) ∙ e)
+  accepts e ns ms p r = ap₂ (called (Ok tt)) p r ∙ ap left e
 
-  pub refuses : (q ≡ 0 → ⊥) → called (Refused q) ns₀ ms₀ ≡ split_within m l t x (lent ns₀ ms₀)
+  pub refuses : (r : Refusal) → Some (number r) ≡ questions m l t x (length ns₀) (length ms₀) → called (Err r) ns₀ ms₀ ≡ split_within m l t x (lent ns₀ ms₀)
   unfolding split_within
-  refuses z = go q z ∙ ap left e
-    where
-      go : (q : ℕ) → (q ≡ 0 → ⊥) → called (Refused q) ns₀ ms₀ ≡ left (refused q)
-      go zero z = absurd (z refl)
-      go (suc n) z = refl
+  refuses r e = ap left e
 
 pub within_limits : (l t x : List ℕ) (o : Lent) → split_within limits l t x o ≡ split_call l t x o
 unfolding split_within split_call questions

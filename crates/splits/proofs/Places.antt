@@ -2,12 +2,12 @@
 --   start_small                  a place is below 1,024
 --   number_is, mark_is           the number and the mark of a token of a family
 -- Assumes nothing.
+use Rattle.std.specs.Prelude.{Option, None, Some}
 use Prim.Native.Nat.{ℕ, zero, suc, ◌+◌, ◌-◌, ◌<◌, ◌≤◌}
 use mathlib.Core.Path.{◌≡◌, refl, sym, ap, ◌∙◌}
 use mathlib.Core.Logic.{inl, inr}
 use mathlib.Core.Bool.{Bool, true, false, cond, ◌&&◌, not}
 use mathlib.Core.List.{List, []}
-use mathlib.Core.Option.{Option, none, some}
 use native.Mathlib.Omega.{arith}
 use borrow.Author.Tests.{eq-eqb, ne_eqb, eqb-true}
 use lib.Dec.{eqb}
@@ -32,8 +32,8 @@ use Rattle.splits.proofs.Points.{split_key_is, split_starts_is}
 -- Places
 
 place_most : (fs : List (List ℕ)) (o : Option (List ℕ)) → place_defined fs o ≤ length fs
-place_most fs none = omega arith
-place_most fs (some f) = elim (place_cases fs f) [ inl g ↦ omega (arith, g.0) | inr g ↦ omega (arith, g.1, g.2) ]
+place_most fs None = omega arith
+place_most fs (Some f) = elim (place_cases fs f) [ inl g ↦ omega (arith, g.0) | inr g ↦ omega (arith, g.1, g.2) ]
 
 place_same : (fs : List (List ℕ)) (f g : List ℕ) (c : ℕ) → place fs f ≡ suc c → place fs g ≡ suc c → g ≡ f
 place_same fs f g c p q = elim (place_cases fs f) [
@@ -50,16 +50,16 @@ module _ (L : List Line) where
   families_fewer (suc n) e h = omega (arith, ap length (sym (families_all L)), ap (λ (k : ℕ). length (families_before L k)) (sym e), families_few L n)
 
   -- a split point defines a family that is among those that have a definition
-  start_known : (i : ℕ) (f : List ℕ) → i < length L → start_at L i ≡ some f → place (defined_families L) f ≡ 0 → ⊥
+  start_known : (i : ℕ) (f : List ℕ) → i < length L → start_at L i ≡ Some f → place (defined_families L) f ≡ 0 → ⊥
   unfolding start_at defined_at
   start_known zero f h e z = go (eqb (line L 0).indent 1 && not (any (crosses 0) (all_jumps L))) e
     where
-      go : (b : Bool) → cond {A = Option (List ℕ)} b none none ≡ some f → ⊥
+      go : (b : Bool) → cond {A = Option (List ℕ)} b None None ≡ Some f → ⊥
       go true e = let y : ◌≡◌ {A = ℕ} 0 1 = cc in omega arith
       go false e = let y : ◌≡◌ {A = ℕ} 0 1 = cc in omega arith
   start_known (suc i) f h e z = go (eqb (line L (suc i)).indent 1 && not (any (crosses (suc i)) (all_jumps L))) e
     where
-      go : (b : Bool) → cond b (defines (line L (suc i))) none ≡ some f → ⊥
+      go : (b : Bool) → cond b (defines (line L (suc i))) None ≡ Some f → ⊥
       go true e = defined_known L (suc i) (omega arith) h f e z
       go false e = let y : ◌≡◌ {A = ℕ} 0 1 = cc in omega arith
 
@@ -68,17 +68,17 @@ module _ (L : List Line) where
     unfolding starts
     starts_none z i h = go (start_at L i) refl
       where
-        go : (o : Option (List ℕ)) → start_at L i ≡ o → (elim o [ none ↦ false | some g ↦ g ≟ f ]) ≡ false
-        go none e = refl
-        go (some g) e = not_so (g ≟ f) (λ q. start_known i g h e (ap (place (defined_families L)) (≟_true g f q) ∙ z))
+        go : (o : Option (List ℕ)) → start_at L i ≡ o → (elim o [ None ↦ false | Some g ↦ g ≟ f ]) ≡ false
+        go None e = refl
+        go (Some g) e = not_so (g ≟ f) (λ q. start_known i g h e (ap (place (defined_families L)) (≟_true g f q) ∙ z))
 
     starts_place : (c : ℕ) → place (defined_families L) f ≡ suc c → (i : ℕ) → eqb (start_place L i) (suc c) ≡ starts L f i
     unfolding starts
     starts_place c z i = go (start_at L i)
       where
-        go : (o : Option (List ℕ)) → eqb (place_defined (defined_families L) o) (suc c) ≡ (elim o [ none ↦ false | some g ↦ g ≟ f ])
-        go none = ne_eqb 0 (suc c) (λ q. omega arith)
-        go (some g) = same_test _ _
+        go : (o : Option (List ℕ)) → eqb (place_defined (defined_families L) o) (suc c) ≡ (elim o [ None ↦ false | Some g ↦ g ≟ f ])
+        go None = ne_eqb 0 (suc c) (λ q. omega arith)
+        go (Some g) = same_test _ _
             (λ e. ap (◌≟ f) (place_same (defined_families L) f g c z (eqb-true (place (defined_families L) g) (suc c) e)) ∙ ≟_self f)
             (λ e. eq-eqb (place (defined_families L) g) (suc c) (ap (place (defined_families L)) (≟_true g f e) ∙ z))
 
@@ -105,10 +105,10 @@ module _ (L : List Line) (ds : List ℕ) (S : Starts L ds) (few : length L ≤ 1
       split_key_is L f i h ∙ count_same (starts L f) (λ j. false) (i + 1) (λ j b. starts_none L f z j (omega arith))
       ∙ count_none (λ j. false) (up_to (i + 1)) (λ j. refl)
 
-  pub number_is : (o : Option Family) → number_of (tally ds (i + 1)) (found (defined_families L) o) ≡ (elim o [ none ↦ no_family | some x ↦ split_key (split_points L) x.name i ])
+  pub number_is : (o : Option Family) → number_of (tally ds (i + 1)) (found (defined_families L) o) ≡ (elim o [ None ↦ no_family | Some x ↦ split_key (split_points L) x.name i ])
   unfolding number_of
-  number_is none = refl
-  number_is (some x) = go (place (defined_families L) x.name) refl
+  number_is None = refl
+  number_is (Some x) = go (place (defined_families L) x.name) refl
     where
       go : (c : ℕ) → place (defined_families L) x.name ≡ c → number_of (tally ds (i + 1)) (suc c) ≡ split_key (split_points L) x.name i
       go zero z = sym (key_none x.name z)
@@ -118,14 +118,14 @@ module _ (L : List Line) (ds : List ℕ) (S : Starts L ds) (few : length L ≤ 1
           let d : suc (suc c) - 1 ≡ suc c = omega arith in
           rw (a, b, d) (tally_is x.name c z)
 
-  pub mark_is : (o : Option Family) → mark_of (get_or ds i 0) (found (defined_families L) o) ≡ (elim o [ none ↦ 0 | some x ↦ mark (split_starts (split_points L) x.name i) ])
+  pub mark_is : (o : Option Family) → mark_of (get_or ds i 0) (found (defined_families L) o) ≡ (elim o [ None ↦ 0 | Some x ↦ mark (split_starts (split_points L) x.name i) ])
   unfolding mark_of
-  mark_is none = go (get_or ds i 0)
+  mark_is None = go (get_or ds i 0)
     where
       go : (d : ℕ) → mark_of d 0 ≡ 0
       go zero = refl
       go (suc d) = let a = ne_eqb 0 (suc d + 1) (λ q. omega arith) in rw (ne_eqb (suc d) 0 (λ q. omega arith), a)
-  mark_is (some x) = rw (S.at i h, split_starts_is L x.name i h) (go (place (defined_families L) x.name) refl)
+  mark_is (Some x) = rw (S.at i h, split_starts_is L x.name i h) (go (place (defined_families L) x.name) refl)
     where
       other : (d : ℕ) → mark_of d 1 ≡ 0
       other zero = refl

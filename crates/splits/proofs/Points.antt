@@ -2,13 +2,13 @@
 --   split_key_is       how many split points of f there are up to and with line i, counted over the lines
 --   split_starts_is    line i is one of them
 -- Assumes nothing.
+use Rattle.std.specs.Prelude.{Option, None, Some}
+use Rattle.std.specs.Option.{option_map}
 use Prim.Native.Nat.{ℕ, zero, suc, ◌+◌, ◌-◌, ◌<◌, ◌≤◌}
 use mathlib.Core.Path.{◌≡◌, refl, sym, ap, ◌∙◌, fun_ext}
 use mathlib.Core.Logic.{inl, inr}
 use mathlib.Core.Bool.{Bool, true, false, cond, ◌&&◌, ◌||◌, not, and-false, and-true}
 use mathlib.Core.List.{List, [], ◌∷◌, ◌++◌, map}
-use mathlib.Core.Option
-use mathlib.Core.Option.{Option, none, some}
 use native.Mathlib.Omega.{arith}
 use borrow.Author.Tests.{eq-eqb, eqb-true, le-leb, lt-leb}
 use lib.Dec.{eqb, leb}
@@ -26,8 +26,8 @@ use Rattle.splits.specs.Starts.{start_at, starts}
 -- Options one after the other
 
 abbrev passes : {A : Type 0} → (A → Bool) → Option A → Bool
-passes p none = false
-passes p (some x) = p x
+passes p None = false
+passes p (Some x) = p x
 
 module _ {A : Type 0} (p : A → Bool) (o : ℕ → Option A) where
   count_options : (ks : List ℕ) → count p (concat (map (λ k. to_list (o k)) ks)) ≡ count (λ k. passes p (o k)) ks
@@ -40,8 +40,8 @@ module _ {A : Type 0} (p : A → Bool) (o : ℕ → Option A) where
 
       go : (x : Option A) → count p rest ≡ count (λ k. passes p (o k)) ks
           → count p (to_list x ++ rest) ≡ length (cond (passes p x) (k ∷ filter (λ k. passes p (o k)) ks) (filter (λ k. passes p (o k)) ks))
-      go none e = e
-      go (some x) e = one (p x)
+      go None e = e
+      go (Some x) e = one (p x)
         where
           one : (b : Bool) → length (cond b (x ∷ filter p rest) (filter p rest)) ≡ length (cond b (k ∷ filter (λ k. passes p (o k)) ks) (filter (λ k. passes p (o k)) ks))
           one true = ap suc e
@@ -56,8 +56,8 @@ module _ {A : Type 0} (p : A → Bool) (o : ℕ → Option A) where
       rest = concat (map (λ k. to_list (o k)) ks)
 
       go : (x : Option A) → any p rest ≡ any (λ k. passes p (o k)) ks → any p (to_list x ++ rest) ≡ (passes p x || any (λ k. passes p (o k)) ks)
-      go none e = e
-      go (some x) e = ap (p x ||◌) e
+      go None e = e
+      go (Some x) e = ap (p x ||◌) e
 
 -- The split points of the lines from 1 on
 
@@ -66,10 +66,10 @@ module _ (L : List Line) where
   split k f = record { at = k; family = f }
 
   abbrev point : ℕ → Option Split
-  point k = Option.map (split k) (start_at L k)
+  point k = option_map (split k) (start_at L k)
 
   points_from : (a n : ℕ)
-      → concat (map (λ k. to_list (Option.map (split k) (defines (line L k)))) (filter (λ k. eqb (line L k).indent 1 && not (any (crosses k) (all_jumps L))) (range (suc a) n)))
+      → concat (map (λ k. to_list (option_map (split k) (defines (line L k)))) (filter (λ k. eqb (line L k).indent 1 && not (any (crosses k) (all_jumps L))) (range (suc a) n)))
       ≡ concat (map (λ k. to_list (point k)) (range (suc a) n))
   unfolding concat filter range start_at defined_at
   points_from a zero = refl
@@ -79,11 +79,11 @@ module _ (L : List Line) where
       test k = eqb (line L k).indent 1 && not (any (crosses k) (all_jumps L))
 
       found : ℕ → List Split
-      found k = to_list (Option.map (split k) (defines (line L k)))
+      found k = to_list (option_map (split k) (defines (line L k)))
 
       go : (b : Bool) → concat (map found (filter test (range (suc (suc a)) n))) ≡ concat (map (λ k. to_list (point k)) (range (suc (suc a)) n))
           → concat (map found (cond b (suc a ∷ filter test (range (suc (suc a)) n)) (filter test (range (suc (suc a)) n))))
-          ≡ to_list (Option.map (split (suc a)) (cond b (defines (line L (suc a))) none)) ++ concat (map (λ k. to_list (point k)) (range (suc (suc a)) n))
+          ≡ to_list (option_map (split (suc a)) (cond b (defines (line L (suc a))) None)) ++ concat (map (λ k. to_list (point k)) (range (suc (suc a)) n))
       go true e = ap (found (suc a) ++◌) e
       go false e = e
 
@@ -95,7 +95,7 @@ module _ (L : List Line) where
   unfolding starts start_at defined_at
   starts_zero f = go (eqb (line L 0).indent 1 && not (any (crosses 0) (all_jumps L)))
     where
-      go : (b : Bool) → (elim (cond {A = Option (List ℕ)} b none none) [ none ↦ false | some g ↦ g ≟ f ]) ≡ false
+      go : (b : Bool) → (elim (cond {A = Option (List ℕ)} b None None) [ None ↦ false | Some g ↦ g ≟ f ]) ≡ false
       go true = refl
       go false = refl
 
@@ -104,9 +104,9 @@ module _ (L : List Line) where
   unfolding starts
   passes_both f q k = go (start_at L k)
     where
-      go : (o : Option (List ℕ)) → passes (λ (s : Split). (s.family ≟ f) && q s.at) (Option.map (split k) o) ≡ ((elim o [ none ↦ false | some g ↦ g ≟ f ]) && q k)
-      go none = refl
-      go (some g) = refl
+      go : (o : Option (List ℕ)) → passes (λ (s : Split). (s.family ≟ f) && q s.at) (option_map (split k) o) ≡ ((elim o [ None ↦ false | Some g ↦ g ≟ f ]) && q k)
+      go None = refl
+      go (Some g) = refl
 
 -- Lines up to and with line i
 

@@ -1,12 +1,12 @@
 -- Rules for the needs of `starts`: its loop.
 --   starting_start, starting_next, starting_end     the lines before line i are done
 -- Assumes nothing.
+use Rattle.std.specs.Prelude.{Option, None}
 use Prim.Native.Nat.{ℕ, zero, suc, ◌+◌, ◌<◌, ◌≤◌, max}
 use mathlib.Core.Path.{◌≡◌, refl, sym, ap, ◌∙◌}
 use mathlib.Core.Logic.{inl, inr}
 use mathlib.Core.Bool.{Bool, true, false, cond, ◌&&◌, ◌||◌, not, and-false}
 use mathlib.Core.List.{List}
-use mathlib.Core.Option.{Option, none}
 use native.Mathlib.Nat.{zero-add}
 use native.Mathlib.Numerals.{add-one}
 use native.Mathlib.Omega.{arith}
@@ -51,11 +51,11 @@ module _ (l t x far : List ℕ) (i reach : ℕ) (ds : List ℕ) (S : Starting (l
       fs : List (List ℕ)
       fs = defined_families (listing l t x)
 
-      none_at : (b : Bool) → place_defined fs (cond {A = Option (List ℕ)} b none none) ≡ 0
+      none_at : (b : Bool) → place_defined fs (cond {A = Option (List ℕ)} b None None) ≡ 0
       none_at true = refl
       none_at false = refl
 
-      pick : (b : Bool) (o : Option (List ℕ)) → cond b (place_defined fs o) 0 ≡ place_defined fs (cond b o none)
+      pick : (b : Bool) (o : Option (List ℕ)) → cond b (place_defined fs o) 0 ≡ place_defined fs (cond b o None)
       pick true o = refl
       pick false o = refl
 

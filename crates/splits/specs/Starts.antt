@@ -6,8 +6,7 @@
 --   Starting L far i reach ds    the lines before line i are done: the others have the place of the family that they define, and a line is
 --                       joined with one of those before line i or a later one if it is not beyond `reach`
 -- Assumes nothing.
-use Rattle.std.specs.Prelude.{if◌then◌else◌, ℕ, ◌<◌, ◌≤◌, ◌≡◌, Bool, false, ◌&&◌, not, List, eqb, leb, length, get_or}
-use Rattle.std.proofs.Math.Option.{Option, none, some}
+use Rattle.std.specs.Prelude.{if◌then◌else◌, ℕ, ◌<◌, ◌≤◌, ◌≡◌, Bool, false, ◌&&◌, not, List, eqb, leb, length, get_or, Option, None, Some}
 use Rattle.definitions.specs.Lists.{any, up_to, ◌≟◌}
 use Rattle.definitions.specs.Model.{Line, line}
 use Rattle.definitions.specs.Recover.{defined_families}
@@ -15,10 +14,10 @@ use Rattle.definitions.specs.SplitPoints.{all_jumps, crosses}
 use Rattle.families.specs.Families.{defined_at, place_defined}
 
 unfoldable pub start_at : List Line → ℕ → Option (List ℕ)
-start_at L i = if eqb (line L i).indent 1 && not (any (crosses i) (all_jumps L)) then defined_at L i else none
+start_at L i = if eqb (line L i).indent 1 && not (any (crosses i) (all_jumps L)) then defined_at L i else None
 
 unfoldable pub starts : List Line → List ℕ → ℕ → Bool
-starts L f i = elim (start_at L i) [ none ↦ false | some g ↦ g ≟ f ]
+starts L f i = elim (start_at L i) [ None ↦ false | Some g ↦ g ≟ f ]
 
 abbrev pub start_place : List Line → ℕ → ℕ
 start_place L i = place_defined (defined_families L) (start_at L i)

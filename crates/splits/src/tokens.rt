@@ -7,11 +7,13 @@ ghost use Rattle.definitions.specs.Columns.{token_list, listing};
 ghost use Rattle.definitions.specs.Questions.{covers};
 ghost use Rattle.definitions.specs.Recover.{defined_families};
 ghost use Rattle.model.specs.Places.{line_start, line_end};
+ghost use Rattle.model.specs.Listings.{listing_of, tokens_of};
 ghost use Rattle.families.specs.Tokens.{Finds};
 ghost use Rattle.memo.specs.Memo.{Memo};
 ghost use Rattle.splits.specs.Tokens.{tally, number_of, mark_of, token_number, token_mark, over, by_line};
 
 use memo::{known_place, token_place};
+use model::listing::Listing;
 use words::{number, word};
 
 fn wide(x: u16) -> u32
@@ -49,9 +51,7 @@ fn mark_of(c: usize, d: usize) -> u8
 
 // The tokens from place `from` up to place `to`, on such a line.
 fn write_part(
-    lines: &[u32],
-    tokens: &[u32],
-    text: &[u8],
+    code: &Listing,
     table: &[u16],
     count: usize,
     counts: &[u16],
@@ -62,30 +62,26 @@ fn write_part(
     from: usize,
     to: usize,
 )
-    requires finds { Finds (listing lines.now tokens.now text.now) count table.now × Memo (defined_families (listing lines.now tokens.now text.now)) memo.old × (128 ≤ length memo.old) }
-    requires from_le_to { (from ≤ to) × (to ≤ length tokens.now) × (length numbers.old ≡ length tokens.now) × (length marks.old ≡ length tokens.now) × (d < 65536) }
-    ensures numbers_after { let fs = defined_families (listing lines.now tokens.now text.now) in
-        numbers.new ≡ over from to (token_number fs (λ p. get_or counts.now p 0)) (token_list tokens.now text.now) numbers.old }
-    ensures marks_after { let fs = defined_families (listing lines.now tokens.now text.now) in
-        marks.new ≡ over from to (token_mark fs d) (token_list tokens.now text.now) marks.old }
-    ensures memo { Memo (defined_families (listing lines.now tokens.now text.now)) memo.new }
+    requires finds { Finds (listing_of code.now) count table.now × Memo (defined_families (listing_of code.now)) memo.old × (128 ≤ length memo.old) }
+    requires from_le_to { (from ≤ to) × (to ≤ length code.now.tokens.now) × (length numbers.old ≡ length code.now.tokens.now) × (length marks.old ≡ length code.now.tokens.now) × (d < 65536) }
+    ensures numbers_after { let fs = defined_families (listing_of code.now) in
+        numbers.new ≡ over from to (token_number fs (λ p. get_or counts.now p 0)) (tokens_of code.now) numbers.old }
+    ensures marks_after { let fs = defined_families (listing_of code.now) in
+        marks.new ≡ over from to (token_mark fs d) (tokens_of code.now) marks.old }
+    ensures memo { Memo (defined_families (listing_of code.now)) memo.new }
 {
-    let mut k = from;
-    while k < to {
-        let c = token_place(lines, tokens, text, table, count, memo, k);
+    for k in from..to {
+        let c = token_place(code, table, count, memo, k);
         let v = number_of(counts, c);
         numbers[k] = v;
         let m = mark_of(c, d);
         marks[k] = m;
-        k += 1;
     }
 }
 
 // The same as `write_part`, as long as `memo` has what is looked up; answers the place of the first token of which it has nothing, or `to`.
 fn write_known(
-    lines: &[u32],
-    tokens: &[u32],
-    text: &[u8],
+    code: &Listing,
     counts: &[u16],
     memo: &[usize],
     numbers: &mut [u32],
@@ -94,17 +90,17 @@ fn write_known(
     from: usize,
     to: usize,
 ) -> usize
-    requires memo { Memo (defined_families (listing lines.now tokens.now text.now)) memo.now × (128 ≤ length memo.now) }
-    requires from_le_to { (from ≤ to) × (to ≤ length tokens.now) × (length numbers.old ≡ length tokens.now) × (length marks.old ≡ length tokens.now) × (d < 65536) }
+    requires memo { Memo (defined_families (listing_of code.now)) memo.now × (128 ≤ length memo.now) }
+    requires from_le_to { (from ≤ to) × (to ≤ length code.now.tokens.now) × (length numbers.old ≡ length code.now.tokens.now) × (length marks.old ≡ length code.now.tokens.now) × (d < 65536) }
     ensures lower_bound { (from ≤ result) × (result ≤ to) }
-    ensures numbers_after { let fs = defined_families (listing lines.now tokens.now text.now) in
-        numbers.new ≡ over from result (token_number fs (λ p. get_or counts.now p 0)) (token_list tokens.now text.now) numbers.old }
-    ensures marks_after { let fs = defined_families (listing lines.now tokens.now text.now) in
-        marks.new ≡ over from result (token_mark fs d) (token_list tokens.now text.now) marks.old }
+    ensures numbers_after { let fs = defined_families (listing_of code.now) in
+        numbers.new ≡ over from result (token_number fs (λ p. get_or counts.now p 0)) (tokens_of code.now) numbers.old }
+    ensures marks_after { let fs = defined_families (listing_of code.now) in
+        marks.new ≡ over from result (token_mark fs d) (tokens_of code.now) marks.old }
 {
     let mut k = from;
     while k < to {
-        let c = known_place(lines, tokens, text, memo, k);
+        let c = known_place(code, memo, k);
         if c == 65535 {
             return k;
         }
@@ -119,9 +115,7 @@ fn write_known(
 
 // The same, and the token behind them, which is looked up; answers the place behind that.
 fn write_some(
-    lines: &[u32],
-    tokens: &[u32],
-    text: &[u8],
+    code: &Listing,
     table: &[u16],
     count: usize,
     counts: &[u16],
@@ -132,23 +126,19 @@ fn write_some(
     from: usize,
     to: usize,
 ) -> usize
-    requires finds { Finds (listing lines.now tokens.now text.now) count table.now × Memo (defined_families (listing lines.now tokens.now text.now)) memo.old × (128 ≤ length memo.old) }
-    requires from_lt_to { (from < to) × (to ≤ length tokens.now) × (length numbers.old ≡ length tokens.now) × (length marks.old ≡ length tokens.now) × (d < 65536) }
+    requires finds { Finds (listing_of code.now) count table.now × Memo (defined_families (listing_of code.now)) memo.old × (128 ≤ length memo.old) }
+    requires from_lt_to { (from < to) × (to ≤ length code.now.tokens.now) × (length numbers.old ≡ length code.now.tokens.now) × (length marks.old ≡ length code.now.tokens.now) × (d < 65536) }
     ensures lower_bound { (from < result) × (result ≤ to) }
-    ensures numbers_after { let fs = defined_families (listing lines.now tokens.now text.now) in
-        numbers.new ≡ over from result (token_number fs (λ p. get_or counts.now p 0)) (token_list tokens.now text.now) numbers.old }
-    ensures marks_after { let fs = defined_families (listing lines.now tokens.now text.now) in
-        marks.new ≡ over from result (token_mark fs d) (token_list tokens.now text.now) marks.old }
-    ensures memo { Memo (defined_families (listing lines.now tokens.now text.now)) memo.new }
+    ensures numbers_after { let fs = defined_families (listing_of code.now) in
+        numbers.new ≡ over from result (token_number fs (λ p. get_or counts.now p 0)) (tokens_of code.now) numbers.old }
+    ensures marks_after { let fs = defined_families (listing_of code.now) in
+        marks.new ≡ over from result (token_mark fs d) (tokens_of code.now) marks.old }
+    ensures memo { Memo (defined_families (listing_of code.now)) memo.new }
 {
-    let k = write_known(
-        lines, tokens, text, counts, memo, numbers, marks, d, from, to,
-    );
+    let k = write_known(code, counts, memo, numbers, marks, d, from, to);
     if k < to {
         let e = k + 1;
-        write_part(
-            lines, tokens, text, table, count, counts, memo, numbers, marks, d, k, e,
-        );
+        write_part(code, table, count, counts, memo, numbers, marks, d, k, e);
         return e;
     }
     k
@@ -156,9 +146,7 @@ fn write_some(
 
 // The tokens of line i.
 fn write_line(
-    lines: &[u32],
-    tokens: &[u32],
-    text: &[u8],
+    code: &Listing,
     table: &[u16],
     count: usize,
     counts: &[u16],
@@ -168,32 +156,23 @@ fn write_line(
     d: usize,
     i: usize,
 )
-    requires finds { Finds (listing lines.now tokens.now text.now) count table.now × Memo (defined_families (listing lines.now tokens.now text.now)) memo.old × (128 ≤ length memo.old) }
-    requires tokens_value { (covers 512 0 lines.now (length tokens.now) ≡ true) × (i < length lines.now) × (length numbers.old ≡ length tokens.now) × (length marks.old ≡ length tokens.now) × (d < 65536) }
-    ensures numbers_after { let l = lines.now in
-        let t = tokens.now in
-        let fs = defined_families (listing l t text.now) in
-        numbers.new ≡ over (line_start l i) (line_end l t i) (token_number fs (λ p. get_or counts.now p 0)) (token_list t text.now) numbers.old }
-    ensures marks_after { let l = lines.now in
-        let t = tokens.now in
-        let fs = defined_families (listing l t text.now) in
-        marks.new ≡ over (line_start l i) (line_end l t i) (token_mark fs d) (token_list t text.now) marks.old }
-    ensures memo { Memo (defined_families (listing lines.now tokens.now text.now)) memo.new }
+    requires finds { Finds (listing_of code.now) count table.now × Memo (defined_families (listing_of code.now)) memo.old × (128 ≤ length memo.old) }
+    requires tokens_value { (covers 512 0 code.now.lines.now (length code.now.tokens.now) ≡ true) × (i < length code.now.lines.now) × (length numbers.old ≡ length code.now.tokens.now) × (length marks.old ≡ length code.now.tokens.now) × (d < 65536) }
+    ensures numbers_after { let l = code.now.lines.now in
+        let t = code.now.tokens.now in
+        let fs = defined_families (listing l t code.now.text.now) in
+        numbers.new ≡ over (line_start l i) (line_end l t i) (token_number fs (λ p. get_or counts.now p 0)) (token_list t code.now.text.now) numbers.old }
+    ensures marks_after { let l = code.now.lines.now in
+        let t = code.now.tokens.now in
+        let fs = defined_families (listing l t code.now.text.now) in
+        marks.new ≡ over (line_start l i) (line_end l t i) (token_mark fs d) (token_list t code.now.text.now) marks.old }
+    ensures memo { Memo (defined_families (listing_of code.now)) memo.new }
 {
-    let e = model::columns::line_end(lines, tokens, i);
-    let mut k = model::columns::line_start(lines, i);
+    let e = code.line_end(i);
+    let mut k = code.line_start(i);
     while k < e {
-        k = write_some(
-            lines, tokens, text, table, count, counts, memo, numbers, marks, d, k, e,
-        );
+        k = write_some(code, table, count, counts, memo, numbers, marks, d, k, e);
     }
-}
-
-// The line before line e, line 0 for line 0.
-fn before(e: usize) -> usize
-    ensures { result ≡ e - 1 }
-{
-    if e == 0 { 0 } else { e - 1 }
 }
 
 // One more of what `starts` has for that line.
@@ -201,16 +180,14 @@ fn count_before(starts: &[u16], counts: &mut [u16], e: usize)
     requires { (get_or starts.now (e - 1) 0 < length counts.old) × (get_or counts.old (get_or starts.now (e - 1) 0) 0 < 65535) }
     ensures { let d = get_or starts.now (e - 1) 0 in counts.new ≡ set counts.old d (get_or counts.old d 0 + 1) }
 {
-    let c = number(starts, before(e));
+    let c = number(starts, e.saturating_sub(1));
     let v = word(counts, c) + 1;
     counts[c] = v;
 }
 
 // The tokens of all lines. `counts` is empty, and has an entry for each place.
 pub fn write_lines(
-    lines: &[u32],
-    tokens: &[u32],
-    text: &[u8],
+    code: &Listing,
     table: &[u16],
     count: usize,
     starts: &[u16],
@@ -219,27 +196,25 @@ pub fn write_lines(
     numbers: &mut [u32],
     marks: &mut [u8],
 )
-    requires finds { Finds (listing lines.now tokens.now text.now) count table.now × Memo (defined_families (listing lines.now tokens.now text.now)) memo.old × (128 ≤ length memo.old) }
-    requires tokens_value { (covers 512 0 lines.now (length tokens.now) ≡ true) × (length lines.now ≤ 1024) × (length numbers.old ≡ length tokens.now) × (length marks.old ≡ length tokens.now) }
-    requires by_index { ((j : ℕ) → j < length lines.now → get_or starts.now j 0 < 1024) × (1024 ≤ length counts.old) × ((c : ℕ) → get_or counts.old c 0 ≡ 0) }
-    ensures numbers_after { let l = lines.now in
-        let t = tokens.now in
-        let fs = defined_families (listing l t text.now) in
-        numbers.new ≡ by_line l t (λ i. token_number fs (tally starts.now (i + 1))) (token_list t text.now) (length l) }
-    ensures marks_after { let l = lines.now in
-        let t = tokens.now in
-        let fs = defined_families (listing l t text.now) in
-        marks.new ≡ by_line l t (λ i. token_mark fs (get_or starts.now i 0)) (token_list t text.now) (length l) }
+    requires finds { Finds (listing_of code.now) count table.now × Memo (defined_families (listing_of code.now)) memo.old × (128 ≤ length memo.old) }
+    requires tokens_value { (covers 512 0 code.now.lines.now (length code.now.tokens.now) ≡ true) × (length code.now.lines.now ≤ 1024) × (length numbers.old ≡ length code.now.tokens.now) × (length marks.old ≡ length code.now.tokens.now) }
+    requires by_index { ((j : ℕ) → j < length code.now.lines.now → get_or starts.now j 0 < 1024) × (1024 ≤ length counts.old) × ((c : ℕ) → get_or counts.old c 0 ≡ 0) }
+    ensures numbers_after { let l = code.now.lines.now in
+        let t = code.now.tokens.now in
+        let fs = defined_families (listing l t code.now.text.now) in
+        numbers.new ≡ by_line l t (λ i. token_number fs (tally starts.now (i + 1))) (token_list t code.now.text.now) (length l) }
+    ensures marks_after { let l = code.now.lines.now in
+        let t = code.now.tokens.now in
+        let fs = defined_families (listing l t code.now.text.now) in
+        marks.new ≡ by_line l t (λ i. token_mark fs (get_or starts.now i 0)) (token_list t code.now.text.now) (length l) }
 {
-    let n = lines.len();
+    let n = code.lines.len();
     let mut i = 0;
     while i < n {
         let e = i + 1;
         count_before(starts, counts, e);
         let d = number(starts, i);
-        write_line(
-            lines, tokens, text, table, count, counts, memo, numbers, marks, d, i,
-        );
+        write_line(code, table, count, counts, memo, numbers, marks, d, i);
         i = e;
     }
 }

@@ -33,9 +33,8 @@ use Rattle.bits.proofs.EdgeLaws.{length_preds_of, preds_of_at}
 use Rattle.visit.specs.Layout.{making, outs, todo, Kept}
 use Rattle.visit.specs.Numbers.{defining_lines, line_of, Numbered}
 use Rattle.visit.specs.Steps.{coming, given, visited, Listed, Sweep, Started, Turned}
+use Rattle.std.specs.Prelude.{Option, Some, None}
 use Rattle.sweep.specs.Solved.{Holds, Solved, Incoming}
-use Rattle.sweep.specs.declared.Sweeps.{Sweeps}
-use Rattle.sweep.specs.declared.Sweeps.TheVariants.{Done, OverBudget}
 use Rattle.visit.proofs.ListFacts.{any_alike}
 use Rattle.visit.proofs.LayoutLaws.{same_outs, same_preds, kept_none, kept_then, kept_preds, kept_both}
 use Rattle.sweep.proofs.Numbering.{line_at, line_at_line, defines_yes, defines_no, line_at_entry, line_at_definition, line_at_none, definition_number, line_at_own}
@@ -180,7 +179,7 @@ module _ (n r w : ℕ) (nums : List ℕ) where
         preds_kept : preds_of n r l'' ≡ preds_of n r l'
         preds_kept = same_preds n r l' l'' wide (λ v h. T.kept v (λ x y. omega arith))
 
-    pub solve_done : (lₑ : List ℕ) (budget : ℕ) → Kept n r w lₑ l₀ → t < budget → z ≡ false → Solved n r w nums budget lₑ l' (Done (t + 1))
+    pub solve_done : (lₑ : List ℕ) (budget : ℕ) → Kept n r w lₑ l₀ → t < budget → z ≡ false → Solved n r w nums budget lₑ l' (Some (t + 1))
     solve_done lₑ budget K h e =
         let c = sweeps_are (preds_of n r l₀) (defining_lines n nums) t (still e) P.moving in
         let ps : preds_of n r l₀ ≡ preds_of n r lₑ = kept_preds n r w lₑ l₀ wide K in
@@ -194,7 +193,7 @@ module _ (n r w : ℕ) (nums : List ℕ) where
           kept = kept_then n r w lₑ l l' (kept_then n r w lₑ l₀ l K P.kept) Q.kept;
         }
 
-  pub solve_over : (lₑ l₀ l : List ℕ) (t budget : ℕ) → n + 64 ≤ r * 64 → Kept n r w lₑ l₀ → Solving l₀ l t → budget ≤ t → Solved n r w nums budget lₑ l OverBudget
+  pub solve_over : (lₑ l₀ l : List ℕ) (t budget : ℕ) → n + 64 ≤ r * 64 → Kept n r w lₑ l₀ → Solving l₀ l t → budget ≤ t → Solved n r w nums budget lₑ l None
   solve_over lₑ l₀ l t budget wide K P h =
       let c : t < (sweeps (preds_of n r lₑ) (defining_lines n nums)).count =
       rw (← kept_preds n r w lₑ l₀ wide K) (sweeps_more (preds_of n r l₀) (defining_lines n nums) t P.moving) in
@@ -214,18 +213,18 @@ module _ (n r w : ℕ) (nums : List ℕ) where
   first_turned lₑ l₀ l l' z pos wide N S Q e T = solving_own l₀ l' 1 wide (solve_next l₀ l₀ l 0 z pos wide N (solve_start lₑ l₀ S) Q l' e T)
 
   pub first_done : (lₑ l₀ l : List ℕ) (z : Bool) (budget : ℕ) → 0 < n → n + 64 ≤ r * 64 → Numbered n w nums → Started n r w lₑ l₀ → Sweep n r w nums l₀ l z → z ≡ false → (budget ≡ 0 → ⊥)
-      → Solved n r w nums budget lₑ l (Done 1)
+      → Solved n r w nums budget lₑ l (Some 1)
   first_done lₑ l₀ l z budget pos wide N S Q e h = solve_done l₀ l₀ l 0 z pos wide N (solve_start lₑ l₀ S) Q lₑ budget S.kept (omega arith) e
 
-  pub first_over : (lₑ l₀ : List ℕ) (budget : ℕ) → n + 64 ≤ r * 64 → Started n r w lₑ l₀ → budget ≡ 0 → Solved n r w nums budget lₑ l₀ OverBudget
+  pub first_over : (lₑ l₀ : List ℕ) (budget : ℕ) → n + 64 ≤ r * 64 → Started n r w lₑ l₀ → budget ≡ 0 → Solved n r w nums budget lₑ l₀ None
   first_over lₑ l₀ budget wide S e = solve_over lₑ l₀ l₀ 0 budget wide S.kept (solve_start lₑ l₀ S) (omega arith)
 
   pub first_kept : (lₑ l₀ l l' : List ℕ) (z : Bool) → Started n r w lₑ l₀ → Sweep n r w nums l₀ l z → Turned n r l l' → Kept n r w lₑ l'
   unfolding Kept
   first_kept lₑ l₀ l l' z S Q T v h = T.kept v (λ x y. h x (omega arith)) ∙ Q.kept v h ∙ S.kept v h
 
-  pub budget_enough : (budget : ℕ) (lₑ l : List ℕ) (a : Sweeps) → Solved n r w nums budget lₑ l a → n + 1 ≤ budget
-      → a ≡ Done (sweeps (preds_of n r lₑ) (defining_lines n nums)).count
+  pub budget_enough : (budget : ℕ) (lₑ l : List ℕ) (a : Option ℕ) → Solved n r w nums budget lₑ l a → n + 1 ≤ budget
+      → a ≡ Some (sweeps (preds_of n r lₑ) (defining_lines n nums)).count
   budget_enough budget lₑ l a S h =
       S.answers ∙ rw (le-leb (sweeps (preds_of n r lₑ) (defining_lines n nums)).count budget
       (omega (arith, (sweeps_count (preds_of n r lₑ) (defining_lines n nums)).1, length_preds_of n r lₑ)))

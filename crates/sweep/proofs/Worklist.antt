@@ -9,7 +9,7 @@
 use Prim.Native.Nat.{ℕ, zero, suc, ◌+◌, ◌-◌, ◌*◌, ◌<◌, ◌≤◌}
 use mathlib.Core.Path.{◌≡◌, refl, sym, ap, ◌∙◌, fun_ext, subst}
 use mathlib.Core.Logic.{◌≢◌, inl, inr}
-use mathlib.Core.Bool.{Bool, true, false, cond, ◌&&◌, ◌||◌, and-false, true≢false}
+use mathlib.Core.Bool.{Bool, true, false, cond, ◌&&◌, ◌||◌, and-false, or_comm, true≢false}
 use mathlib.Core.List.{List, []}
 use native.Mathlib.Omega.{arith}
 use native.Mathlib.Decide.{ℕ_discrete}
@@ -215,7 +215,7 @@ module _ (n r w : ℕ) (nums : List ℕ) where
 
   pub work_next : (l₀ l l' : List ℕ) (q q' : ℕ) (t y z : Bool) → n + 64 ≤ r * 64 → Agree n r l₀
       → Working l₀ l ((n * r + n * r) * 64) ((n * r + n * r) * 64 + n) q t → q < (n * r + n * r) * 64 + n
-      → Step n r w (q - (n * r + n * r) * 64) nums l l' y → z ≡ (y || t) → First l' (q + 1) ((n * r + n * r) * 64 + n) q'
+      → Step n r w (q - (n * r + n * r) * 64) nums l l' y → z ≡ (t || y) → First l' (q + 1) ((n * r + n * r) * 64 + n) q'
       → Working l₀ l' ((n * r + n * r) * 64) ((n * r + n * r) * 64 + n) q' z
   work_next l₀ l l' q q' t y z wide A W hq P ez F =
       let a = (n * r + n * r) * 64 in
@@ -225,7 +225,7 @@ module _ (n r w : ℕ) (nums : List ℕ) where
         high = F.upto;
         kept = kept_then n r w l₀ l l' W.kept P.kept;
         sweeping = skip_to l₀ l' a (suc k) (q' - a) z refl (omega (arith, F.from, W.low)) (omega (arith, F.upto)) (λ j x y. F.none j (omega (arith, W.low)) (omega (arith, F.from, W.low)))
-            (swept_visit l₀ l l' k t y z wide A W.kept (omega (arith, W.low)) P ez W.sweeping);
+            (swept_visit l₀ l l' k t y z wide A W.kept (omega (arith, W.low)) P (ez ∙ or_comm t y) W.sweeping);
       }
 
   pub work_agree : (l₀ l : List ℕ) (a e q : ℕ) (z : Bool) → n + 64 ≤ r * 64 → Working l₀ l a e q z → Agree n r l₀ → Agree n r l

@@ -4,23 +4,21 @@
 --   Solved                      what `solve` does
 --   Incoming                    what `incoming_row` does
 -- Assumes nothing.
-use Rattle.std.specs.Prelude.{if◌then◌else◌, ℕ, ◌+◌, ◌*◌, ◌<◌, ◌≤◌, ◌≡◌, List, [], leb, length, get_or}
+use Rattle.std.specs.Prelude.{if◌then◌else◌, Option, Some, None, ℕ, ◌+◌, ◌*◌, ◌<◌, ◌≤◌, ◌≡◌, List, [], leb, length, get_or}
 use Rattle.definitions.specs.Lists.{member}
 use Rattle.definitions.specs.Sweeps.{incoming, sweeps}
 use Rattle.bits.specs.Rows.{bit, Away}
 use Rattle.bits.specs.Edges.{preds_of}
 use Rattle.visit.specs.Layout.{making, outs, Kept}
 use Rattle.visit.specs.Numbers.{defining_lines, line_of, Numbered}
-use Rattle.sweep.specs.declared.Sweeps.{Sweeps}
-use Rattle.sweep.specs.declared.Sweeps.TheVariants.{Done, OverBudget}
 
-abbrev pub answer : ℕ → ℕ → Sweeps
-answer budget c = if leb c budget then Done c else OverBudget
+abbrev pub answer : ℕ → ℕ → Option ℕ
+answer budget c = if leb c budget then Some c else None
 
 pub record Holds (n r w : ℕ) (nums : List ℕ) (out : List (List ℕ)) (l : List ℕ) : Type 0 where
   pub rows : (i b : ℕ) → i < n → b ≤ length (defining_lines n nums) → outs n r w l b i ≡ member (line_of n nums b) (get_or out i [])
 
-pub record Solved (n r w : ℕ) (nums : List ℕ) (budget : ℕ) (l₀ l : List ℕ) (a : Sweeps) : Type 0 where
+pub record Solved (n r w : ℕ) (nums : List ℕ) (budget : ℕ) (l₀ l : List ℕ) (a : Option ℕ) : Type 0 where
   pub answers : a ≡ answer budget (sweeps (preds_of n r l₀) (defining_lines n nums)).count
   pub holds : (sweeps (preds_of n r l₀) (defining_lines n nums)).count ≤ budget
       → Holds n r w nums (sweeps (preds_of n r l₀) (defining_lines n nums)).out l

@@ -18,13 +18,6 @@ ghost use Rattle.sweep.specs.Solved.{Solved, Incoming};
 use visit::{coming_row, step_line};
 use words::narrow;
 
-#[derive(Drop)]
-pub enum Sweeps {
-    // How many sweeps there were, the last of which changed nothing.
-    Done(usize),
-    OverBudget,
-}
-
 // After `solve`: the incoming set of line i, in the row in the making. Answers the row's first bit.
 pub fn incoming_row(space: &mut [u64], n: usize, r: usize, w: usize, i: usize) -> usize
     requires { Room n r w space.old × (i < n) × Agree n r space.old }
@@ -46,7 +39,7 @@ fn sweep(space: &mut [u64], defs: &[u16], n: usize, r: usize, w: usize, first: b
     let mut q = bits::find_bit(space, a, e);
     while q < e {
         let c = step_line(space, defs, n, r, w, q - a, first);
-        changed = bits::either(c, changed);
+        changed |= c;
         q = bits::find_bit(space, q + 1, e);
     }
     changed
@@ -73,30 +66,33 @@ fn turn(space: &mut [u64], n: usize, r: usize, w: usize)
     bits::clear_row(space, next, r);
 }
 
-// Sweeps until one changes nothing, or the budget is used up.
-pub fn solve(space: &mut [u64], defs: &[u16], n: usize, r: usize, w: usize, budget: usize) -> Sweeps
+// Sweeps until one changes nothing, and answers how many there were, with that one; none where the budget does not allow it.
+pub fn solve(
+    space: &mut [u64],
+    defs: &[u16],
+    n: usize,
+    r: usize,
+    w: usize,
+    budget: usize,
+) -> Option<usize>
     requires { Room n r w space.old × Numbered n w defs.now × Agree n r space.old }
     ensures { Solved n r w defs.now budget space.old space.new result }
 {
     start(space, n, r, w);
     if budget == 0 {
-        return Sweeps::OverBudget;
+        return None;
     }
-    if sweep(space, defs, n, r, w, true) {
-        turn(space, n, r, w);
-    } else {
-        return Sweeps::Done(1);
+    if !sweep(space, defs, n, r, w, true) {
+        return Some(1);
     }
-    let mut count = 1;
-    while count < budget {
-        count += 1;
-        if sweep(space, defs, n, r, w, false) {
-            turn(space, n, r, w);
-        } else {
-            return Sweeps::Done(count);
+    turn(space, n, r, w);
+    for count in 1..budget {
+        if !sweep(space, defs, n, r, w, false) {
+            return Some(count + 1);
         }
+        turn(space, n, r, w);
     }
-    Sweeps::OverBudget
+    None
 }
 
 // The number of line i, where its family is f; c are given so far. Answers how many are given.
@@ -121,10 +117,8 @@ pub fn number(families: &[u16], f: u16, defs: &mut [u16], n: usize) -> usize
 {
     defs[0] = 0;
     let mut c = 0;
-    let mut i = 1;
-    while i < n {
+    for i in 1..n {
         c = number_line(families, f, defs, i, c);
-        i += 1;
     }
     c
 }

@@ -7,10 +7,10 @@
 --   utf8_ascii, utf8_step, utf8_stop, utf8_end                   the loop over code points
 --   utf8_inside, utf8_fits a code point ends within the bytes, at a place that fits
 -- Assumes nothing.
+use Rattle.std.specs.Prelude.{Option, None, Some}
 use mathlib.Core.Path.{◌≡◌, refl, sym, ◌∙◌}
 use mathlib.Core.Bool.{Bool, true, false, ◌&&◌, cond, and-true, and-false, and_assoc}
 use mathlib.Core.List.{List, [], ◌∷◌}
-use mathlib.Core.Option.{Option, none, some}
 use Prim.Native.Nat.{ℕ, suc, ◌+◌, ◌≤◌, ◌<◌, ◌^◌, zero-le, suc-le-suc}
 use native.Mathlib.Nat.{lt_of_le_of_lt}
 use mir.Syntax.{w64}
@@ -27,29 +27,29 @@ use Rattle.text.proofs.Parts.{drop_step, drop_end}
 -- The leading byte
 
 module _ (a : ℕ) where
-  pub following_1 : a < 0x80 → following a ≡ some []
+  pub following_1 : a < 0x80 → following a ≡ Some []
   unfolding following
   following_1 h = rw (le-leb a 0x7f (omega arith))
 
-  pub following_low : 0x80 ≤ a → a < 0xc2 → following a ≡ none
+  pub following_low : 0x80 ≤ a → a < 0xc2 → following a ≡ None
   unfolding following
   following_low g h =
       rw (lt-leb a 0x7f (omega arith), lt-leb 0xc2 a h, ne_eqb a 0xe0 (λ e. omega arith), lt-leb 0xe1 a (omega arith), ne_eqb a 0xed (λ e. omega arith), lt-leb 0xee a (omega arith), ne_eqb a 0xf0 (λ e. omega arith), lt-leb 0xf1 a (omega arith), ne_eqb a 0xf4 (λ e. omega arith))
 
-  pub following_2 : 0xc2 ≤ a → a < 0xe0 → following a ≡ some (tail ∷ [])
+  pub following_2 : 0xc2 ≤ a → a < 0xe0 → following a ≡ Some (tail ∷ [])
   unfolding following
   following_2 g h = rw (lt-leb a 0x7f (omega arith), le-leb 0xc2 a g, le-leb a 0xdf (omega arith))
 
-  pub following_high : 0xf5 ≤ a → following a ≡ none
+  pub following_high : 0xf5 ≤ a → following a ≡ None
   unfolding following
   following_high g =
       rw (lt-leb a 0x7f (omega arith), lt-leb a 0xdf (omega arith), and-false (leb 0xc2 a), ne_eqb a 0xe0 (λ e. omega arith), lt-leb a 0xec (omega arith), and-false (leb 0xe1 a), ne_eqb a 0xed (λ e. omega arith), lt-leb a 0xef (omega arith), and-false (leb 0xee a), ne_eqb a 0xf0 (λ e. omega arith), lt-leb a 0xf3 (omega arith), and-false (leb 0xf1 a), ne_eqb a 0xf4 (λ e. omega arith))
 
-  following_e : 0xe0 ≤ a → a < 0xf0 → following a ≡ some (to (low a) (high a) ∷ tail ∷ [])
+  following_e : 0xe0 ≤ a → a < 0xf0 → following a ≡ Some (to (low a) (high a) ∷ tail ∷ [])
   unfolding following
   following_e g h = go (eqb a 0xe0) (eqb a 0xed) (leb a 0xec) refl refl refl
     where
-      go : (x y z : Bool) → eqb a 0xe0 ≡ x → eqb a 0xed ≡ y → leb a 0xec ≡ z → following a ≡ some (to (low a) (high a) ∷ tail ∷ [])
+      go : (x y z : Bool) → eqb a 0xe0 ≡ x → eqb a 0xed ≡ y → leb a 0xec ≡ z → following a ≡ Some (to (low a) (high a) ∷ tail ∷ [])
       go true y z p q r = let e : a ≡ 0xe0 = eqb-true a 0xe0 p in rw e
       go false true z p q r = let e : a ≡ 0xed = eqb-true a 0xed q in rw e
       go false false true p q r =
@@ -60,11 +60,11 @@ module _ (a : ℕ) where
           let m : 0xec < a = leb-false a 0xec r in
           rw (lt-leb a 0x7f (omega arith), lt-leb a 0xdf (omega arith), and-false (leb 0xc2 a), p, r, and-false (leb 0xe1 a), q, le-leb 0xee a (omega arith), le-leb a 0xef (omega arith), ne_eqb a 0xf0 (λ e. omega arith), ne_eqb a 0xf4 (λ e. omega arith))
 
-  following_f : 0xf0 ≤ a → a < 0xf5 → following a ≡ some (to (low a) (high a) ∷ tail ∷ tail ∷ [])
+  following_f : 0xf0 ≤ a → a < 0xf5 → following a ≡ Some (to (low a) (high a) ∷ tail ∷ tail ∷ [])
   unfolding following
   following_f g h = go (eqb a 0xf0) (eqb a 0xf4) refl refl
     where
-      go : (x y : Bool) → eqb a 0xf0 ≡ x → eqb a 0xf4 ≡ y → following a ≡ some (to (low a) (high a) ∷ tail ∷ tail ∷ [])
+      go : (x y : Bool) → eqb a 0xf0 ≡ x → eqb a 0xf4 ≡ y → following a ≡ Some (to (low a) (high a) ∷ tail ∷ tail ∷ [])
       go true y p q = let e : a ≡ 0xf0 = eqb-true a 0xf0 p in rw e
       go false true p q = let e : a ≡ 0xf4 = eqb-true a 0xf4 q in rw e
       go false false p q =
@@ -73,10 +73,10 @@ module _ (a : ℕ) where
           rw (lt-leb a 0x7f (omega arith), lt-leb a 0xdf (omega arith), and-false (leb 0xc2 a), ne_eqb a 0xe0 (λ e. omega arith), lt-leb a 0xec (omega arith), and-false (leb 0xe1 a), ne_eqb a 0xed (λ e. omega arith), lt-leb a 0xef (omega arith), and-false (leb 0xee a), p, le-leb 0xf1 a (omega arith), le-leb a 0xf3 (omega arith), q)
 
   module _ (l h : ℕ) (p : l ≡ low a) (q : h ≡ high a) where
-    pub following_3 : 0xe0 ≤ a → a < 0xf0 → following a ≡ some (to l h ∷ tail ∷ [])
+    pub following_3 : 0xe0 ≤ a → a < 0xf0 → following a ≡ Some (to l h ∷ tail ∷ [])
     following_3 g k = rw (p, q) (following_e g k)
 
-    pub following_4 : 0xf0 ≤ a → a < 0xf5 → following a ≡ some (to l h ∷ tail ∷ tail ∷ [])
+    pub following_4 : 0xf0 ≤ a → a < 0xf5 → following a ≡ Some (to l h ∷ tail ∷ tail ∷ [])
     following_4 g k = rw (p, q) (following_f g k)
 
 -- Bytes within ranges
@@ -123,7 +123,7 @@ module _ (s : List ℕ) (i : ℕ) where
 -- One code point
 
 point : Option (List Range) → List ℕ → ℕ
-point o t = elim o [ none ↦ 0 | some rs ↦ cond (starts_within rs t) (suc (length rs)) 0 ]
+point o t = elim o [ None ↦ 0 | Some rs ↦ cond (starts_within rs t) (suc (length rs)) 0 ]
 
 module _ (s : List ℕ) (i : ℕ) where
   pub point_past : length s ≤ i → 0 ≡ code_point (drop i s)
@@ -135,15 +135,15 @@ module _ (s : List ℕ) (i : ℕ) where
     unfolding code_point point
     point_by = rw (drop_step 0 s i h)
 
-    pub point_none : following (get_or s i 0) ≡ none → 0 ≡ code_point (drop i s)
+    pub point_none : following (get_or s i 0) ≡ None → 0 ≡ code_point (drop i s)
     unfolding point
     point_none e = rw (point_by, e)
 
-    pub point_one : following (get_or s i 0) ≡ some [] → 1 ≡ code_point (drop i s)
+    pub point_one : following (get_or s i 0) ≡ Some [] → 1 ≡ code_point (drop i s)
     unfolding point starts_within
     point_one e = rw (point_by, e)
 
-    module _ (rs : List Range) (b : Bool) (e : following (get_or s i 0) ≡ some rs) (q : b ≡ starts_within rs (drop (i + 1) s)) where
+    module _ (rs : List Range) (b : Bool) (e : following (get_or s i 0) ≡ Some rs) (q : b ≡ starts_within rs (drop (i + 1) s)) where
       pub point_yes : (n : ℕ) → b ≡ true → n ≡ suc (length rs) → n ≡ code_point (drop i s)
       unfolding point
       point_yes n f z = rw (point_by, e, ← q, f) z
@@ -161,7 +161,7 @@ after_split (r ∷ rs) [] = refl
 after_split (r ∷ rs) (b ∷ s) = rw (after_split rs s) (sym (and_assoc (within r.low r.high b) (starts_within rs s) (is_utf8 (drop (length rs) s))))
 
 after : Option (List Range) → List ℕ → Bool
-after o s = elim o [ none ↦ false | some rs ↦ utf8_after rs s ]
+after o s = elim o [ None ↦ false | Some rs ↦ utf8_after rs s ]
 
 after_by : (a : ℕ) (s : List ℕ) → is_utf8 (a ∷ s) ≡ after (following a) s
 unfolding utf8_after after
@@ -176,17 +176,17 @@ after_point a s = after_by a s ∙ go (following a)
     met rs false = refl
 
     go : (o : Option (List Range)) → after o s ≡ cond (eqb (point o s) 0) false (is_utf8 (drop (point o s) (a ∷ s)))
-    go none = refl
-    go (some rs) = after_split rs s ∙ met rs (starts_within rs s)
+    go None = refl
+    go (Some rs) = after_split rs s ∙ met rs (starts_within rs s)
 
 point_length : (t : List ℕ) → code_point t ≤ length t
 unfolding code_point
 point_length [] = zero-le
 point_length (a ∷ t) = go (following a)
   where
-    go : (o : Option (List Range)) → elim o [ none ↦ 0 | some rs ↦ cond (starts_within rs t) (suc (length rs)) 0 ] ≤ suc (length t)
-    go none = zero-le
-    go (some rs) = met (starts_within rs t) refl
+    go : (o : Option (List Range)) → elim o [ None ↦ 0 | Some rs ↦ cond (starts_within rs t) (suc (length rs)) 0 ] ≤ suc (length t)
+    go None = zero-le
+    go (Some rs) = met (starts_within rs t) refl
       where
         met : (b : Bool) → starts_within rs t ≡ b → cond b (suc (length rs)) 0 ≤ suc (length t)
         met true e = suc-le-suc (within_length rs t e)

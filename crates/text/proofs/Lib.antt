@@ -4,4 +4,3 @@ pub mod Texts
 pub mod Loops
 pub mod Fills
 pub mod CodePoints
-mod Rules

@@ -9,16 +9,21 @@
 --   starts_short        a text that is shorter than p does not start with it
 --   ends_part           s ends with p, where s is no shorter: its last bytes, as many as p has, are == p
 --   ends_short          a text that is shorter than p does not end with it
+--   pointwise_≟, starts_same, ends_same, any_contains      std's words mean the same
 -- Assumes nothing.
 use mathlib.Core.Path.{◌≡◌, refl, sym, ap, ◌∙◌}
-use mathlib.Core.Bool.{Bool, true, false, ◌&&◌}
+use mathlib.Core.Bool.{Bool, true, false, ◌&&◌, ◌||◌}
 use mathlib.Core.List.{List, [], ◌∷◌}
 use Prim.Native.Nat.{ℕ, ◌-◌, ◌≤◌, ◌<◌}
 use native.Mathlib.Omega.{arith}
-use borrow.Author.Tests.{eq-eqb, ne_eqb, eqb-true, eqb-false, le-leb, lt-leb}
-use lib.Dec.{eqb}
-use lib.ListN.{length, take, length-take}
-use Rattle.definitions.specs.Lists.{◌≟◌, starts_with, ends_with, part}
+use borrow.Author.Tests.{eq-eqb, ne_eqb, eqb-true, eqb-false, le-leb, lt-leb, leb-false}
+use lib.Dec.{eqb, leb}
+use lib.ListN.{length, take, drop, length-take}
+use lib.Pointwise.{pointwise}
+use Rattle.std.specs.Bool.{nat_eq}
+use Rattle.std.specs.List.{list_any}
+use Rattle.std.specs.List as std
+use Rattle.definitions.specs.Lists.{◌≟◌, starts_with, ends_with, contains, any, part}
 use Rattle.text.proofs.Parts.{part_tail}
 
 both_true : (a b : Bool) → (a && b) ≡ true → (a ≡ true) × (b ≡ true)
@@ -61,15 +66,18 @@ pub ≟_sym : (s t : List ℕ) → (s ≟ t) ≡ (t ≟ s)
 pub ≟_length : (s t : List ℕ) → (length s ≡ length t → ⊥) → (s ≟ t) ≡ false
 ≟_length s t h = ne_≟ s t (λ e. h (ap length e))
 
-pub starts_part : (p s : List ℕ) → starts_with p s ≡ (take (length p) s ≟ p)
-unfolding starts_with ◌≟◌
-starts_part [] s = refl
-starts_part (a ∷ p) [] = refl
-starts_part (a ∷ p) (b ∷ s) = rw (starts_part p s) (ap (λ (x : Bool). x && (take (length p) s ≟ p)) (flip (eqb a b) refl))
+eqb_sym : (a b : ℕ) → eqb a b ≡ eqb b a
+eqb_sym a b = flip (eqb a b) refl
   where
     flip : (x : Bool) → eqb a b ≡ x → x ≡ eqb b a
     flip true e = sym (eq-eqb b a (sym (eqb-true a b e)))
     flip false e = sym (ne_eqb b a (λ q. eqb-false a b e (sym q)))
+
+pub starts_part : (p s : List ℕ) → starts_with p s ≡ (take (length p) s ≟ p)
+unfolding starts_with ◌≟◌
+starts_part [] s = refl
+starts_part (a ∷ p) [] = refl
+starts_part (a ∷ p) (b ∷ s) = rw (starts_part p s) (ap (λ (x : Bool). x && (take (length p) s ≟ p)) (eqb_sym a b))
 
 module _ (p s : List ℕ) where
   pub starts_short : length s < length p → starts_with p s ≡ false
@@ -80,3 +88,31 @@ module _ (p s : List ℕ) where
 
   pub ends_short : length s < length p → ends_with p s ≡ false
   ends_short h = rw (lt-leb (length p) (length s) h)
+
+pub pointwise_≟ : (s t : List ℕ) → pointwise nat_eq s t ≡ (s ≟ t)
+unfolding ◌≟◌
+pointwise_≟ [] [] = refl
+pointwise_≟ [] (b ∷ t) = refl
+pointwise_≟ (a ∷ s) [] = refl
+pointwise_≟ (a ∷ s) (b ∷ t) = rw (pointwise_≟ s t)
+
+pub any_contains : (b : ℕ) (s : List ℕ) → list_any (λ y. nat_eq y b) s ≡ contains b s
+unfolding any
+any_contains b [] = refl
+any_contains b (a ∷ s) = rw (any_contains b s) (ap (λ (x : Bool). x || contains b s) (eqb_sym a b))
+
+module _ (p s : List ℕ) where
+  pub starts_same : std.starts_with nat_eq s p ≡ starts_with p s
+  starts_same = pointwise_≟ p (take (length p) s) ∙ ≟_sym p (take (length p) s) ∙ sym (starts_part p s)
+
+  pub ends_same : std.ends_with nat_eq s p ≡ ends_with p s
+  ends_same = pointwise_≟ p (drop (length s - length p) s) ∙ ≟_sym p (drop (length s - length p) s) ∙ go (leb (length p) (length s)) refl
+    where
+      go : (x : Bool) → leb (length p) (length s) ≡ x → (drop (length s - length p) s ≟ p) ≡ ends_with p s
+      go true e = rw e
+      go false e =
+          let h : length s < length p = leb-false (length p) (length s) e in
+          let z : length s - length p ≡ 0 = omega arith in
+          rw (z, e) (≟_length s p (λ q. omega arith))
+
+pub ruleset std_words = (pointwise_≟, any_contains, starts_same, ends_same)

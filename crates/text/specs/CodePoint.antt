@@ -3,8 +3,7 @@
 --   starts_within rs s    the bytes s start with one byte of each range
 --   code_point s          how many bytes long the code point is that s starts with, 0 where s starts with none
 -- Assumes nothing.
-use Rattle.std.specs.Prelude.{if◌then◌else◌, ℕ, suc, Bool, true, false, ◌&&◌, List, [], ◌∷◌, eqb, length}
-use Rattle.std.proofs.Math.Option.{none, some}
+use Rattle.std.specs.Prelude.{if◌then◌else◌, ℕ, suc, Bool, true, false, ◌&&◌, List, [], ◌∷◌, eqb, length, None, Some}
 use Rattle.definitions.specs.Utf8.{Range, within, following}
 
 abbrev pub low : ℕ → ℕ
@@ -20,4 +19,4 @@ starts_within (r ∷ rs) (b ∷ s) = within r.low r.high b && starts_within rs s
 
 unfoldable pub code_point : List ℕ → ℕ
 code_point [] = 0
-code_point (a ∷ s) = elim (following a) [ none ↦ 0 | some rs ↦ (if starts_within rs s then suc (length rs) else 0) ]
+code_point (a ∷ s) = elim (following a) [ None ↦ 0 | Some rs ↦ (if starts_within rs s then suc (length rs) else 0) ]

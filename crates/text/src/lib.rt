@@ -6,114 +6,70 @@
 
 #![tactic(auto)]
 
-ghost use Rattle.std.specs.Prelude.{◌≡◌, [], ◌∷◌, ◌-◌, ◌≤◌, ◌<◌, length, get_or, drop};
+ghost use Rattle.std.specs.Prelude.{◌≡◌, [], ◌∷◌, ◌≤◌, ◌<◌, length, get_or, drop};
 ghost use Rattle.definitions.specs.Lists.{◌≟◌, starts_with, ends_with, contains, part};
 ghost use Rattle.definitions.specs.Utf8.{is_utf8, to, tail};
 ghost use Rattle.text.specs.CodePoint.{low, high, starts_within, code_point};
-ghost use Rattle.text.specs.Zeroed.{zeroed};
-
-fn wide(x: u32) -> usize
-    ensures { result ≡ x }
-{
-    x as usize
-}
-
-// n - m, 0 where m is larger.
-pub fn less(n: usize, m: usize) -> usize
-    ensures { result ≡ n - m }
-{
-    if m < n { n - m } else { 0 }
-}
+ghost use Rattle.text.specs.Zeroed.{filled_from};
 
 // The word at k, 0 past the end.
 pub fn word(ws: &[u32], k: usize) -> usize
     ensures { result ≡ get_or ws.now k 0 }
 {
-    if k < ws.len() { wide(ws[k]) } else { 0 }
+    ws.get(k).copied().unwrap_or(0) as usize
 }
 
 pub fn wide_byte(b: u8) -> usize
     ensures { (result ≡ b) × (result < 256) }
 {
-    b as usize
+    usize::from(b)
 }
 
 // The byte at k, 0 past the end.
 pub fn byte(s: &[u8], k: usize) -> usize
     ensures { (result ≡ get_or s.now k 0) × (result < 256) }
 {
-    if k < s.len() { wide_byte(s[k]) } else { 0 }
+    wide_byte(s.get(k).copied().unwrap_or(0))
 }
 
 // The bytes from a up to e, as many of them as there are.
 pub fn part(s: &[u8], a: usize, e: usize) -> &[u8]
     ensures { result.now ≡ part a e s.now }
 {
-    if a < e {
-        if e <= s.len() {
-            &s[a..e]
-        } else {
-            if a <= s.len() { &s[a..] } else { &s[..0] }
-        }
-    } else {
-        &s[..0]
-    }
+    let e = e.min(s.len());
+    if a < e { &s[a..e] } else { &s[..0] }
 }
 
 // The same bytes.
+#[tactic(auto, using(crate::proofs::Texts::std_words))]
 pub fn equal(a: &[u8], b: &[u8]) -> bool
     ensures { result ≡ (a.now ≟ b.now) }
 {
-    if a.len() != b.len() {
-        return false;
-    }
-    let mut i = 0;
-    while i < a.len() {
-        if a[i] != b[i] {
-            return false;
-        }
-        i += 1;
-    }
-    true
+    a == b
 }
 
 // The text s starts with p.
+#[tactic(auto, using(crate::proofs::Texts::std_words))]
 pub fn starts_with(s: &[u8], p: &[u8]) -> bool
     ensures { result ≡ starts_with p.now s.now }
 {
-    let n = p.len();
-    if n <= s.len() {
-        equal(&s[..n], p)
-    } else {
-        false
-    }
+    s.starts_with(p)
 }
 
 // The text s ends with p.
+#[tactic(auto, using(crate::proofs::Texts::std_words))]
 pub fn ends_with(s: &[u8], p: &[u8]) -> bool
     ensures { result ≡ ends_with p.now s.now }
 {
-    let n = p.len();
-    if n <= s.len() {
-        let at = s.len() - n;
-        equal(&s[at..], p)
-    } else {
-        false
-    }
+    s.ends_with(p)
 }
 
 // The byte b stands in s.
+#[tactic(auto, using(crate::proofs::Texts::std_words))]
 pub fn contains(s: &[u8], b: u8) -> bool
     ensures { result ≡ contains b s.now }
 {
-    let mut i = 0;
-    while i < s.len() {
-        if s[i] == b {
-            return true;
-        }
-        i += 1;
-    }
-    false
+    s.contains(&b)
 }
 
 // UTF-8
@@ -141,77 +97,50 @@ fn high(a: u8) -> u8
 }
 
 // There is a byte at i, and it is from l to h.
+#[tactic(auto, using(crate::proofs::CodePoints::code_points))]
 fn one_within(s: &[u8], i: usize, l: u8, h: u8) -> bool
     ensures { result ≡ starts_within (to l h ∷ []) (drop i s.now) }
 {
-    if i < s.len() {
-        let b = s[i];
-        if l <= b { b <= h } else { false }
-    } else {
-        false
-    }
+    s.get(i).is_some_and(|b| l <= *b && *b <= h)
 }
 
 // The same, and a tail byte behind it.
+#[tactic(auto, using(crate::proofs::CodePoints::code_points))]
 fn two_within(s: &[u8], i: usize, l: u8, h: u8) -> bool
     requires { i ≤ length s.now }
     ensures { result ≡ starts_within (to l h ∷ tail ∷ []) (drop i s.now) }
 {
-    if one_within(s, i, l, h) {
-        one_within(s, i + 1, 0x80, 0xbf)
-    } else {
-        false
-    }
+    one_within(s, i, l, h) && one_within(s, i + 1, 0x80, 0xbf)
 }
 
 // The same, and two tail bytes behind it.
+#[tactic(auto, using(crate::proofs::CodePoints::code_points))]
 fn three_within(s: &[u8], i: usize, l: u8, h: u8) -> bool
     requires { i ≤ length s.now }
     ensures { result ≡ starts_within (to l h ∷ tail ∷ tail ∷ []) (drop i s.now) }
 {
-    if one_within(s, i, l, h) {
-        two_within(s, i + 1, 0x80, 0xbf)
-    } else {
-        false
-    }
+    one_within(s, i, l, h) && two_within(s, i + 1, 0x80, 0xbf)
 }
 
 // How many bytes long the code point at i is, 0 where there is none.
+#[tactic(auto, using(crate::proofs::CodePoints::code_points))]
 pub fn code_point(s: &[u8], i: usize) -> usize
     ensures { result ≡ code_point (drop i s.now) }
 {
-    if s.len() <= i {
+    let Some(&a) = s.get(i) else {
         return 0;
+    };
+    match a {
+        0..=0x7f => 1,
+        0xc2..=0xdf if one_within(s, i + 1, 0x80, 0xbf) => 2,
+        0xe0..=0xef if two_within(s, i + 1, low(a), high(a)) => 3,
+        0xf0..=0xf4 if three_within(s, i + 1, low(a), high(a)) => 4,
+        _ => 0,
     }
-    let a = s[i];
-    if a < 0x80 {
-        return 1;
-    }
-    if a < 0xc2 {
-        return 0;
-    }
-    if a < 0xe0 {
-        if one_within(s, i + 1, 0x80, 0xbf) {
-            return 2;
-        }
-        return 0;
-    }
-    if a < 0xf0 {
-        if two_within(s, i + 1, low(a), high(a)) {
-            return 3;
-        }
-        return 0;
-    }
-    if a < 0xf5 {
-        if three_within(s, i + 1, low(a), high(a)) {
-            return 4;
-        }
-        return 0;
-    }
-    0
 }
 
-// The bytes are UTF-8. A byte below 0x80 is passed over without asking `code_point`.
+// The bytes are UTF-8. A byte below 0x80 is passed over without asking `code_point`. Not std's `from_utf8`: that tells what it takes by
+// decoding and encoding again, and no lemma ties this to the ranges of RFC 3629; and other readers need `code_point`.
 pub fn is_utf8(s: &[u8]) -> bool
     ensures { result ≡ is_utf8 s.now }
 {
@@ -230,34 +159,45 @@ pub fn is_utf8(s: &[u8]) -> bool
     true
 }
 
-// Zeroing: what stands before place `from` is kept.
+// Zeroing
 
-pub fn zero_bytes(bytes: &mut [u8], from: usize)
-    ensures { bytes.new ≡ zeroed from bytes.old }
-{
-    let mut i = from;
-    while i < bytes.len() {
-        bytes[i] = 0;
-        i += 1;
-    }
+// An unsigned number of any size.
+pub trait Unsigned: Copy {
+    ghost ZERO: { Self };
+
+    const ZERO: Self;
 }
 
-pub fn zero_words32(words: &mut [u32], from: usize)
-    ensures { words.new ≡ zeroed from words.old }
-{
-    let mut i = from;
-    while i < words.len() {
-        words[i] = 0;
-        i += 1;
-    }
+impl Unsigned for u8 {
+    ghost ZERO = { 0 };
+
+    const ZERO: u8 = 0;
 }
 
-pub fn zero_words64(words: &mut [u64], from: usize)
-    ensures { words.new ≡ zeroed from words.old }
+impl Unsigned for u16 {
+    ghost ZERO = { 0 };
+
+    const ZERO: u16 = 0;
+}
+
+impl Unsigned for u32 {
+    ghost ZERO = { 0 };
+
+    const ZERO: u32 = 0;
+}
+
+impl Unsigned for u64 {
+    ghost ZERO = { 0 };
+
+    const ZERO: u64 = 0;
+}
+
+// Zeroes the words from place `from` on: what stands before is kept.
+pub fn zero<T: Unsigned>(words: &mut [T], from: usize)
+    ensures { words.new ≡ filled_from from T.ZERO words.old }
 {
-    let mut i = from;
-    while i < words.len() {
-        words[i] = 0;
-        i += 1;
+    let at = from.min(words.len());
+    for word in &mut words[at..] {
+        *word = T::ZERO;
     }
 }

@@ -4,10 +4,10 @@
 --   web_call_demand          the web call
 --   choose_call_demand       the chooser
 -- Assumes nothing.
+use Rattle.std.specs.Prelude.{Option, None, Some}
 use Prim.Native.Nat.{ℕ, zero, suc, ◌-◌}
 use mathlib.Core.Path.{◌≡◌, refl, ◌∙◌}
 use mathlib.Core.List.{List, [], ◌∷◌, ◌++◌}
-use mathlib.Core.Option.{Option, none, some}
 use native.Mathlib.Omega.{arith}
 use lib.ListN.{length, get_or, replicate}
 use Rattle.definitions.specs.Model.{Line}
@@ -23,7 +23,7 @@ use Rattle.theory.proofs.TwoRuns.{Fits, two_runs}
 use Rattle.theory.proofs.Demand.{accepted_fits, accepted_chains}
 
 abbrev pub Demand3Of {ℓ} : List Line → List ℕ → Type (ℓ + 1)
-Demand3Of L numbers = (G : List (List ℕ)) → flow_graph L ≡ some G → TwoRuns {ℓ} L G numbers × ChainNumbers L G numbers
+Demand3Of L numbers = (G : List (List ℕ)) → flow_graph L ≡ Some G → TwoRuns {ℓ} L G numbers × ChainNumbers L G numbers
 
 -- Zeros behind the numbers
 
@@ -61,7 +61,7 @@ module _ (l t x : List ℕ) (o : Lent) where
   web_call_demand s e = asked (web_refusal l t x o) e
     where
       called : Option ℕ → Called ℕ
-      called q = elim q [ some n ↦ record { answer = refused n; lent = o } | none ↦ webs_written (webs (listing l t x)) o ]
+      called q = elim q [ Some n ↦ record { answer = refused n; lent = o } | None ↦ webs_written (webs (listing l t x)) o ]
 
       answered : (a : Answer Numbered) → webs (listing l t x) ≡ a → (webs_written a o).answer ≡ accepted s
           → Demand3Of {ℓ} (listing l t x) (webs_written a o).lent.numbers
@@ -69,8 +69,8 @@ module _ (l t x : List ℕ) (o : Lent) where
       answered (accepted r) q e = filled_demand (listing l t x) r o.numbers q
 
       asked : (q : Option ℕ) → (called q).answer ≡ accepted s → Demand3Of {ℓ} (listing l t x) (called q).lent.numbers
-      asked (some n) e = let z : ◌≡◌ {A = ℕ} 0 1 = cc in absurd (omega arith)
-      asked none e = answered (webs (listing l t x)) refl e
+      asked (Some n) e = let z : ◌≡◌ {A = ℕ} 0 1 = cc in absurd (omega arith)
+      asked None e = answered (webs (listing l t x)) refl e
 
   pub choose_call_demand {ℓ} : (s : ℕ) → (choose_call l t x o).answer ≡ accepted (by_webs s)
       → Demand3Of {ℓ} (listing l t x) (choose_call l t x o).lent.numbers
@@ -81,7 +81,7 @@ module _ (l t x : List ℕ) (o : Lent) where
       chosen a = elim a [ refused n ↦ chose_splits (splits (listing l t x)) | accepted r ↦ chose_webs r ]
 
       called : Option ℕ → Called Chosen
-      called q = elim q [ some n ↦ record { answer = refused n; lent = o } | none ↦ chosen_written (chosen (webs (listing l t x))) o ]
+      called q = elim q [ Some n ↦ record { answer = refused n; lent = o } | None ↦ chosen_written (chosen (webs (listing l t x))) o ]
 
       answered : (a : Answer Numbered) → webs (listing l t x) ≡ a → (chosen_written (chosen a) o).answer ≡ accepted (by_webs s)
           → Demand3Of {ℓ} (listing l t x) (chosen_written (chosen a) o).lent.numbers
@@ -89,5 +89,5 @@ module _ (l t x : List ℕ) (o : Lent) where
       answered (accepted r) q e = filled_demand (listing l t x) r o.numbers q
 
       asked : (q : Option ℕ) → (called q).answer ≡ accepted (by_webs s) → Demand3Of {ℓ} (listing l t x) (called q).lent.numbers
-      asked (some n) e = let z : ◌≡◌ {A = ℕ} 0 1 = cc in absurd (omega arith)
-      asked none e = answered (webs (listing l t x)) refl e
+      asked (Some n) e = let z : ◌≡◌ {A = ℕ} 0 1 = cc in absurd (omega arith)
+      asked None e = answered (webs (listing l t x)) refl e

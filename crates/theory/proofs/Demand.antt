@@ -4,12 +4,12 @@
 --   accepted_runs     both runs read the same values
 --   demand_3          the last two together: the whole of demand 3
 -- Assumes nothing.
+use Rattle.std.specs.Prelude.{Some}
 use Prim.Native.Nat.{ℕ, zero, suc}
 use mathlib.Core.Path.{◌≡◌, sym, ap, ◌∙◌}
 use mathlib.Core.Logic.{inl, inr}
 use mathlib.Core.Bool.{true, false, ◌&&◌}
 use mathlib.Core.List.{List}
-use mathlib.Core.Option.{some}
 use native.Mathlib.Omega.{arith}
 use lib.Dec.{eqb}
 use Rattle.definitions.specs.Lists.{is_some}
@@ -29,7 +29,7 @@ use Rattle.theory.proofs.Lines.{defined_token, names_true, defines_first, line_d
 use Rattle.theory.proofs.Accepted.{accepted_lines, all_webs, number_family, number_of, key_definition, key_read, number_of_entry, number_of_iff}
 use Rattle.theory.proofs.TwoRuns.{Fits, two_runs}
 
-module _ (L : List Line) (G : List (List ℕ)) (r : Numbered) (e : webs L ≡ accepted r) (flow : flow_graph L ≡ some G) where
+module _ (L : List Line) (G : List (List ℕ)) (r : Numbered) (e : webs L ≡ accepted r) (flow : flow_graph L ≡ Some G) where
   abbrev number : List ℕ → ℕ → ℕ
   number f d = number_of L G (accepted_lines L r e) flow f d
 

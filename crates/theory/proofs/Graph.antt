@@ -5,12 +5,12 @@
 --   predecessors_length        one for each line
 --   predecessors_enter         they say the same edges
 -- Assumes nothing.
+use Rattle.std.specs.Prelude.{Option, None, Some}
 use Prim.Native.Nat.{ℕ, ◌<◌}
 use mathlib.Core.Path.{◌≡◌, sym, ap, ◌∙◌, fun_ext}
 use mathlib.Core.Logic.{inl, inr}
 use mathlib.Core.Bool.{Bool, true, false, ◌&&◌, false≢true}
 use mathlib.Core.List.{List, [], map}
-use mathlib.Core.Option.{Option, none, some}
 use native.Mathlib.Omega.{arith}
 use lib.Dec.{ltb}
 use borrow.Author.Tests.{ltb-true}
@@ -23,20 +23,20 @@ use Rattle.theory.proofs.Bools.{and_both, and_split, same_test, lt_or_ge}
 use Rattle.theory.proofs.ListLaws.{member_filter, filter_passes, range_member, length_range, getD_map_up_to}
 use Rattle.theory.proofs.OneDefinition.{enters, enters_inside}
 
-pub flow_shape : (L : List Line) (G : List (List ℕ)) → flow_graph L ≡ some G → (b : Blocks) × (G ≡ map (successors L b) (up_to (length L)))
+pub flow_shape : (L : List Line) (G : List (List ℕ)) → flow_graph L ≡ Some G → (b : Blocks) × (G ≡ map (successors L b) (up_to (length L)))
 unfolding flow_graph
 flow_shape L G e = go (blocks L) (gotos_lead L) e
   where
-    go : (o : Option Blocks) (g : Bool) → (o >>= λ b. require g >>= λ _. some (map (successors L b) (up_to (length L)))) ≡ some G
+    go : (o : Option Blocks) (g : Bool) → (o >>= λ b. require g >>= λ _. Some (map (successors L b) (up_to (length L)))) ≡ Some G
         → (b : Blocks) × (G ≡ map (successors L b) (up_to (length L)))
-    go none g e = let z : ◌≡◌ {A = ℕ} 0 1 = cc in absurd (omega arith)
-    go (some b) true e = (b, cc)
-    go (some b) false e = let z : ◌≡◌ {A = ℕ} 0 1 = cc in absurd (omega arith)
+    go None g e = let z : ◌≡◌ {A = ℕ} 0 1 = cc in absurd (omega arith)
+    go (Some b) true e = (b, cc)
+    go (Some b) false e = let z : ◌≡◌ {A = ℕ} 0 1 = cc in absurd (omega arith)
 
 abbrev pub predecessor_lists : List Line → List (List ℕ) → List (List ℕ)
 predecessor_lists L G = map (predecessors G) (up_to (length L))
 
-module _ (L : List Line) (G : List (List ℕ)) (flow : flow_graph L ≡ some G) where
+module _ (L : List Line) (G : List (List ℕ)) (flow : flow_graph L ≡ Some G) where
   pub flow_length : length G ≡ length L
   flow_length = let s = flow_shape L G flow in rw (s.1, length-map) (length_range 0 (length L))
 

@@ -8,11 +8,13 @@
 --   first_of_definition              on a line that defines f the first token of f is token 0
 --   first_names                      the first token of f names f, where one does
 -- Assumes nothing.
+use Rattle.std.specs.Prelude.{Option, None, Some}
+use Rattle.std.specs.Option.{option_map}
+use Rattle.std.proofs.lemmas.Option.{none-some, same_Some}
 use Prim.Native.Nat.{ℕ, zero, suc, ◌-◌, ◌<◌}
 use mathlib.Core.Path.{◌≡◌, refl, sym, ap, ◌∙◌}
 use mathlib.Core.Bool.{Bool, true, false, cond, ◌&&◌, ◌||◌, not, false≢true}
 use mathlib.Core.List.{List, [], ◌∷◌, ◌++◌}
-use mathlib.Core.Option.{Option, none, some, map, none-ne-some, some-injective}
 use native.Mathlib.Omega.{arith}
 use lib.Dec.{eqb, leb}
 use lib.ListN.{length, get_or, drop}
@@ -34,22 +36,22 @@ use Rattle.theory.proofs.FamilyWebs.{def_line_inside}
 abbrev pub defined_token : Line → ℕ → Bool
 defined_token l k = eqb k 0 && is_some (defines l)
 
-pub names_of : (t : Token) (x : Family) → fam_of t ≡ some x → names x.name t ≡ true
+pub names_of : (t : Token) (x : Family) → fam_of t ≡ Some x → names x.name t ≡ true
 unfolding names
 names_of t x e = rw (e, names) (≟_self x.name)
 
-pub names_true : (f : List ℕ) (t : Token) → names f t ≡ true → (x : Family) × (fam_of t ≡ some x) × (x.name ≡ f)
+pub names_true : (f : List ℕ) (t : Token) → names f t ≡ true → (x : Family) × (fam_of t ≡ Some x) × (x.name ≡ f)
 unfolding names
 names_true f t e = go (fam_of t) refl e
   where
-    go : (o : Option Family) → fam_of t ≡ o → (elim o [ none ↦ false | some x ↦ x.name ≟ f ]) ≡ true
-        → (x : Family) × (fam_of t ≡ some x) × (x.name ≡ f)
-    go none q e = absurd (false≢true e)
-    go (some x) q e = (x, q, ≟_true x.name f e)
+    go : (o : Option Family) → fam_of t ≡ o → (elim o [ None ↦ false | Some x ↦ x.name ≟ f ]) ≡ true
+        → (x : Family) × (fam_of t ≡ Some x) × (x.name ≡ f)
+    go None q e = absurd (false≢true e)
+    go (Some x) q e = (x, q, ≟_true x.name f e)
 
 -- The defined register
 
-assignment_lhs : (l : Line) (a : Assignment) → assignment l ≡ some a → a.lhs ≡ token l 0
+assignment_lhs : (l : Line) (a : Assignment) → assignment l ≡ Some a → a.lhs ≡ token l 0
 unfolding assignment
 assignment_lhs l a e =
     go (leb 2 (length l.tokens))
@@ -59,58 +61,58 @@ assignment_lhs l a e =
     built : List Token → Assignment
     built expr = record { lhs = token l 0; expr = expr }
 
-    last : (b : Bool) (expr : List Token) → (require b >>= λ _. some (built expr)) ≡ some a → a.lhs ≡ token l 0
-    last true expr e = ap (λ (a : Assignment). a.lhs) (sym (some-injective _ _ e))
-    last false expr e = absurd (none-ne-some _ e)
+    last : (b : Bool) (expr : List Token) → (require b >>= λ _. Some (built expr)) ≡ Some a → a.lhs ≡ token l 0
+    last true expr e = ap (λ (a : Assignment). a.lhs) (sym (same_Some _ _ e))
+    last false expr e = absurd (none-some _ e)
 
     go : (b c : Bool) (o : Option (List Token))
-        → (require b >>= λ _. require c >>= λ _. o >>= λ expr. require (leb 1 (length expr)) >>= λ _. some (built expr)) ≡ some a
+        → (require b >>= λ _. require c >>= λ _. o >>= λ expr. require (leb 1 (length expr)) >>= λ _. Some (built expr)) ≡ Some a
         → a.lhs ≡ token l 0
-    go false c o e = absurd (none-ne-some _ e)
-    go true false o e = absurd (none-ne-some _ e)
-    go true true none e = absurd (none-ne-some _ e)
-    go true true (some expr) e = last (leb 1 (length expr)) expr e
+    go false c o e = absurd (none-some _ e)
+    go true false o e = absurd (none-some _ e)
+    go true true None e = absurd (none-some _ e)
+    go true true (Some expr) e = last (leb 1 (length expr)) expr e
 
-pub defines_first : (l : Line) (f : List ℕ) → defines l ≡ some f → (x : Family) × (fam_of (token l 0) ≡ some x) × (x.name ≡ f)
+pub defines_first : (l : Line) (f : List ℕ) → defines l ≡ Some f → (x : Family) × (fam_of (token l 0) ≡ Some x) × (x.name ≡ f)
 unfolding defines
 defines_first l f e = go (assignment l) refl e
   where
     Defined : Type 0
-    Defined = (x : Family) × (fam_of (token l 0) ≡ some x) × (x.name ≡ f)
+    Defined = (x : Family) × (fam_of (token l 0) ≡ Some x) × (x.name ≡ f)
 
     fits : Assignment → Family → Bool
     fits a x = leb 32 x.width && not (is_var x.name) && not (any (names x.name) a.expr)
 
-    last : (b : Bool) (x : Family) → fam_of (token l 0) ≡ some x → (require b >>= λ _. some x.name) ≡ some f → Defined
-    last true x q e = (x, q, some-injective _ _ e)
-    last false x q e = absurd (none-ne-some _ e)
+    last : (b : Bool) (x : Family) → fam_of (token l 0) ≡ Some x → (require b >>= λ _. Some x.name) ≡ Some f → Defined
+    last true x q e = (x, q, same_Some _ _ e)
+    last false x q e = absurd (none-some _ e)
 
     with_family : (a : Assignment) → a.lhs ≡ token l 0 → (o : Option Family) → fam_of a.lhs ≡ o
-        → (o >>= λ x. require (fits a x) >>= λ _. some x.name) ≡ some f → Defined
-    with_family a h none q e = absurd (none-ne-some _ e)
-    with_family a h (some x) q e = last (fits a x) x (ap fam_of (sym h) ∙ q) e
+        → (o >>= λ x. require (fits a x) >>= λ _. Some x.name) ≡ Some f → Defined
+    with_family a h None q e = absurd (none-some _ e)
+    with_family a h (Some x) q e = last (fits a x) x (ap fam_of (sym h) ∙ q) e
 
     go : (o : Option Assignment) → assignment l ≡ o
-        → (o >>= λ a. fam_of a.lhs >>= λ x. require (fits a x) >>= λ _. some x.name) ≡ some f → Defined
-    go none q e = absurd (none-ne-some _ e)
-    go (some a) q e = with_family a (assignment_lhs l a q) (fam_of a.lhs) refl e
+        → (o >>= λ a. fam_of a.lhs >>= λ x. require (fits a x) >>= λ _. Some x.name) ≡ Some f → Defined
+    go None q e = absurd (none-some _ e)
+    go (Some a) q e = with_family a (assignment_lhs l a q) (fam_of a.lhs) refl e
 
-pub defines_names : (l : Line) (f : List ℕ) → defines l ≡ some f → names f (token l 0) ≡ true
+pub defines_names : (l : Line) (f : List ℕ) → defines l ≡ Some f → names f (token l 0) ≡ true
 defines_names l f e = let x = defines_first l f e in rw (← x.2) (names_of (token l 0) x.0 x.1)
 
 -- Defining lines
 
-pub defines_at_line : (L : List Line) (f : List ℕ) (i : ℕ) → 0 < i → i < length L → defines (line L i) ≡ some f → defines_at L f i ≡ true
+pub defines_at_line : (L : List Line) (f : List ℕ) (i : ℕ) → 0 < i → i < length L → defines (line L i) ≡ Some f → defines_at L f i ≡ true
 defines_at_line L f i p h e =
     member_filter (λ i. is_def_of f (line L i)) (range 1 (length L - 1)) i
     ∙ and_both (range_member i 1 (length L - 1) p (omega arith)) (rw (e, is_def_of) (≟_self f))
 
-pub line_defines : (L : List Line) (f : List ℕ) (i : ℕ) → defines_at L f i ≡ true → defines (line L i) ≡ some f
+pub line_defines : (L : List Line) (f : List ℕ) (i : ℕ) → defines_at L f i ≡ true → defines (line L i) ≡ Some f
 line_defines L f i e = go (defines (line L i)) refl (def_line_inside L f i e).2
   where
-    go : (o : Option (List ℕ)) → defines (line L i) ≡ o → (elim o [ none ↦ false | some g ↦ g ≟ f ]) ≡ true → defines (line L i) ≡ some f
-    go none q e = absurd (false≢true e)
-    go (some g) q e = rw (≟_true g f e) at q
+    go : (o : Option (List ℕ)) → defines (line L i) ≡ o → (elim o [ None ↦ false | Some g ↦ g ≟ f ]) ≡ true → defines (line L i) ≡ Some f
+    go None q e = absurd (false≢true e)
+    go (Some g) q e = rw (≟_true g f e) at q
 
 -- Reading lines
 
@@ -141,11 +143,11 @@ unfolding position
 first_at p [] e = refl
 first_at p (t ∷ ts) e = rw e
 
-pub first_of_definition : (L : List Line) (f : List ℕ) (i : ℕ) → defines (line L i) ≡ some f → first_on L i f ≡ 0
+pub first_of_definition : (L : List Line) (f : List ℕ) (i : ℕ) → defines (line L i) ≡ Some f → first_on L i f ≡ 0
 first_of_definition L f i e = first_at (names f) (line L i).tokens (defines_names (line L i) f e)
 
 abbrev Found : (Token → Bool) → List Token → Type 0
-Found p ts = (k : ℕ) × (position p ts ≡ some k) × (p (get_or ts k no_token) ≡ true)
+Found p ts = (k : ℕ) × (position p ts ≡ Some k) × (p (get_or ts k no_token) ≡ true)
 
 position_found : (p : Token → Bool) (ts : List Token) → any p ts ≡ true → Found p ts
 unfolding any position
@@ -153,9 +155,9 @@ position_found p [] e = absurd (false≢true e)
 position_found p (t ∷ ts) e = go (p t) refl e (position_found p ts)
   where
     go : (b : Bool) → p t ≡ b → (b || any p ts) ≡ true → (any p ts ≡ true → Found p ts)
-        → (k : ℕ) × (cond b (some 0) (map suc (position p ts)) ≡ some k) × (p (get_or (t ∷ ts) k no_token) ≡ true)
+        → (k : ℕ) × (cond b (Some 0) (option_map suc (position p ts)) ≡ Some k) × (p (get_or (t ∷ ts) k no_token) ≡ true)
     go true q e rest = (0, refl, q)
-    go false q e rest = let r = rest e in (suc r.0, ap (map suc) r.1, r.2)
+    go false q e rest = let r = rest e in (suc r.0, ap (option_map suc) r.1, r.2)
 
 pub first_names : (L : List Line) (f : List ℕ) (i : ℕ) → any (names f) (line L i).tokens ≡ true
     → names f (token_at L i (first_on L i f)) ≡ true

@@ -8,13 +8,14 @@
 --   sample_demand         demand 3 of a listing with a loop, a branch, a family whose address is taken, and a register that is used
 --                         again; sample_accepted, sample_graph and sample_numbers have what is answered of it
 -- Assumes nothing.
+use Rattle.std.specs.Prelude.{Option, None, Some}
+use mathlib.Core.Option as maybe
 use Prim.Native.Nat.{ℕ, ◌+◌}
 use Prim.Native.String.{String}
 use mathlib.Core.Path.{◌≡◌, refl, sym, ap}
 use mathlib.Core.Logic.{◌≢◌, inl, inr}
 use mathlib.Core.Bool.{Bool, true, false, cond, ◌&&◌}
 use mathlib.Core.List.{List, [], ◌∷◌, ◌++◌, map}
-use mathlib.Core.Option.{Option, none, some, none-ne-some}
 use native.Mathlib.Omega.{arith}
 use lib.Dec.{eqb, ltb}
 use borrow.Author.Tests.{eqb-true, ltb-true}
@@ -53,7 +54,7 @@ abbrev p : String → Token
 p s = tok (ascii s) Punct
 
 abbrev at : ℕ → List Token → Line
-at indent ts = pseudo_line none indent ts
+at indent ts = pseudo_line None indent ts
 
 -- `r = n;`, `g(r);`, `if (r) {`, `return r;`, `}`
 abbrev put : String → String → List Token
@@ -93,7 +94,7 @@ zeros L = replicate (length (all_tokens L)) 0
 
 -- Refuting the chain half: two definitions that the answer tells apart and these numbers do not
 
-chains_refuted : (L : List Line) (numbers : List ℕ) → webs L ≡ accepted (answered L) → flow_graph L ≡ some (graph L)
+chains_refuted : (L : List Line) (numbers : List ℕ) → webs L ≡ accepted (answered L) → flow_graph L ≡ Some (graph L)
     → (f : List ℕ) (a b : ℕ) → address_taken L f ≡ false → is_definition (defines_at L f) a ≡ true → is_definition (defines_at L f) b ≡ true
     → definition_number L (answered L).numbers a ≢ definition_number L (answered L).numbers b
     → definition_number L numbers a ≡ definition_number L numbers b → ¬ ChainNumbers L (graph L) numbers
@@ -110,7 +111,7 @@ unfolding answer
 one_web = chains_refuted twice (zeros twice) refl refl rax 2 4 refl refl refl (omega arith) refl
 
 -- the runs alone would let it pass, on every listing
-pub one_web_runs {ℓ} : (L : List Line) (G : List (List ℕ)) → flow_graph L ≡ some G → TwoRuns {ℓ} L G (zeros L)
+pub one_web_runs {ℓ} : (L : List Line) (G : List (List ℕ)) → flow_graph L ≡ Some G → TwoRuns {ℓ} L G (zeros L)
 one_web_runs L G flow Value = two_runs L G (zeros L) fits (λ i j e. (steps_inside L G flow i j e).1)
   where
     zero_at : (i k : ℕ) → number_at L (zeros L) i k ≡ 0
@@ -137,13 +138,13 @@ walk G i (j ∷ js) e =
     let b = and_split (ltb 0 j) (walks G j js) a.1 in
     (a.0, ltb-true 0 j b.0, walk G j js b.1)
 
-abbrev rule : ℕ → List ℕ → List ℕ → Option ℕ
-rule k vs f = some k
+abbrev rule : ℕ → List ℕ → List ℕ → maybe.Option ℕ
+rule k vs f = maybe.some k
 
 runs_agree : (L : List Line) (numbers : List ℕ) (is : List ℕ) → walks (graph L) 0 is ≡ true → TwoRunsOver ℕ L (graph L) numbers
     → family_run L rule (λ f. 0) (0 ∷ is) ≡ web_run L rule numbers (λ f w. 0) (0 ∷ is)
 runs_agree L numbers is e h =
-    h rule (λ f. 0) (λ f w. 0) (λ f. refl) (0 ∷ is) (refl, walk (graph L) 0 is e) (λ k vs f _ _ _ _ q. none-ne-some k (sym q))
+    h rule (λ f. 0) (λ f w. 0) (λ f. refl) (0 ∷ is) (refl, walk (graph L) 0 is e) (λ k vs f _ _ _ _ q. maybe.none-ne-some k (sym q))
 
 -- `if (rbx) {` `rax = 1;` `} else {` `rax = 2;` `}` `return rax;`: one web
 
@@ -239,7 +240,7 @@ pub sample_accepted : webs sample ≡ accepted (answered sample)
 unfolding answer
 sample_accepted = refl
 
-pub sample_graph : flow_graph sample ≡ some (graph sample)
+pub sample_graph : flow_graph sample ≡ Some (graph sample)
 unfolding answer
 sample_graph = refl
 

@@ -5,11 +5,11 @@
 --   number_of_family    the number at a token that has a family
 --   number_of_other     the number at a token that has none
 -- Assumes nothing.
+use Rattle.std.specs.Prelude.{Option, None, Some}
 use Prim.Native.Nat.{ℕ, zero, suc, ◌+◌, ◌<◌, ◌≤◌}
 use mathlib.Core.Path.{◌≡◌, refl, sym, ap, ap₂, ◌∙◌}
 use mathlib.Core.Logic.{◌⊎◌, inl, inr}
 use mathlib.Core.List.{List, [], ◌∷◌, map}
-use mathlib.Core.Option.{Option, none, some}
 use native.Mathlib.Omega.{arith}
 use lib.ListN.{length, get_or, take, length-append, length-map, get_or-map, get_or-eq_default}
 use lib.Seq.{take_all}
@@ -25,11 +25,11 @@ use Rattle.theory.proofs.ListLaws.{concat_at, getD_map_up_to, length_range}
 abbrev pub token_at : List Line → ℕ → ℕ → Token
 token_at L i k = token (line L i) k
 
-no_family : fam_of no_token ≡ none
+no_family : fam_of no_token ≡ None
 unfolding fam_of
 no_family = refl
 
-pub token_inside : (L : List Line) (i k : ℕ) (x : Family) → fam_of (token_at L i k) ≡ some x
+pub token_inside : (L : List Line) (i k : ℕ) (x : Family) → fam_of (token_at L i k) ≡ Some x
     → (i < length L) × (k < length (line L i).tokens)
 token_inside L i k x e = (in_listing (lt_or_ge i (length L)), in_line)
   where
@@ -74,7 +74,7 @@ map_take f (suc i) (x ∷ xs) = ap (f x ∷◌) (map_take f i xs)
 
 module _ (other : ℕ) (f : List ℕ → ℕ → ℕ → ℕ) (L : List Line) where
   abbrev of_family : Option Family → ℕ → ℕ → ℕ
-  of_family o i k = elim o [ none ↦ other | some x ↦ f x.name i k ]
+  of_family o i k = elim o [ None ↦ other | Some x ↦ f x.name i k ]
 
   abbrev row : ℕ → List ℕ
   row i = map (λ k. of_family (fam_of (token_at L i k)) i k) (up_to (length (line L i).tokens))
@@ -117,10 +117,10 @@ module _ (other : ℕ) (f : List ℕ → ℕ → ℕ → ℕ) (L : List Line) wh
       ∙ concat_lengths (length L) all_rows (map (λ l. l.tokens) L) row_lengths
       ∙ ap (λ (t : List (List Token)). length (concat t)) lists
 
-  pub number_of_family : (i k : ℕ) (x : Family) → fam_of (token_at L i k) ≡ some x
+  pub number_of_family : (i k : ℕ) (x : Family) → fam_of (token_at L i k) ≡ Some x
       → number_at L (per_token other f L) i k ≡ f x.name i k
   number_of_family i k x e = let b = token_inside L i k x e in number_of_token i k b.0 b.1 ∙ rw e
 
-  pub number_of_other : (i k : ℕ) → i < length L → k < length (line L i).tokens → fam_of (token_at L i k) ≡ none
+  pub number_of_other : (i k : ℕ) → i < length L → k < length (line L i).tokens → fam_of (token_at L i k) ≡ None
       → number_at L (per_token other f L) i k ≡ other
   number_of_other i k h g e = number_of_token i k h g ∙ rw e

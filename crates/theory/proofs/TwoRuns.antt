@@ -3,13 +3,14 @@
 --   two_runs            numbers that fit give `TwoRuns`, for all families together
 -- The invariant, per family: the last definition on the list holds here, and the cell of its number has the one cell's value.
 -- Assumes nothing.
+use Rattle.std.specs.Prelude.{Option, None, Some}
+use mathlib.Core.Option as maybe
+use Rattle.std.proofs.lemmas.Option.{same_Some}
 use Prim.Native.Nat.{ℕ, suc, ◌+◌, ◌<◌}
 use mathlib.Core.Path.{◌≡◌, refl, sym, ap, ap₂, ◌∙◌}
 use mathlib.Core.Logic.{inl, inr}
 use mathlib.Core.Bool.{Bool, true, false, cond, ◌&&◌, not, false≢true}
 use mathlib.Core.List.{List, [], ◌∷◌, ◌++◌, map, map-append}
-use mathlib.Core.Option
-use mathlib.Core.Option.{Option, none, some, some-injective}
 use native.Mathlib.Omega.{arith}
 use native.Mathlib.Nat.{add-zero, add-suc, suc-add}
 use lib.Dec.{eqb}
@@ -66,13 +67,13 @@ module _ {ℓ} {Value : Type ℓ} where
 
       pick : ℕ → Option Family → List Read
       pick k o = elim o [
-        | none ↦ []
-        | some x ↦ cond (is_read_family x.name && not (defined_token (line L i) k)) (one_read k x.name) []
+        | None ↦ []
+        | Some x ↦ cond (is_read_family x.name && not (defined_token (line L i) k)) (one_read k x.name) []
       ]
 
       at : (k : ℕ) (o : Option Family) → fam_of (token_at L i k) ≡ o → map u (pick k o) ≡ map v (pick k o)
-      at k none q = refl
-      at k (some x) q = one k x.name (names_of (token_at L i k) x q) (is_read_family x.name) (defined_token (line L i) k) refl refl
+      at k None q = refl
+      at k (Some x) q = one k x.name (names_of (token_at L i k) x q) (is_read_family x.name) (defined_token (line L i) k) refl refl
 
 -- One line
 
@@ -83,11 +84,11 @@ first_free L f j p h δ n = not_so _ (λ e. let s = and_split (eqb (first_on L j
     go (defines (line L j)) refl (eqb-true (first_on L j f) 0 s.0) s.1)
   where
     go : (o : Option (List ℕ)) → defines (line L j) ≡ o → first_on L j f ≡ 0 → is_some o ≡ true → ⊥
-    go none q z s = false≢true s
-    go (some g) q z s =
+    go None q z s = false≢true s
+    go (Some g) q z s =
         let x = defines_first (line L j) g q in
         let y = names_true f (token_at L j 0) (rw z at (first_names L f j n)) in
-        let w : g ≡ f = sym x.2 ∙ ap (λ (a : Family). a.name) (some-injective _ _ (sym x.1 ∙ y.1)) ∙ y.2 in
+        let w : g ≡ f = sym x.2 ∙ ap (λ (a : Family). a.name) (same_Some _ _ (sym x.1 ∙ y.1)) ∙ y.2 in
         clash (defines_at_line L f j p h (rw w at q)) δ
 
 module _ {ℓ} {Value : Type ℓ} (L : List Line) (G : List (List ℕ)) (numbers : List ℕ) (fits : Fits L G numbers)
@@ -106,16 +107,16 @@ module _ {ℓ} {Value : Type ℓ} (L : List Line) (G : List (List ℕ)) (numbers
     read_same : (k : ℕ) → names f (token_at L j k) ≡ true → defined_token (line L j) k ≡ false → x ≡ cells (number_at L numbers j k)
     read_same k n free = sym s.value ∙ ap cells (sym (fits.read f j k s.last r n free reaches))
 
-    abbrev stored : Option Value → Value → Value
-    stored o y = Option.get_or (cond (named_on L j f) o none) y
+    abbrev stored : maybe.Option Value → Value → Value
+    stored o y = maybe.get_or (cond (named_on L j f) o maybe.none) y
 
     abbrev target : ℕ
     target = number_at L numbers j (first_on L j f)
 
-    abbrev stored_at : Option Value → ℕ → Value
+    abbrev stored_at : maybe.Option Value → ℕ → Value
     stored_at o w = cond (eqb w target) (stored o (cells w)) (cells w)
 
-    store_same : (o : Option Value) → (defines (line L j) ≡ some f → ¬ (o ≡ none)) → Same f j (stored o x) (stored_at o)
+    store_same : (o : maybe.Option Value) → (defines (line L j) ≡ Some f → ¬ (o ≡ maybe.none)) → Same f j (stored o x) (stored_at o)
     store_same o h = go (defines_at L f j) refl
       where
         here : ℕ
@@ -129,9 +130,9 @@ module _ {ℓ} {Value : Type ℓ} (L : List Line) (G : List (List ℕ)) (numbers
         unchanged = idle (eqb here target) (cells here) ∙ s.value
 
         -- the line defines f: the value goes to the cell of the line's own number
-        fresh : defines_at L f j ≡ true → (o : Option Value) → ¬ (o ≡ none) → Same f j (stored o x) (stored_at o)
-        fresh δ none h = absurd (h refl)
-        fresh δ (some v) h =
+        fresh : defines_at L f j ≡ true → (o : maybe.Option Value) → ¬ (o ≡ maybe.none) → Same f j (stored o x) (stored_at o)
+        fresh δ maybe.none h = absurd (h refl)
+        fresh δ (maybe.some v) h =
             let q = line_defines L f j δ in
             let y = defines_first (line L j) f q in
             let named : named_on L j f ≡ true =
@@ -141,10 +142,10 @@ module _ {ℓ} {Value : Type ℓ} (L : List Line) (G : List (List ℕ)) (numbers
             record { last = j; holds = inl (refl, line_definition (defines_at L f) j δ); value = rw (hit, named) }
 
         -- it names f otherwise, or not: the definition that came here holds on
-        kept : defines_at L f j ≡ false → (b : Bool) → named_on L j f ≡ b → (o : Option Value) → Same f j (stored o x) (stored_at o)
+        kept : defines_at L f j ≡ false → (b : Bool) → named_on L j f ≡ b → (o : maybe.Option Value) → Same f j (stored o x) (stored_at o)
         kept δ false n o = record { last = s.last; holds = inr (reaches, δ); value = rw n unchanged }
-        kept δ true n none = record { last = s.last; holds = inr (reaches, δ); value = rw n unchanged }
-        kept δ true n (some v) =
+        kept δ true n maybe.none = record { last = s.last; holds = inr (reaches, δ); value = rw n unchanged }
+        kept δ true n (maybe.some v) =
             let m = (and_split (is_read_family f) (any (names f) (line L j).tokens) n).1 in
             let own : target ≡ here =
             fits.read f j (first_on L j f) s.last r (first_names L f j m) (first_free L f j p (inside i j e) δ m) reaches in
@@ -157,11 +158,11 @@ module _ {ℓ} {Value : Type ℓ} (L : List Line) (G : List (List ℕ)) (numbers
 
   -- The whole list
 
-  module _ (rule : ℕ → List Value → List ℕ → Option Value) where
+  module _ (rule : ℕ → List Value → List ℕ → maybe.Option Value) where
     run_same : (k : ℕ) (one : List ℕ → Value) (many : List ℕ → ℕ → Value) (js : List ℕ) (i : ℕ) → Walk G i js
         → ((f : List ℕ) → is_read_family f ≡ true → Same f i (one f) (many f))
-        → ((m : ℕ) (vs : List Value) (f : List ℕ) → m < length js → defines (line L (get_or js m 0)) ≡ some f → is_read_family f ≡ true
-        → ¬ (rule (k + m) vs f ≡ none))
+        → ((m : ℕ) (vs : List Value) (f : List ℕ) → m < length js → defines (line L (get_or js m 0)) ≡ Some f → is_read_family f ≡ true
+        → ¬ (rule (k + m) vs f ≡ maybe.none))
         → family_run_from L rule k one js ≡ web_run_from L rule numbers k many js
     unfolding family_run_from web_run_from
     run_same k one many [] i w s g = refl

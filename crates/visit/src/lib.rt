@@ -27,7 +27,6 @@ ghost use Rattle.visit.specs.Numbers.{Numbered};
 ghost use Rattle.visit.specs.Steps.{Word, coming, given, Visit, Full, Ahead, Back, Marked, Step};
 
 use bits::Span;
-use words::wide;
 
 // Word k of a row in which bit d alone is set.
 fn bit_word(k: usize, d: usize) -> u64
@@ -50,7 +49,7 @@ fn gather_word(space: &[u64], n: usize, r: usize, w: usize, i: usize, k: usize) 
     let mut q = x.from;
     while q < e {
         let v = bits::row(n, w, q - a);
-        y = y | space[base + v];
+        y |= space[base + v];
         q = bits::find_bit(space, q + 1, e);
     }
     y
@@ -73,11 +72,9 @@ pub fn coming_row(space: &mut [u64], n: usize, r: usize, w: usize, i: usize)
     ensures { Filled space.old space.new (making n r w) w (λ b. coming (preds_of n r space.old) b (outs n r w space.old b) i) }
 {
     let t = n * r + n * r + r + r + n * w;
-    let mut k = 0;
-    while k < w {
+    for k in 0..w {
         let y = coming_word(space, n, r, w, i, k);
         space[t + k] = y;
-        k += 1;
     }
 }
 
@@ -90,7 +87,7 @@ fn given_word(space: &[u64], defs: &[u16], n: usize, r: usize, w: usize, i: usiz
     if d == 0 {
         return coming_word(space, n, r, w, i, k);
     }
-    bit_word(k, wide(d))
+    bit_word(k, usize::from(d))
 }
 
 // Visits line i where a row is one word, without a loop; answers whether its outgoing row changed.
@@ -113,12 +110,10 @@ fn visit_line(space: &mut [u64], defs: &[u16], n: usize, r: usize, w: usize, i: 
     }
     let u = n * r + n * r + r + r + bits::row(n, w, i);
     let mut changed = false;
-    let mut k = 0;
-    while k < w {
+    for k in 0..w {
         let x = given_word(space, defs, n, r, w, i, k);
         let c = bits::put(space, u + k, x);
-        changed = bits::either(c, changed);
-        k += 1;
+        changed |= c;
     }
     changed
 }

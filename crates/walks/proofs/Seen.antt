@@ -5,12 +5,12 @@
 --   seen_start, seen_room, seen_next, seen_end    the loop of `see_lines`
 --   seen_line, list_start, list_next, list_end    the loop of `read_lines`
 -- Assumes nothing.
+use Rattle.std.specs.Prelude.{Option, None, Some}
 use Prim.Native.Nat.{ℕ, zero, suc, ◌+◌, ◌-◌, ◌/◌, ◌%◌, ◌<◌, ◌≤◌}
 use mathlib.Core.Path.{◌≡◌, refl, sym, ap, ◌∙◌}
 use mathlib.Core.Logic.{◌⊎◌, inl, inr}
 use mathlib.Core.Bool.{Bool, true, false, cond}
 use mathlib.Core.List.{List, [], ◌∷◌, ◌++◌}
-use mathlib.Core.Option.{Option, none, some}
 use native.Mathlib.Omega.{arith}
 use lib.Dec.{eqb, ltb}
 use borrow.Author.Tests.{eqb-true, eq-eqb, ne_eqb, lt-ltb, ltb-true}
@@ -52,15 +52,15 @@ module _ (L : List Line) (ds : List ℕ) (D : Defs L ds) (i : ℕ) (p : 0 < i) (
   defined_none z = go (defines (line L i)) refl (sym word_is ∙ z)
     where
       go : (o : Option (List ℕ)) → defines (line L i) ≡ o → place_defined (defined_families L) o ≡ 0 → is_some o ≡ false
-      go none e q = refl
-      go (some f) e q = absurd (defined_known L i p h f e q)
+      go None e q = refl
+      go (Some f) e q = absurd (defined_known L i p h f e q)
 
   pub defined_some : (get_or ds i 0 ≡ 0 → ⊥) → is_some (defines (line L i)) ≡ true
   defined_some z = go (defines (line L i)) (λ q. z (word_is ∙ q))
     where
       go : (o : Option (List ℕ)) → (place_defined (defined_families L) o ≡ 0 → ⊥) → is_some o ≡ true
-      go none n = absurd (n refl)
-      go (some f) n = refl
+      go None n = absurd (n refl)
+      go (Some f) n = refl
 
 -- `reads_at`
 

@@ -8,12 +8,13 @@
 --   taken_here, taken_found     a token that takes the address, and a line that does
 --   untaken_start, untaken_next, untaken_found, untaken_end     the loop of `lines_take`
 -- Assumes nothing.
+use Rattle.std.specs.Prelude.{Option, None, Some}
+use Rattle.std.proofs.lemmas.Option.{none-some, same_Some}
 use Prim.Native.Nat.{ℕ, zero, suc, ◌+◌, ◌*◌, ◌-◌, ◌/◌, ◌%◌, ◌<◌, ◌≤◌}
 use mathlib.Core.Path.{◌≡◌, refl, sym, ap, ◌∙◌}
 use mathlib.Core.Logic.{inl, inr}
 use mathlib.Core.Bool.{Bool, true, false, cond, ◌&&◌, not, and-true, and-false}
 use mathlib.Core.List.{List, [], ◌∷◌}
-use mathlib.Core.Option.{Option, none, some, none-ne-some, some-injective}
 use native.Mathlib.Omega.{arith}
 use native.Mathlib.Numerals.{add-one}
 use lib.Dec.{eqb, leb}
@@ -39,7 +40,7 @@ use Rattle.walks.specs.Lines.{takes, Untaken}
 use Rattle.chains.proofs.Places.{token_place, place_token, place_inside, place_line_is}
 use Rattle.walks.proofs.Walk.{line_of_word, stands_head, stands_next, before_head, between, walk_shorter}
 
-defines_plain : (l : Line) (f : List ℕ) → defines l ≡ some f → is_var f ≡ false
+defines_plain : (l : Line) (f : List ℕ) → defines l ≡ Some f → is_var f ≡ false
 unfolding defines
 defines_plain l f e = go (assignment l) e
   where
@@ -49,17 +50,17 @@ defines_plain l f e = go (assignment l) e
     plain : (a : Assignment) (x : Family) → fits a x ≡ true → is_var x.name ≡ false
     plain a x q = not_so (is_var x.name) (λ v. clash (and_split (leb 32 x.width) (not (is_var x.name)) (and_split (leb 32 x.width && not (is_var x.name)) _ q).0).1 (ap not v))
 
-    last : (a : Assignment) (x : Family) (b : Bool) → fits a x ≡ b → (require b >>= λ _. some x.name) ≡ some f → is_var f ≡ false
-    last a x true q e = ap is_var (sym (some-injective _ _ e)) ∙ plain a x q
-    last a x false q e = absurd (none-ne-some _ e)
+    last : (a : Assignment) (x : Family) (b : Bool) → fits a x ≡ b → (require b >>= λ _. Some x.name) ≡ Some f → is_var f ≡ false
+    last a x true q e = ap is_var (sym (same_Some _ _ e)) ∙ plain a x q
+    last a x false q e = absurd (none-some _ e)
 
-    with_family : (a : Assignment) (o : Option Family) → (o >>= λ x. require (fits a x) >>= λ _. some x.name) ≡ some f → is_var f ≡ false
-    with_family a none e = absurd (none-ne-some _ e)
-    with_family a (some x) e = last a x (fits a x) refl e
+    with_family : (a : Assignment) (o : Option Family) → (o >>= λ x. require (fits a x) >>= λ _. Some x.name) ≡ Some f → is_var f ≡ false
+    with_family a None e = absurd (none-some _ e)
+    with_family a (Some x) e = last a x (fits a x) refl e
 
-    go : (o : Option Assignment) → (o >>= λ a. fam_of a.lhs >>= λ x. require (fits a x) >>= λ _. some x.name) ≡ some f → is_var f ≡ false
-    go none e = absurd (none-ne-some _ e)
-    go (some a) e = with_family a (fam_of a.lhs) e
+    go : (o : Option Assignment) → (o >>= λ a. fam_of a.lhs >>= λ x. require (fits a x) >>= λ _. Some x.name) ≡ Some f → is_var f ≡ false
+    go None e = absurd (none-some _ e)
+    go (Some a) e = with_family a (fam_of a.lhs) e
 
 -- `is_rsp`
 

@@ -6,25 +6,26 @@ ghost use Rattle.std.specs.Prelude.{◌≡◌, cond, ◌+◌, ◌-◌, ◌<◌, 
 ghost use Rattle.definitions.specs.Lists.{any, filter, range};
 ghost use Rattle.definitions.specs.Model.{line};
 ghost use Rattle.definitions.specs.Family.{names};
-ghost use Rattle.definitions.specs.Columns.{token_list, listing};
 ghost use Rattle.definitions.specs.Recover.{takes_address, address_taken, read_tokens};
+ghost use Rattle.model.specs.Listings.{listing_of, tokens_of};
 ghost use Rattle.families.specs.Families.{Table, Defs};
 ghost use Rattle.families.specs.Tokens.{family_name};
 ghost use Rattle.chains.specs.Chains.{Chain};
 ghost use Rattle.walks.specs.Lines.{takes, reads, Seen};
 
 use chains::links::{line_at, next_at};
+use model::listing::Listing;
 use recover::sets::put;
 use words::{number, word};
 
 // The token at place p of line i stands behind one that ends `&`, on a line from 1 on.
-fn takes_at(lines: &[u32], tokens: &[u32], text: &[u8], i: usize, p: usize) -> bool
-    ensures { result ≡ takes lines.now (token_list tokens.now text.now) i p }
+fn takes_at(code: &Listing, i: usize, p: usize) -> bool
+    ensures { result ≡ takes code.now.lines.now (tokens_of code.now) i p }
 {
     if 0 < i {
-        let s = model::columns::line_start(lines, i);
+        let s = code.line_start(i);
         if s < p {
-            return text::ends_with(model::columns::token_text(tokens, text, p - 1), b"&");
+            return text::ends_with(code.token_text(p - 1), b"&");
         }
         return false;
     }
@@ -32,20 +33,13 @@ fn takes_at(lines: &[u32], tokens: &[u32], text: &[u8], i: usize, p: usize) -> b
 }
 
 // A line from 1 on takes the address of family k.
-fn lines_take(
-    lines: &[u32],
-    tokens: &[u32],
-    text: &[u8],
-    numbers: &[u32],
-    first: &[u16],
-    k: usize,
-) -> bool
-    requires { Chain lines.now tokens.now text.now k numbers.now first.now }
-    ensures { let L = listing lines.now tokens.now text.now in result ≡ any (λ i. takes_address (family_name L k) (line L i).tokens) (range 1 (length L - 1)) }
+fn lines_take(code: &Listing, numbers: &[u32], first: &[u16], k: usize) -> bool
+    requires { Chain code.now.lines.now code.now.tokens.now code.now.text.now k numbers.now first.now }
+    ensures { let L = listing_of code.now in result ≡ any (λ i. takes_address (family_name L k) (line L i).tokens) (range 1 (length L - 1)) }
 {
     let mut p = number(first, k);
-    while p < tokens.len() {
-        if takes_at(lines, tokens, text, line_at(numbers, p), p) {
+    while p < code.tokens.len() {
+        if takes_at(code, line_at(numbers, p), p) {
             return true;
         }
         p = next_at(numbers, p);
@@ -63,32 +57,24 @@ pub fn is_rsp(table: &[u16], k: usize) -> bool
 
 // The address of family k is taken: never that of rsp.
 pub fn address_taken(
-    lines: &[u32],
-    tokens: &[u32],
-    text: &[u8],
+    code: &Listing,
     table: &[u16],
     numbers: &[u32],
     first: &[u16],
     count: usize,
     k: usize,
 ) -> bool
-    requires { Table (listing lines.now tokens.now text.now) count table.now × (k < count) × (k < 1024) × Chain lines.now tokens.now text.now k numbers.now first.now }
-    ensures { let L = listing lines.now tokens.now text.now in result ≡ address_taken L (family_name L k) }
+    requires { Table (listing_of code.now) count table.now × (k < count) × (k < 1024) × Chain code.now.lines.now code.now.tokens.now code.now.text.now k numbers.now first.now }
+    ensures { let L = listing_of code.now in result ≡ address_taken L (family_name L k) }
 {
-    if lines_take(lines, tokens, text, numbers, first, k) {
-        return !is_rsp(table, k);
-    }
-    false
+    lines_take(code, numbers, first, k) && !is_rsp(table, k)
 }
 
 // The token at place p of line i is not the register that the line defines.
-fn reads_at(lines: &[u32], defs: &[u16], i: usize, p: usize) -> bool
-    ensures { result ≡ reads lines.now defs.now i p }
+fn reads_at(code: &Listing, defs: &[u16], i: usize, p: usize) -> bool
+    ensures { result ≡ reads code.now.lines.now defs.now i p }
 {
-    if word(defs, i) == 0 {
-        return true;
-    }
-    model::columns::line_start(lines, i) < p
+    word(defs, i) == 0 || code.line_start(i) < p
 }
 
 fn mark_if(seen: &mut [u8], i: usize, yes: bool)
@@ -102,23 +88,21 @@ fn mark_if(seen: &mut [u8], i: usize, yes: bool)
 
 // Marks the lines from 1 on that read family k; line 0 may be marked too.
 fn see_lines(
-    lines: &[u32],
-    tokens: &[u32],
-    text: &[u8],
+    code: &Listing,
     numbers: &[u32],
     first: &[u16],
     defs: &[u16],
     k: usize,
     seen: &mut [u8],
 )
-    requires { Chain lines.now tokens.now text.now k numbers.now first.now × Defs (listing lines.now tokens.now text.now) defs.now × (length lines.now ≤ length seen.old) }
-    ensures { Seen lines.now tokens.now text.now k seen.new }
+    requires { Chain code.now.lines.now code.now.tokens.now code.now.text.now k numbers.now first.now × Defs (listing_of code.now) defs.now × (length code.now.lines.now ≤ length seen.old) }
+    ensures { Seen code.now.lines.now code.now.tokens.now code.now.text.now k seen.new }
 {
-    text::zero_bytes(seen, 0);
+    text::zero(seen, 0);
     let mut p = number(first, k);
-    while p < tokens.len() {
+    while p < code.tokens.len() {
         let i = line_at(numbers, p);
-        mark_if(seen, i, reads_at(lines, defs, i, p));
+        mark_if(seen, i, reads_at(code, defs, i, p));
         p = next_at(numbers, p);
     }
 }
@@ -132,31 +116,20 @@ fn is_seen(seen: &[u8], i: usize) -> bool
 }
 
 // Lists the marked lines from 1 on; answers how many there are.
-fn list_lines(
-    lines: &[u32],
-    tokens: &[u32],
-    text: &[u8],
-    k: usize,
-    seen: &[u8],
-    reads: &mut [u16],
-) -> usize
-    requires { Seen lines.now tokens.now text.now k seen.now × (length lines.now ≤ length seen.now) × (0 < length lines.now) × (length lines.now ≤ length reads.old) × (length lines.now ≤ 65536) }
-    ensures { (result ≤ length lines.now) × (let L = listing lines.now tokens.now text.now in take result reads.new ≡ filter (λ i. any (names (family_name L k)) (read_tokens (line L i))) (range 1 (length L - 1))) }
+fn list_lines(code: &Listing, k: usize, seen: &[u8], reads: &mut [u16]) -> usize
+    requires { Seen code.now.lines.now code.now.tokens.now code.now.text.now k seen.now × (length code.now.lines.now ≤ length seen.now) × (0 < length code.now.lines.now) × (length code.now.lines.now ≤ length reads.old) × (length code.now.lines.now ≤ 65536) }
+    ensures { (result ≤ length code.now.lines.now) × (let L = listing_of code.now in take result reads.new ≡ filter (λ i. any (names (family_name L k)) (read_tokens (line L i))) (range 1 (length L - 1))) }
 {
     let mut m = 0;
-    let mut i = 1;
-    while i < lines.len() {
+    for i in 1..code.lines.len() {
         m = put(reads, m, i, is_seen(seen, i));
-        i += 1;
     }
     m
 }
 
 // Lists the lines from 1 on that read family k; answers how many there are. `seen` has a byte for each line.
 pub fn read_lines(
-    lines: &[u32],
-    tokens: &[u32],
-    text: &[u8],
+    code: &Listing,
     numbers: &[u32],
     first: &[u16],
     defs: &[u16],
@@ -164,10 +137,10 @@ pub fn read_lines(
     seen: &mut [u8],
     reads: &mut [u16],
 ) -> usize
-    requires chain { Chain lines.now tokens.now text.now k numbers.now first.now × Defs (listing lines.now tokens.now text.now) defs.now × (length lines.now ≤ length seen.old) }
-    requires lines_nonzero { (0 < length lines.now) × (length lines.now ≤ length reads.old) × (length lines.now ≤ 65536) }
-    ensures { (result ≤ length lines.now) × (let L = listing lines.now tokens.now text.now in take result reads.new ≡ filter (λ i. any (names (family_name L k)) (read_tokens (line L i))) (range 1 (length L - 1))) }
+    requires chain { Chain code.now.lines.now code.now.tokens.now code.now.text.now k numbers.now first.now × Defs (listing_of code.now) defs.now × (length code.now.lines.now ≤ length seen.old) }
+    requires lines_nonzero { (0 < length code.now.lines.now) × (length code.now.lines.now ≤ length reads.old) × (length code.now.lines.now ≤ 65536) }
+    ensures { (result ≤ length code.now.lines.now) × (let L = listing_of code.now in take result reads.new ≡ filter (λ i. any (names (family_name L k)) (read_tokens (line L i))) (range 1 (length L - 1))) }
 {
-    see_lines(lines, tokens, text, numbers, first, defs, k, seen);
-    list_lines(lines, tokens, text, k, seen, reads)
+    see_lines(code, numbers, first, defs, k, seen);
+    list_lines(code, k, seen, reads)
 }

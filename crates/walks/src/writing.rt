@@ -8,6 +8,7 @@ ghost use Rattle.chains.specs.Chains.{Chain};
 ghost use Rattle.walks.specs.Lines.{own_place, Written, line_marked, lines_marked};
 
 use chains::links::{line_at, next_at};
+use model::listing::Listing;
 use words::{number, word};
 
 fn wide32(x: u16) -> u32
@@ -32,19 +33,16 @@ fn is_place(defs: &[u16], i: usize, k: usize) -> bool
 }
 
 // The token at place p is the register of family k that line i defines.
-fn is_own(lines: &[u32], defs: &[u16], k: usize, i: usize, p: usize) -> bool
+fn is_own(code: &Listing, defs: &[u16], k: usize, i: usize, p: usize) -> bool
     requires { k < 1024 }
-    ensures { result ≡ own_place lines.now defs.now k i p }
+    ensures { result ≡ own_place code.now.lines.now defs.now k i p }
 {
-    if is_place(defs, i, k) {
-        return p == model::columns::line_start(lines, i);
-    }
-    false
+    is_place(defs, i, k) && p == code.line_start(i)
 }
 
 // The number of the token of family k at place p of line i.
 fn token_number(
-    lines: &[u32],
+    code: &Listing,
     defs: &[u16],
     k: usize,
     own: &[u16],
@@ -53,9 +51,9 @@ fn token_number(
     p: usize,
 ) -> u32
     requires { k < 1024 }
-    ensures { result ≡ cond (own_place lines.now defs.now k i p) (get_or own.now i 0) (get_or read.now i 0) }
+    ensures { result ≡ cond (own_place code.now.lines.now defs.now k i p) (get_or own.now i 0) (get_or read.now i 0) }
 {
-    if is_own(lines, defs, k, i, p) {
+    if is_own(code, defs, k, i, p) {
         return word32(own, i);
     }
     word32(read, i)
@@ -63,9 +61,7 @@ fn token_number(
 
 // The tokens of family k get their numbers: `own` has the number of each line's definition, `read` that of its reads.
 pub fn write_tokens(
-    lines: &[u32],
-    tokens: &[u32],
-    text: &[u8],
+    code: &Listing,
     numbers: &mut [u32],
     first: &[u16],
     k: usize,
@@ -73,25 +69,25 @@ pub fn write_tokens(
     own: &[u16],
     read: &[u16],
 )
-    requires { Chain lines.now tokens.now text.now k numbers.old first.now × (k < 1024) }
-    ensures { Written lines.now tokens.now text.now k defs.now own.now read.now numbers.old numbers.new }
+    requires { Chain code.now.lines.now code.now.tokens.now code.now.text.now k numbers.old first.now × (k < 1024) }
+    ensures { Written code.now.lines.now code.now.tokens.now code.now.text.now k defs.now own.now read.now numbers.old numbers.new }
 {
     let mut p = number(first, k);
     while p < numbers.len() {
         let i = line_at(numbers, p);
         let next = next_at(numbers, p);
-        let v = token_number(lines, defs, k, own, read, i, p);
+        let v = token_number(code, defs, k, own, read, i, p);
         numbers[p] = v;
         p = next;
     }
 }
 
-fn mark_line(lines: &[u32], marks: &mut [u8], i: usize, k: usize, defs: &[u16])
+fn mark_line(code: &Listing, marks: &mut [u8], i: usize, k: usize, defs: &[u16])
     requires { k < 1024 }
-    ensures { marks.new ≡ line_marked lines.now k defs.now marks.old i }
+    ensures { marks.new ≡ line_marked code.now.lines.now k defs.now marks.old i }
 {
     if is_place(defs, i, k) {
-        let s = model::columns::line_start(lines, i);
+        let s = code.line_start(i);
         if s < marks.len() {
             marks[s] = 1;
         }
@@ -99,13 +95,11 @@ fn mark_line(lines: &[u32], marks: &mut [u8], i: usize, k: usize, defs: &[u16])
 }
 
 // Marks the first token of each of the first n lines that defines family k.
-pub fn mark_lines(lines: &[u32], marks: &mut [u8], n: usize, k: usize, defs: &[u16])
+pub fn mark_lines(code: &Listing, marks: &mut [u8], n: usize, k: usize, defs: &[u16])
     requires { k < 1024 }
-    ensures { marks.new ≡ lines_marked lines.now k defs.now marks.old (up_to n) }
+    ensures { marks.new ≡ lines_marked code.now.lines.now k defs.now marks.old (up_to n) }
 {
-    let mut i = 0;
-    while i < n {
-        mark_line(lines, marks, i, k, defs);
-        i += 1;
+    for i in 0..n {
+        mark_line(code, marks, i, k, defs);
     }
 }

@@ -3,11 +3,11 @@
 --   family_lines            the lines that `number` numbers are the family's defining lines
 --   line_keys               the numbers of a line's tokens
 -- Assumes nothing.
+use Rattle.std.specs.Prelude.{Option, None, Some}
 use Prim.Native.Nat.{ℕ, zero, suc, ◌+◌, ◌-◌, ◌<◌}
 use mathlib.Core.Path.{◌≡◌, refl, sym, ap, ◌∙◌}
 use mathlib.Core.Bool.{Bool, true, false, cond, ◌&&◌, not}
 use mathlib.Core.List.{List}
-use mathlib.Core.Option.{Option, none, some}
 use native.Mathlib.Omega.{arith}
 use lib.Dec.{eqb}
 use borrow.Author.Tests.{ne_eqb}
@@ -23,7 +23,7 @@ use Rattle.theory.proofs.ListLaws.{member_filter, filter_passes, member_range, r
 use Rattle.theory.proofs.FamilyWebs.{def_line_inside}
 use Rattle.bits.specs.Edges.{preds_of}
 use Rattle.visit.specs.Numbers.{defining_lines, lines_of, Numbered}
-use Rattle.sweep.specs.declared.Sweeps.{Sweeps}
+use Rattle.std.specs.Prelude as rust
 use Rattle.families.specs.Families.{place_defined, defined_at, Defs}
 use Rattle.families.specs.Tokens.{family_name}
 use Rattle.recover.specs.Reaching.{linked}
@@ -38,9 +38,9 @@ module _ (L : List Line) (ds : List ℕ) (D : Defs L ds) (k : ℕ) (h : k < leng
   abbrev f : List ℕ
   f = family_name L k
 
-  is_place : (o : Option (List ℕ)) → eqb (place_defined (defined_families L) o) (k + 1) ≡ (elim o [ none ↦ false | some g ↦ g ≟ f ])
-  is_place none = ne_eqb 0 (k + 1) (λ z. omega arith)
-  is_place (some g) = place_is L k h g
+  is_place : (o : Option (List ℕ)) → eqb (place_defined (defined_families L) o) (k + 1) ≡ (elim o [ None ↦ false | Some g ↦ g ≟ f ])
+  is_place None = ne_eqb 0 (k + 1) (λ z. omega arith)
+  is_place (Some g) = place_is L k h g
 
   at_line : (i : ℕ) → 0 < i → i < length L → eqb (get_or ds i 0) (k + 1) ≡ is_def_of f (line L i)
   unfolding defined_at
@@ -104,7 +104,7 @@ module _ (L : List Line) (f : List ℕ) (r w : ℕ) (nums l₀ l is own read : L
 -- What `family_lines` says of the family
 
 module _ (L : List Line) (ds : List ℕ) (D : Defs L ds) (k : ℕ) (h : k < length (defined_families L)) (free : address_taken L (family_name L k) ≡ false)
-    (n r budget : ℕ) (l₀ l is own read : List ℕ) (a : Sweeps) (size : n ≡ length L) (F : FamilyLines n r k ds budget l₀ l is own read a) where
+    (n r budget : ℕ) (l₀ l is own read : List ℕ) (a : rust.Option ℕ) (size : n ≡ length L) (F : FamilyLines n r k ds budget l₀ l is own read a) where
   lines_are : defining_lines n F.nums ≡ def_lines L (family_name L k)
   lines_are = F.lines ∙ ap (λ (m : ℕ). lines_of m ds (k + 1)) size ∙ family_lines L ds D k h
 

@@ -4,12 +4,12 @@
 --   marks_next            the marks, with one family more
 --   marks_taken           a family whose address is taken has no mark
 -- Assumes nothing.
+use Rattle.std.specs.Prelude.{Option, None, Some}
 use Prim.Native.Nat.{ℕ, ◌+◌, ◌<◌}
 use mathlib.Core.Path.{◌≡◌, refl, sym, ap, ◌∙◌, fun_ext}
 use mathlib.Core.Logic.{inr}
 use mathlib.Core.Bool.{Bool, true, false, cond, ◌&&◌, and-false}
 use mathlib.Core.List.{List}
-use mathlib.Core.Option.{Option, none, some}
 use native.Mathlib.Omega.{arith}
 use lib.Dec.{eqb}
 use borrow.Author.Tests.{eq-eqb, ne_eqb, eqb-true, lt-leb}
@@ -66,10 +66,10 @@ module _ (l t x : List ℕ) (B : Bounds l t) (preds : List (List ℕ)) (k : ℕ)
     words = λ p b n. at p n (token_place l t x B.ok p b);
   }
     where
-      waits : (i j : ℕ) (o : Option Family) → (elim o [ none ↦ false | some y ↦ y.name ≟ f ]) ≡ true
+      waits : (i j : ℕ) (o : Option Family) → (elim o [ None ↦ false | Some y ↦ y.name ≟ f ]) ≡ true
           → of_family no_family (number_after l t x ws k) o i j ≡ chain_word (place_line l (line_start l i + j)) (next_place f (token_list t x) (line_start l i + j + 1))
-      waits i j none n = clash n refl
-      waits i j (some y) n =
+      waits i j None n = clash n refl
+      waits i j (Some y) n =
           let z = eqb-true (place (defined_families L) f) (k + 1) (place_is L k h f ∙ ≟_self f) in
           rw (≟_true y.name f n, z, lt-leb (k + 1) k (omega arith), ne_eqb (k + 1) 0 (λ z. omega arith))
 
@@ -98,9 +98,9 @@ module _ (l t x : List ℕ) (B : Bounds l t) (preds : List (List ℕ)) (k : ℕ)
         pick g true e i j = ap (λ (f : List ℕ). key ws f i j) (sym (≟_true g f e))
         pick g false e i j = refl
 
-        go : (o : Option Family) (i j : ℕ) → cond (elim o [ none ↦ false | some y ↦ y.name ≟ f ]) (key ws f i j) (of_family no_family (number_after l t x ws k) o i j) ≡ of_family no_family (number_after l t x ws (k + 1)) o i j
-        go none i j = refl
-        go (some y) i j = rw (number_next l t x preds k h y.name i j) (pick y.name (y.name ≟ f) refl i j)
+        go : (o : Option Family) (i j : ℕ) → cond (elim o [ None ↦ false | Some y ↦ y.name ≟ f ]) (key ws f i j) (of_family no_family (number_after l t x ws k) o i j) ≡ of_family no_family (number_after l t x ws (k + 1)) o i j
+        go None i j = refl
+        go (Some y) i j = rw (number_next l t x preds k h y.name i j) (pick y.name (y.name ≟ f) refl i j)
 
   -- Marks
 
@@ -114,7 +114,7 @@ module _ (l t x : List ℕ) (B : Bounds l t) (preds : List (List ℕ)) (k : ℕ)
       go g i j false q = refl
 
   module _ (ds : List ℕ) (D : Defs L ds) (has : any (λ g. g ≟ f) (defined_families L) ≡ true) (free : address_taken L f ≡ false) where
-    defined_token : (i : ℕ) → defines_at L f i ≡ true → (y : Family) × (fam_of (token (line L i) 0) ≡ some y) × (y.name ≡ f)
+    defined_token : (i : ℕ) → defines_at L f i ≡ true → (y : Family) × (fam_of (token (line L i) 0) ≡ Some y) × (y.name ≡ f)
     defined_token i e = defines_first (line L i) f (line_defines L f i e)
 
     full : (i : ℕ) → i < length l → eqb (get_or ds i 0) (k + 1) ≡ true → 0 < length (line L i).tokens
@@ -133,8 +133,8 @@ module _ (l t x : List ℕ) (B : Bounds l t) (preds : List (List ℕ)) (k : ℕ)
 
         -- a token of any family that the line does not define here
         other : (i j : ℕ) → (eqb j 0 && defines_at L f i) ≡ false → (o : Option Family) → of_family 0 (mark_after L ws k) o i j ≡ of_family 0 (mark_after L ws (k + 1)) o i j
-        other i j n none = refl
-        other i j n (some y) = sym (mark_next l t x preds k h y.name i j ∙ pick (y.name ≟ f) refl)
+        other i j n None = refl
+        other i j n (Some y) = sym (mark_next l t x preds k h y.name i j ∙ pick (y.name ≟ f) refl)
           where
             pick : (b : Bool) → (y.name ≟ f) ≡ b → cond b (mark (eqb j 0 && is_def ws y.name i)) (mark_after L ws k y.name i j) ≡ mark_after L ws k y.name i j
             pick true q =
@@ -146,7 +146,7 @@ module _ (l t x : List ℕ) (B : Bounds l t) (preds : List (List ℕ)) (k : ℕ)
             → cond (d && z) 1 (of_family 0 (mark_after L ws k) o i j) ≡ of_family 0 (mark_after L ws (k + 1)) o i j
         go i j true e true q o s =
             let y = defined_token i e in
-            let w : o ≡ some y.0 = sym s ∙ ap (λ (m : ℕ). fam_of (token (line L i) m)) (eqb-true j 0 q) ∙ y.1 in
+            let w : o ≡ Some y.0 = sym s ∙ ap (λ (m : ℕ). fam_of (token (line L i) m)) (eqb-true j 0 q) ∙ y.1 in
             rw w (sym (mark_next l t x preds k h y.0.name i j ∙ rw (y.2, ≟_self f, q, def_of L preds f has free i, e)))
         go i j true e false q o s = other i j (rw q) o
         go i j false e z q o s = other i j (rw (e, and-false (eqb j 0))) o

@@ -4,12 +4,12 @@
 --   number_start, -next, -end             numbers, when no family is done, one more, all
 --   mark_start, -next, -new, -end         marks
 -- Assumes nothing.
+use Rattle.std.specs.Prelude.{Option, None, Some}
 use Prim.Native.Nat.{ℕ, suc, ◌+◌, ◌<◌, ◌≤◌}
 use mathlib.Core.Path.{◌≡◌, refl, sym, ap, ◌∙◌, fun_ext}
 use mathlib.Core.Logic.{◌⊎◌, inl, inr}
 use mathlib.Core.Bool.{Bool, true, false, cond, ◌&&◌, ◌||◌, not, and-false}
 use mathlib.Core.List.{List, [], ◌∷◌, map}
-use mathlib.Core.Option.{Option, none, some}
 use native.Mathlib.Omega.{arith}
 use lib.Dec.{eqb, leb}
 use borrow.Author.Tests.{eqb-true, eq-eqb, ne_eqb, le-leb, lt-leb}
@@ -38,39 +38,39 @@ abbrev has_webs : List Line → List ℕ → Bool
 has_webs L f = any (is f) (defined_families L) && not (address_taken L f)
 
 webs_for_map : (L : List Line) (preds : List (List ℕ)) (f : List ℕ) (fs : List (List ℕ))
-    → webs_for (map (webs_of L preds) fs) f ≡ cond (any (is f) fs) (some (webs_of L preds f)) none
+    → webs_for (map (webs_of L preds) fs) f ≡ cond (any (is f) fs) (Some (webs_of L preds f)) None
 unfolding find any webs_of
 webs_for_map L preds f [] = refl
 webs_for_map L preds f (g ∷ gs) = go (g ≟ f) refl (webs_for_map L preds f gs)
   where
-    go : (b : Bool) → g ≟ f ≡ b → webs_for (map (webs_of L preds) gs) f ≡ cond (any (is f) gs) (some (webs_of L preds f)) none
-        → cond b (some (webs_of L preds g)) (webs_for (map (webs_of L preds) gs) f)
-        ≡ cond (b || any (is f) gs) (some (webs_of L preds f)) none
-    go true q e = ap (λ (h : List ℕ). some (webs_of L preds h)) (≟_true g f q)
+    go : (b : Bool) → g ≟ f ≡ b → webs_for (map (webs_of L preds) gs) f ≡ cond (any (is f) gs) (Some (webs_of L preds f)) None
+        → cond b (Some (webs_of L preds g)) (webs_for (map (webs_of L preds) gs) f)
+        ≡ cond (b || any (is f) gs) (Some (webs_of L preds f)) None
+    go true q e = ap (λ (h : List ℕ). Some (webs_of L preds h)) (≟_true g f q)
     go false q e = e
 
 pub webs_for_over : (L : List Line) (preds : List (List ℕ)) (f : List ℕ)
-    → webs_for (webs_over L preds) f ≡ cond (has_webs L f) (some (webs_of L preds f)) none
+    → webs_for (webs_over L preds) f ≡ cond (has_webs L f) (Some (webs_of L preds f)) None
 webs_for_over L preds f =
     webs_for_map L preds f (filter (λ f. not (address_taken L f)) (defined_families L))
-    ∙ ap (λ (b : Bool). cond b (some (webs_of L preds f)) none)
+    ∙ ap (λ (b : Bool). cond b (Some (webs_of L preds f)) None)
     (any_filter (is f) (λ f. not (address_taken L f)) f (λ g q. sym (≟_true g f q)) (defined_families L))
 
 module _ (L : List Line) (preds : List (List ℕ)) (f : List ℕ) where
   abbrev key_in : Option Webs → ℕ → ℕ → ℕ
   key_in o i j = elim o [
-    | none ↦ 0
-    | some w ↦ cond (eqb j 0 && member i w.defs) (web_number w i) (cond (member i w.reads) (read_number w i) 0)
+    | None ↦ 0
+    | Some w ↦ cond (eqb j 0 && member i w.defs) (web_number w i) (cond (member i w.reads) (read_number w i) 0)
   ]
 
-  key_found : (i j : ℕ) → key (webs_over L preds) f i j ≡ key_in (cond (has_webs L f) (some (webs_of L preds f)) none) i j
+  key_found : (i j : ℕ) → key (webs_over L preds) f i j ≡ key_in (cond (has_webs L f) (Some (webs_of L preds f)) None) i j
   unfolding key
   key_found i j = ap (λ (o : Option Webs). key_in o i j) (webs_for_over L preds f)
 
   abbrev def_in : Option Webs → ℕ → Bool
-  def_in o i = elim o [ none ↦ false | some w ↦ member i w.defs ]
+  def_in o i = elim o [ None ↦ false | Some w ↦ member i w.defs ]
 
-  def_found : (i : ℕ) → is_def (webs_over L preds) f i ≡ def_in (cond (has_webs L f) (some (webs_of L preds f)) none) i
+  def_found : (i : ℕ) → is_def (webs_over L preds) f i ≡ def_in (cond (has_webs L f) (Some (webs_of L preds f)) None) i
   unfolding is_def
   def_found i = ap (λ (o : Option Webs). def_in o i) (webs_for_over L preds f)
 

@@ -24,8 +24,7 @@ use Rattle.theory.proofs.FamilyWebs.{read_line_inside}
 use Rattle.bits.specs.Edges.{preds_of}
 use Rattle.visit.proofs.ListFacts.{getD_member}
 use Rattle.sweep.specs.Solved.{answer}
-use Rattle.sweep.specs.declared.Sweeps.{Sweeps}
-use Rattle.sweep.specs.declared.Sweeps.TheVariants.{Done, OverBudget}
+use Rattle.std.specs.Prelude.{Option, Some, None}
 use Rattle.model.proofs.Decode.{length_listing}
 use Rattle.families.specs.Tokens.{family_name}
 use Rattle.families.proofs.Finding.{unique_families, place_here}
@@ -75,7 +74,7 @@ module _ (l t x table first ds : List ℕ) (count r k : ℕ) (K : Known l t x ta
 
   -- `family_free`
 
-  module _ (free : address_taken L f ≡ false) (budget : ℕ) (space is own read : List ℕ) (a : Sweeps) (reads : is ≡ read_lines L f)
+  module _ (free : address_taken L f ≡ false) (budget : ℕ) (space is own read : List ℕ) (a : Option ℕ) (reads : is ≡ read_lines L f)
       (F : FamilyLines (length l) r k ds budget space₀ space is own read a) where
     sweeps_are : a ≡ answer budget (family_sweeps L preds f)
     sweeps_are = F.solved.answers ∙ ap (answer budget) (family_count L ds K.defs k inside free (length l) r budget space₀ space is own read a (sym (length_listing l t x)) F)
@@ -83,7 +82,7 @@ module _ (l t x table first ds : List ℕ) (count r k : ℕ) (K : Known l t x ta
     numbers_at : family_sweeps L preds f ≤ budget → LineNumbers (length l) r F.w F.nums space₀ space is own read
     numbers_at q = F.solved.done (rw (family_count L ds K.defs k inside free (length l) r budget space₀ space is own read a (sym (length_listing l t x)) F) q)
 
-    pub free_done : (s : ℕ) (ns ms : List ℕ) → a ≡ Done s → Writes l t x k ds own read ns₀ ns ms₀ ms → FamilyDone l t x r k budget space₀ space ns ms (Done s)
+    pub free_done : (s : ℕ) (ns ms : List ℕ) → a ≡ Some s → Writes l t x k ds own read ns₀ ns ms₀ ms → FamilyDone l t x r k budget space₀ space ns ms (Some s)
     free_done s ns ms e W = record {
       answers = sym e ∙ sweeps_are;
       preds = λ q. (numbers_at q).preds;
@@ -97,7 +96,7 @@ module _ (l t x table first ds : List ℕ) (count r k : ℕ) (K : Known l t x ta
       };
     }
 
-    pub free_over : (ns ms : List ℕ) → a ≡ OverBudget → FamilyDone l t x r k budget space₀ space ns ms OverBudget
+    pub free_over : (ns ms : List ℕ) → a ≡ None → FamilyDone l t x r k budget space₀ space ns ms None
     free_over ns ms e = record {
       answers = sym e ∙ sweeps_are;
       preds = λ q. absurd (answer_over _ budget (sym sweeps_are ∙ e) q);
@@ -107,7 +106,7 @@ module _ (l t x table first ds : List ℕ) (count r k : ℕ) (K : Known l t x ta
   -- a family whose address is taken
 
   pub taken_done : address_taken L f ≡ true → (budget : ℕ) (own read ns : List ℕ) → Written l t x k ds (zeroed 0 own) (zeroed 0 read) ns₀ ns
-      → FamilyDone l t x r k budget space₀ space₀ ns ms₀ (Done 0)
+      → FamilyDone l t x r k budget space₀ space₀ ns ms₀ (Some 0)
   unfolding family_sweeps
   taken_done taken budget own read ns e = record {
     answers = rw (taken, le-leb 0 budget (omega arith));

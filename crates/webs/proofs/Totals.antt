@@ -19,8 +19,7 @@ use Rattle.definitions.specs.Recover.{Webs, webs_of, address_taken, defined_fami
 use Rattle.definitions.specs.Answers.{numbered_webs, no_family, per_token}
 use Rattle.theory.proofs.Bools.{lt_or_ge}
 use Rattle.bits.specs.Edges.{preds_of}
-use Rattle.sweep.specs.declared.Sweeps.{Sweeps}
-use Rattle.sweep.specs.declared.Sweeps.TheVariants.{Done, OverBudget}
+use Rattle.std.specs.Prelude.{Option, Some, None}
 use Rattle.families.specs.Tokens.{family_name}
 use Rattle.webs.specs.Progress.{webs_over, family_sweeps, sweeps_before}
 use Rattle.webs.specs.Steps.{Known, State, FamilyDone, Going, AllDone}
@@ -98,7 +97,7 @@ module _ (l t x table first ds : List ℕ) (count r budget : ℕ) (K : Known l t
     next_total h = rw G.preds (omega (arith, before_next L preds k (omega (arith, K.finds.all)), G.total))
 
     module _ (h : k < count) (b : ℕ) (eb : b ≡ budget - total) (space' ns' ms' : List ℕ) where
-      pub going_next : (s : ℕ) (a : Sweeps) → a ≡ Done s → FamilyDone l t x r k b space space' ns' ms' a → Going l t x r (k + 1) (total + s) budget space₀ space' ns' ms'
+      pub going_next : (s : ℕ) (a : Option ℕ) → a ≡ Some s → FamilyDone l t x r k b space space' ns' ms' a → Going l t x r (k + 1) (total + s) budget space₀ space' ns' ms'
       going_next s a e F =
           let w = answer_done (family_sweeps L (preds_of (length l) r space) (family_name L k)) b s (sym F.answers ∙ e) in
           record {
@@ -108,7 +107,7 @@ module _ (l t x table first ds : List ℕ) (count r budget : ℕ) (K : Known l t
             within = omega (arith, w.0, w.1, G.within);
           }
 
-      pub going_over : (a : Sweeps) → a ≡ OverBudget → FamilyDone l t x r k b space space' ns' ms' a → AllDone budget (numbered_webs L (webs_over L preds)) ns' ms' OverBudget
+      pub going_over : (a : Option ℕ) → a ≡ None → FamilyDone l t x r k b space space' ns' ms' a → AllDone budget (numbered_webs L (webs_over L preds)) ns' ms' None
       going_over a e F = record {
         answers = sym (rw (lt-leb (total_sweeps (webs_over L preds)) budget more));
         numbers = λ q. absurd (omega (arith, more));
@@ -124,7 +123,7 @@ module _ (l t x table first ds : List ℕ) (count r budget : ℕ) (K : Known l t
           more : budget < total_sweeps (webs_over L preds)
           more = omega (arith, many, next_total h, before_most L preds (k + 1), G.within)
 
-    pub going_end : count ≤ k → AllDone budget (numbered_webs L (webs_over L preds)) ns ms (Done total)
+    pub going_end : count ≤ k → AllDone budget (numbered_webs L (webs_over L preds)) ns ms (Some total)
     going_end h = record {
       answers = rw (sym all, le-leb total budget G.within);
       numbers = λ q. G.state.numbers ∙ rw G.preds (ap (λ (g : List ℕ → ℕ → ℕ → ℕ). per_token no_family g L) (number_end l t x preds k done));

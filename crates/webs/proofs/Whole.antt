@@ -1,15 +1,15 @@
 -- The whole: from the drawn graph and the words of the tokens to the answer.
 --   bounds_by, finds_all, known_by     what is known when the families are numbered
 --   state_start             no family is done
---   fresh_part, fresh_short    a part of a fresh array
+--   part_of                    a part of a fresh array
 --   drawn_webs              the webs over the drawn graph are those of `recover`
 --   whole_by                `recover`
 -- Assumes nothing.
+use Rattle.std.specs.Prelude.{Option, None, Some}
 use Prim.Native.Nat.{ℕ, ◌+◌, ◌-◌, ◌≤◌}
 use mathlib.Core.Path.{◌≡◌, refl, sym, ap, ◌∙◌}
 use mathlib.Core.Bool.{true}
 use mathlib.Core.List.{List, [], map}
-use mathlib.Core.Option.{Option, none, some}
 use native.Mathlib.Omega.{arith}
 use borrow.Author.Tests.{le-leb}
 use lib.ListN.{length, take, replicate, length-take, length-replicate}
@@ -26,7 +26,7 @@ use Rattle.theory.proofs.ListLaws.{replicate_default}
 use Rattle.model.specs.Places.{line_start}
 use Rattle.model.proofs.Decode.{length_listing}
 use Rattle.bits.specs.Edges.{row_words, preds_of}
-use Rattle.sweep.specs.declared.Sweeps.{Sweeps}
+use Rattle.std.specs.Prelude as rust
 use Rattle.families.specs.Families.{families_before, Numbered}
 use Rattle.families.specs.Tokens.{Finds}
 use Rattle.chains.specs.Chains.{waiting, token_word, Bounds, Chained}
@@ -69,8 +69,8 @@ module _ (l t x : List ℕ) (r : ℕ) (space ms : List ℕ) (B : Bounds l t) whe
       replicate_default {A = ℕ} (length ms - 0) (line_start l i + j) 0 ∙ go i j (fam_of (token (line (listing l t x) i) j)))
     where
       go : (i j : ℕ) (o : Option Family) → 0 ≡ of_family 0 (λ f i j. 0) o i j
-      go i j none = refl
-      go i j (some y) = refl
+      go i j None = refl
+      go i j (Some y) = refl
 
   -- the words as they are chained
   chained_numbers : (count : ℕ) (ns first : List ℕ) → Chained l t x count 0 ns first → ns ≡ per_token no_family (waiting_at l t x) (listing l t x)
@@ -80,11 +80,11 @@ module _ (l t x : List ℕ) (r : ℕ) (space ms : List ℕ) (B : Bounds l t) whe
       ∙ ap (λ (u : Token). word i j (fam_of u)) (sym (place_token l t x B.ok i j h q)) ∙ go i j (fam_of (token (line (listing l t x) i) j)))
     where
       word : ℕ → ℕ → Option Family → ℕ
-      word i j o = elim o [ none ↦ no_family | some y ↦ waiting l (token_list t x) (defined_families (listing l t x)) y.name (line_start l i + j) ]
+      word i j o = elim o [ None ↦ no_family | Some y ↦ waiting l (token_list t x) (defined_families (listing l t x)) y.name (line_start l i + j) ]
 
       go : (i j : ℕ) (o : Option Family) → word i j o ≡ of_family no_family (waiting_at l t x) o i j
-      go i j none = refl
-      go i j (some y) = refl
+      go i j None = refl
+      go i j (Some y) = refl
 
   pub state_start : (count : ℕ) (ns first zs : List ℕ) (D : Drawn (listing l t x) (length l) r space) → length ms ≡ length t → zs ≡ zeroed 0 ms
       → Chained l t x count 0 ns first → State l t x r 0 space ns zs
@@ -95,14 +95,8 @@ module _ (l t x : List ℕ) (r : ℕ) (space ms : List ℕ) (B : Bounds l t) whe
   }
 
 -- a part of a fresh array
-part_of : (k n : ℕ) → n ≤ k → length (take n (replicate {A = ℕ} k 0)) ≡ n
+pub part_of : (k n : ℕ) → n ≤ k → length (take n (replicate {A = ℕ} k 0)) ≡ n
 part_of k n h = length-take n (replicate k 0) ∙ omega (arith, length-replicate {A = ℕ} k 0)
-
-pub fresh_part : (n : ℕ) → n ≤ 1024 → length (take n (replicate {A = ℕ} 1024 0)) ≡ n
-fresh_part = part_of 1024
-
-pub fresh_short : (n : ℕ) → n ≤ 64 → length (take n (replicate {A = ℕ} 64 0)) ≡ n
-fresh_short = part_of 64
 
 -- The drawn graph
 
@@ -113,7 +107,7 @@ drawn_webs l t x r space two D =
     ap (webs_over (listing l t x)) (D.preds ∙ ap (λ (n : ℕ). map (predecessors D.graph) (up_to n)) (sym (length_listing l t x)))
     ∙ sym (rw (le-leb 2 (length (listing l t x)) (omega (arith, length_listing l t x)), D.flow))
 
-pub whole_by : (l t x : List ℕ) (r budget : ℕ) (space ns ms : List ℕ) (a : Sweeps) → 2 ≤ length l → Drawn (listing l t x) (length l) r space
+pub whole_by : (l t x : List ℕ) (r budget : ℕ) (space ns ms : List ℕ) (a : rust.Option ℕ) → 2 ≤ length l → Drawn (listing l t x) (length l) r space
     → AllDone budget (numbered_webs (listing l t x) (webs_over (listing l t x) (preds_of (length l) r space))) ns ms a
     → AllDone budget (numbered_webs (listing l t x) (or_else (recover (listing l t x)) [])) ns ms a
 whole_by l t x r budget space ns ms a two D A = rw (drawn_webs l t x r space two D) at A

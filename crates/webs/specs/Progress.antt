@@ -7,8 +7,7 @@
 --   sweeps_before L preds k     the sweeps of the first k families together
 --   Drawn L n r l               the words l hold the flow graph of the listing L
 -- Assumes nothing.
-use Rattle.std.specs.Prelude.{if◌then◌else◌, ℕ, ◌+◌, ◌≡◌, ◌&&◌, not, List, map, eqb, leb, take}
-use Rattle.std.proofs.Math.Option.{some}
+use Rattle.std.specs.Prelude.{if◌then◌else◌, ℕ, ◌+◌, ◌≡◌, ◌&&◌, not, List, map, eqb, leb, take, Some}
 use Rattle.definitions.specs.Lists.{filter, up_to}
 use Rattle.definitions.specs.Model.{Line}
 use Rattle.definitions.specs.Columns.{token_list, listing}
@@ -41,6 +40,6 @@ sweeps_before L preds k = total_sweeps (map (webs_of L preds) (filter (λ f. not
 
 pub record Drawn (L : List Line) (n r : ℕ) (l : List ℕ) : Type 0 where
   pub graph : List (List ℕ)
-  pub flow : flow_graph L ≡ some graph
+  pub flow : flow_graph L ≡ Some graph
   pub preds : preds_of n r l ≡ map (predecessors graph) (up_to n)
   pub agree : Agree n r l

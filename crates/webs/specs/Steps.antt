@@ -11,7 +11,7 @@ use Rattle.definitions.specs.Columns.{token_list, listing}
 use Rattle.definitions.specs.Answers.{no_family, per_token, Numbered}
 use Rattle.bits.specs.Edges.{row_words, Agree, preds_of}
 use Rattle.sweep.specs.Solved.{answer}
-use Rattle.sweep.specs.declared.Sweeps.{Sweeps}
+use Rattle.std.specs.Prelude.{Option}
 use Rattle.families.specs.Families.{Defs}
 use Rattle.families.specs.Tokens.{Finds, family_name}
 use Rattle.chains.specs.Chains.{next_place, Bounds}
@@ -31,7 +31,7 @@ pub record State (l t x : List ℕ) (r k : ℕ) (space ns ms : List ℕ) : Type 
   pub numbers : ns ≡ per_token no_family (number_after l t x (webs_over (listing l t x) (preds_of (length l) r space)) k) (listing l t x)
   pub marks : ms ≡ per_token 0 (mark_after (listing l t x) (webs_over (listing l t x) (preds_of (length l) r space)) k) (listing l t x)
 
-pub record FamilyDone (l t x : List ℕ) (r k budget : ℕ) (space₀ space ns ms : List ℕ) (a : Sweeps) : Type 0 where
+pub record FamilyDone (l t x : List ℕ) (r k budget : ℕ) (space₀ space ns ms : List ℕ) (a : Option ℕ) : Type 0 where
   pub answers : a ≡ answer budget (family_sweeps (listing l t x) (preds_of (length l) r space₀) (family_name (listing l t x) k))
   pub preds : family_sweeps (listing l t x) (preds_of (length l) r space₀) (family_name (listing l t x) k) ≤ budget
       → preds_of (length l) r space ≡ preds_of (length l) r space₀
@@ -45,7 +45,7 @@ pub record Going (l t x : List ℕ) (r k so_far budget : ℕ) (space₀ space ns
   pub total : so_far ≡ sweeps_before (listing l t x) (preds_of (length l) r space₀) k
   pub within : so_far ≤ budget
 
-pub record AllDone (budget : ℕ) (N : Numbered) (ns ms : List ℕ) (a : Sweeps) : Type 0 where
+pub record AllDone (budget : ℕ) (N : Numbered) (ns ms : List ℕ) (a : Option ℕ) : Type 0 where
   pub answers : a ≡ answer budget N.sweeps
   pub numbers : N.sweeps ≤ budget → ns ≡ N.numbers
   pub marks : N.sweeps ≤ budget → ms ≡ N.marks

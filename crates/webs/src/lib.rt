@@ -7,26 +7,24 @@
 
 ghost use Rattle.std.specs.Prelude.{◌≡◌, true, [], ◌+◌, ◌*◌, ◌<◌, ◌≤◌, length};
 ghost use Rattle.definitions.specs.Lists.{or_else};
-ghost use Rattle.definitions.specs.Columns.{listing};
 ghost use Rattle.definitions.specs.Questions.{covers, space_words};
 ghost use Rattle.definitions.specs.Recover.{recover};
 ghost use Rattle.definitions.specs.Answers.{numbered_webs};
+ghost use Rattle.model.specs.Listings.{listing_of};
 ghost use Rattle.bits.specs.Edges.{row_words, preds_of};
 ghost use Rattle.webs.specs.Progress.{webs_over, Drawn};
 ghost use Rattle.webs.specs.Steps.{Known, State, AllDone};
 
 use chains::tokens::chain_tokens;
 use families::families;
+use model::listing::Listing;
 use steps::all_families;
-use sweep::Sweeps;
 
 pub mod steps;
 
-// All families, with the words that they share.
-fn full_webs(
-    lines: &[u32],
-    tokens: &[u32],
-    text: &[u8],
+// All families, with the words that they share: for each line N have room. To zero them is most of what a short listing costs.
+fn all_webs<const N: usize>(
+    code: &Listing,
     table: &[u16],
     first: &[u16],
     count: usize,
@@ -36,23 +34,21 @@ fn full_webs(
     budget: usize,
     numbers: &mut [u32],
     marks: &mut [u8],
-) -> Sweeps
-    requires { Known lines.now tokens.now text.now table.now first.now defs.now count r × State lines.now tokens.now text.now r 0 space.old numbers.old marks.old × (space_words (length lines.now) ≤ length space.old) }
-    ensures { let L = listing lines.now tokens.now text.now in AllDone budget (numbered_webs L (webs_over L (preds_of (length lines.now) r space.old))) numbers.new marks.new result }
+) -> Option<usize>
+    requires { Known code.now.lines.now code.now.tokens.now code.now.text.now table.now first.now defs.now count r × State code.now.lines.now code.now.tokens.now code.now.text.now r 0 space.old numbers.old marks.old × (space_words (length code.now.lines.now) ≤ length space.old) × (length code.now.lines.now ≤ N) × (N ≤ 1024) }
+    ensures { let L = listing_of code.now in AllDone budget (numbered_webs L (webs_over L (preds_of (length code.now.lines.now) r space.old))) numbers.new marks.new result }
 {
-    let n = lines.len();
-    let mut reads = [0u16; 1024];
-    let mut nums = [0u16; 1024];
-    let mut rep = [0u16; 1024];
-    let mut rank = [0u16; 1024];
-    let mut set = [0u16; 1024];
-    let mut seen = [0u8; 1024];
-    let mut own = [0u16; 1024];
-    let mut read = [0u16; 1024];
+    let n = code.lines.len();
+    let mut reads = [0u16; N];
+    let mut nums = [0u16; N];
+    let mut rep = [0u16; N];
+    let mut rank = [0u16; N];
+    let mut set = [0u16; N];
+    let mut seen = [0u8; N];
+    let mut own = [0u16; N];
+    let mut read = [0u16; N];
     all_families(
-        lines,
-        tokens,
-        text,
+        code,
         table,
         first,
         count,
@@ -73,140 +69,47 @@ fn full_webs(
     )
 }
 
-// The same of a listing of at most 64 lines: shorter arrays to zero.
-fn short_webs(
-    lines: &[u32],
-    tokens: &[u32],
-    text: &[u8],
-    table: &[u16],
-    first: &[u16],
-    count: usize,
-    defs: &[u16],
+// The same as `recover`, with local arrays: for each line N have room, for the table of the families T.
+fn recover_in<const N: usize, const T: usize>(
+    code: &Listing,
     space: &mut [u64],
     r: usize,
     budget: usize,
     numbers: &mut [u32],
     marks: &mut [u8],
-) -> Sweeps
-    requires { Known lines.now tokens.now text.now table.now first.now defs.now count r × State lines.now tokens.now text.now r 0 space.old numbers.old marks.old × (space_words (length lines.now) ≤ length space.old) × (length lines.now ≤ 64) }
-    ensures { let L = listing lines.now tokens.now text.now in AllDone budget (numbered_webs L (webs_over L (preds_of (length lines.now) r space.old))) numbers.new marks.new result }
+) -> Option<usize>
+    requires in_bounds { (2 ≤ length code.now.lines.now) × (length code.now.lines.now ≤ 1024) × (length code.now.tokens.now ≤ 16384) × (covers 512 0 code.now.lines.now (length code.now.tokens.now) ≡ true) × (r ≡ row_words (length code.now.lines.now)) }
+    requires lines_in_bounds { (space_words (length code.now.lines.now) ≤ length space.old) × (length numbers.old ≡ length code.now.tokens.now) × (length marks.old ≡ length code.now.tokens.now) × Drawn (listing_of code.now) (length code.now.lines.now) r space.old }
+    requires room { (256 + 2 * length code.now.lines.now ≤ T) × (length code.now.lines.now ≤ N) × (N ≤ 1024) × (T ≤ 2304) }
+    ensures { let L = listing_of code.now in AllDone budget (numbered_webs L (or_else (recover L) [])) numbers.new marks.new result }
 {
-    let n = lines.len();
-    let mut reads = [0u16; 64];
-    let mut nums = [0u16; 64];
-    let mut rep = [0u16; 64];
-    let mut rank = [0u16; 64];
-    let mut set = [0u16; 64];
-    let mut seen = [0u8; 64];
-    let mut own = [0u16; 64];
-    let mut read = [0u16; 64];
-    all_families(
-        lines,
-        tokens,
-        text,
-        table,
-        first,
-        count,
-        defs,
-        space,
-        r,
-        budget,
-        numbers,
-        marks,
-        &mut reads,
-        &mut nums,
-        &mut rep,
-        &mut rank,
-        &mut set,
-        &mut seen,
-        &mut own[..n],
-        &mut read[..n],
-    )
-}
-
-// All families, with arrays that fit the listing.
-fn all_webs(
-    lines: &[u32],
-    tokens: &[u32],
-    text: &[u8],
-    table: &[u16],
-    first: &[u16],
-    count: usize,
-    defs: &[u16],
-    space: &mut [u64],
-    r: usize,
-    budget: usize,
-    numbers: &mut [u32],
-    marks: &mut [u8],
-) -> Sweeps
-    requires { Known lines.now tokens.now text.now table.now first.now defs.now count r × State lines.now tokens.now text.now r 0 space.old numbers.old marks.old × (space_words (length lines.now) ≤ length space.old) }
-    ensures { let L = listing lines.now tokens.now text.now in AllDone budget (numbered_webs L (webs_over L (preds_of (length lines.now) r space.old))) numbers.new marks.new result }
-{
-    if lines.len() <= 64 {
-        return short_webs(
-            lines, tokens, text, table, first, count, defs, space, r, budget, numbers, marks,
-        );
-    }
-    full_webs(
-        lines, tokens, text, table, first, count, defs, space, r, budget, numbers, marks,
-    )
-}
-
-// The same as `recover`, with the table of the families, the families that the lines define and the first places of the chains lent.
-fn recover_in(
-    lines: &[u32],
-    tokens: &[u32],
-    text: &[u8],
-    space: &mut [u64],
-    r: usize,
-    budget: usize,
-    numbers: &mut [u32],
-    marks: &mut [u8],
-    table: &mut [u16],
-    defs: &mut [u16],
-    first: &mut [u16],
-) -> Sweeps
-    requires in_bounds { (2 ≤ length lines.now) × (length lines.now ≤ 1024) × (length tokens.now ≤ 16384) × (covers 512 0 lines.now (length tokens.now) ≡ true) × (r ≡ row_words (length lines.now)) }
-    requires lines_in_bounds { (space_words (length lines.now) ≤ length space.old) × (length numbers.old ≡ length tokens.now) × (length marks.old ≡ length tokens.now) × Drawn (listing lines.now tokens.now text.now) (length lines.now) r space.old }
-    requires lines_in_bounds_2 { (256 + 2 * length lines.now ≤ length table.old) × (length lines.now ≤ length defs.old) × (length lines.now ≤ length first.old) }
-    ensures { let L = listing lines.now tokens.now text.now in AllDone budget (numbered_webs L (or_else (recover L) [])) numbers.new marks.new result }
-{
-    let count = families(lines, tokens, text, table, defs);
-    chain_tokens(lines, tokens, text, table, count, numbers, first);
-    text::zero_bytes(marks, 0);
-    all_webs(
-        lines, tokens, text, table, first, count, defs, space, r, budget, numbers, marks,
+    let mut table = [0u16; T];
+    let mut defs = [0u16; N];
+    let mut first = [0u16; N];
+    let count = families(code, &mut table, &mut defs);
+    chain_tokens(code, &table, count, numbers, &mut first);
+    text::zero(marks, 0);
+    all_webs::<N>(
+        code, &table, &first, count, &defs, space, r, budget, numbers, marks,
     )
 }
 
 // The webs of a listing whose flow graph is drawn in the working space: a number and a mark for each token. Answers the total of sweeps.
 pub fn recover(
-    lines: &[u32],
-    tokens: &[u32],
-    text: &[u8],
+    code: &Listing,
     space: &mut [u64],
     r: usize,
     budget: usize,
     numbers: &mut [u32],
     marks: &mut [u8],
-) -> Sweeps
-    requires in_bounds { (2 ≤ length lines.now) × (length lines.now ≤ 1024) × (length tokens.now ≤ 16384) × (covers 512 0 lines.now (length tokens.now) ≡ true) × (r ≡ row_words (length lines.now)) }
-    requires lines_in_bounds { (space_words (length lines.now) ≤ length space.old) × (length numbers.old ≡ length tokens.now) × (length marks.old ≡ length tokens.now) × Drawn (listing lines.now tokens.now text.now) (length lines.now) r space.old }
-    ensures { let L = listing lines.now tokens.now text.now in AllDone budget (numbered_webs L (or_else (recover L) [])) numbers.new marks.new result }
+) -> Option<usize>
+    requires in_bounds { (2 ≤ length code.now.lines.now) × (length code.now.lines.now ≤ 1024) × (length code.now.tokens.now ≤ 16384) × (covers 512 0 code.now.lines.now (length code.now.tokens.now) ≡ true) × (r ≡ row_words (length code.now.lines.now)) }
+    requires lines_in_bounds { (space_words (length code.now.lines.now) ≤ length space.old) × (length numbers.old ≡ length code.now.tokens.now) × (length marks.old ≡ length code.now.tokens.now) × Drawn (listing_of code.now) (length code.now.lines.now) r space.old }
+    ensures { let L = listing_of code.now in AllDone budget (numbered_webs L (or_else (recover L) [])) numbers.new marks.new result }
 {
-    if 64 < lines.len() {
-        let mut table = [0u16; 2304];
-        let mut defs = [0u16; 1024];
-        let mut first = [0u16; 1024];
-        return recover_in(
-            lines, tokens, text, space, r, budget, numbers, marks, &mut table, &mut defs,
-            &mut first,
-        );
+    if code.lines.len() <= 64 {
+        recover_in::<64, 384>(code, space, r, budget, numbers, marks)
+    } else {
+        recover_in::<1024, 2304>(code, space, r, budget, numbers, marks)
     }
-    let mut table = [0u16; 384];
-    let mut defs = [0u16; 64];
-    let mut first = [0u16; 64];
-    recover_in(
-        lines, tokens, text, space, r, budget, numbers, marks, &mut table, &mut defs, &mut first,
-    )
 }

@@ -4,9 +4,9 @@
 // Contracts cite `recover` of Rattle.definitions.specs.Recover and `numbered_webs` of Rattle.definitions.specs.Answers.
 ghost use Rattle.std.specs.Prelude.{◌≡◌, false, ◌<◌, ◌≤◌, length};
 ghost use Rattle.definitions.specs.Questions.{space_words};
-ghost use Rattle.definitions.specs.Columns.{listing};
 ghost use Rattle.definitions.specs.Recover.{address_taken};
 ghost use Rattle.definitions.specs.Answers.{numbered_webs};
+ghost use Rattle.model.specs.Listings.{listing_of};
 ghost use Rattle.bits.specs.Edges.{preds_of};
 ghost use Rattle.families.specs.Tokens.{family_name};
 ghost use Rattle.webs.specs.Progress.{webs_over};
@@ -14,15 +14,13 @@ ghost use Rattle.numbering.specs.Lines.{Scratch};
 ghost use Rattle.webs.specs.Steps.{Known, State, FamilyDone, AllDone};
 
 use family_tokens::{family_reads, write_family, write_zeros};
+use model::listing::Listing;
 use numbering::family_lines;
-use sweep::Sweeps;
 use walks::reads::address_taken;
 
 // Family k, whose address is not taken.
 fn family_free(
-    lines: &[u32],
-    tokens: &[u32],
-    text: &[u8],
+    code: &Listing,
     table: &[u16],
     first: &[u16],
     count: usize,
@@ -41,17 +39,15 @@ fn family_free(
     seen: &mut [u8],
     own: &mut [u16],
     read: &mut [u16],
-) -> Sweeps
-    requires known { Known lines.now tokens.now text.now table.now first.now defs.now count r × (k < count) × State lines.now tokens.now text.now r k space.old numbers.old marks.old }
-    requires k_value { (let L = listing lines.now tokens.now text.now in address_taken L (family_name L k) ≡ false) × (space_words (length lines.now) ≤ length space.old) }
-    requires lines_in_bounds { (length lines.now ≤ length reads.old) × Scratch (length lines.now) nums.old rep.old rank.old set.old seen.old own.old read.old }
-    ensures { FamilyDone lines.now tokens.now text.now r k budget space.old space.new numbers.new marks.new result }
+) -> Option<usize>
+    requires known { Known code.now.lines.now code.now.tokens.now code.now.text.now table.now first.now defs.now count r × (k < count) × State code.now.lines.now code.now.tokens.now code.now.text.now r k space.old numbers.old marks.old }
+    requires k_value { (let L = listing_of code.now in address_taken L (family_name L k) ≡ false) × (space_words (length code.now.lines.now) ≤ length space.old) }
+    requires lines_in_bounds { (length code.now.lines.now ≤ length reads.old) × Scratch (length code.now.lines.now) nums.old rep.old rank.old set.old seen.old own.old read.old }
+    ensures { FamilyDone code.now.lines.now code.now.tokens.now code.now.text.now r k budget space.old space.new numbers.new marks.new result }
 {
-    let m = family_reads(
-        lines, tokens, text, table, first, numbers, defs, count, k, seen, reads,
-    );
-    let n = lines.len();
-    let Sweeps::Done(s) = family_lines(
+    let m = family_reads(code, table, first, numbers, defs, count, k, seen, reads);
+    let n = code.lines.len();
+    let s = family_lines(
         space,
         defs,
         k,
@@ -66,20 +62,14 @@ fn family_free(
         seen,
         own,
         read,
-    ) else {
-        return Sweeps::OverBudget;
-    };
-    write_family(
-        lines, tokens, text, first, numbers, marks, k, defs, own, read,
-    );
-    Sweeps::Done(s)
+    )?;
+    write_family(code, first, numbers, marks, k, defs, own, read);
+    Some(s)
 }
 
 // Family k.
 fn family(
-    lines: &[u32],
-    tokens: &[u32],
-    text: &[u8],
+    code: &Listing,
     table: &[u16],
     first: &[u16],
     count: usize,
@@ -98,26 +88,24 @@ fn family(
     seen: &mut [u8],
     own: &mut [u16],
     read: &mut [u16],
-) -> Sweeps
-    requires known { Known lines.now tokens.now text.now table.now first.now defs.now count r × (k < count) × State lines.now tokens.now text.now r k space.old numbers.old marks.old }
-    requires lines_in_bounds { (space_words (length lines.now) ≤ length space.old) × (length lines.now ≤ length reads.old) × Scratch (length lines.now) nums.old rep.old rank.old set.old seen.old own.old read.old }
-    ensures { FamilyDone lines.now tokens.now text.now r k budget space.old space.new numbers.new marks.new result }
+) -> Option<usize>
+    requires known { Known code.now.lines.now code.now.tokens.now code.now.text.now table.now first.now defs.now count r × (k < count) × State code.now.lines.now code.now.tokens.now code.now.text.now r k space.old numbers.old marks.old }
+    requires lines_in_bounds { (space_words (length code.now.lines.now) ≤ length space.old) × (length code.now.lines.now ≤ length reads.old) × Scratch (length code.now.lines.now) nums.old rep.old rank.old set.old seen.old own.old read.old }
+    ensures { FamilyDone code.now.lines.now code.now.tokens.now code.now.text.now r k budget space.old space.new numbers.new marks.new result }
 {
-    if address_taken(lines, tokens, text, table, numbers, first, count, k) {
-        write_zeros(lines, tokens, text, first, numbers, k, defs, own, read);
-        return Sweeps::Done(0);
+    if address_taken(code, table, numbers, first, count, k) {
+        write_zeros(code, first, numbers, k, defs, own, read);
+        return Some(0);
     }
     family_free(
-        lines, tokens, text, table, first, count, defs, k, space, r, budget, numbers, marks, reads,
-        nums, rep, rank, set, seen, own, read,
+        code, table, first, count, defs, k, space, r, budget, numbers, marks, reads, nums, rep,
+        rank, set, seen, own, read,
     )
 }
 
 // All families, one after the other.
 pub fn all_families(
-    lines: &[u32],
-    tokens: &[u32],
-    text: &[u8],
+    code: &Listing,
     table: &[u16],
     first: &[u16],
     count: usize,
@@ -135,18 +123,15 @@ pub fn all_families(
     seen: &mut [u8],
     own: &mut [u16],
     read: &mut [u16],
-) -> Sweeps
-    requires known { Known lines.now tokens.now text.now table.now first.now defs.now count r × State lines.now tokens.now text.now r 0 space.old numbers.old marks.old }
-    requires lines_in_bounds { (space_words (length lines.now) ≤ length space.old) × (length lines.now ≤ length reads.old) × Scratch (length lines.now) nums.old rep.old rank.old set.old seen.old own.old read.old }
-    ensures { let L = listing lines.now tokens.now text.now in AllDone budget (numbered_webs L (webs_over L (preds_of (length lines.now) r space.old))) numbers.new marks.new result }
+) -> Option<usize>
+    requires known { Known code.now.lines.now code.now.tokens.now code.now.text.now table.now first.now defs.now count r × State code.now.lines.now code.now.tokens.now code.now.text.now r 0 space.old numbers.old marks.old }
+    requires lines_in_bounds { (space_words (length code.now.lines.now) ≤ length space.old) × (length code.now.lines.now ≤ length reads.old) × Scratch (length code.now.lines.now) nums.old rep.old rank.old set.old seen.old own.old read.old }
+    ensures { let L = listing_of code.now in AllDone budget (numbered_webs L (webs_over L (preds_of (length code.now.lines.now) r space.old))) numbers.new marks.new result }
 {
     let mut total = 0;
-    let mut k = 0;
-    while k < count {
-        let Sweeps::Done(s) = family(
-            lines,
-            tokens,
-            text,
+    for k in 0..count {
+        let s = family(
+            code,
             table,
             first,
             count,
@@ -165,11 +150,8 @@ pub fn all_families(
             seen,
             own,
             read,
-        ) else {
-            return Sweeps::OverBudget;
-        };
+        )?;
         total += s;
-        k += 1;
     }
-    Sweeps::Done(total)
+    Some(total)
 }

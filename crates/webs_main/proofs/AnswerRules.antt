@@ -13,11 +13,11 @@ use lib.ListN.{length, take}
 use Rattle.definitions.specs.Answers.{accepted}
 use Rattle.definitions.specs.Calls.{web_call}
 use Rattle.json_definitions.specs.JsonCalls.{read_call}
-use Rattle.pseudo_ssa.specs.declared.Webs.{Webs}
-use Rattle.pseudo_ssa.specs.declared.Webs.TheVariants.{Accepted, Refused}
+use Rattle.questions.specs.Refusals.{number}
+use Rattle.questions.specs.declared.Refusal.{Refusal}
 use Rattle.pseudo_ssa.specs.Answers.{called}
-use Rattle.json_read.specs.declared.Answer.{Answer}
-use Rattle.json_read.specs.declared.Answer.TheVariants as read
+use Rattle.std.specs.Prelude.{Some, None, Result, Ok, Err}
+use Rattle.json_listing.specs.declared.Counts.{Counts}
 use Rattle.json_read.specs.Answers as reader
 use Rattle.json_append.specs.Appended.{Appended}
 use Rattle.rows.specs.Rows.{all_rows, refused_text, Short, Printed}
@@ -29,8 +29,8 @@ pub refused_printed : (n : ℕ) (out out' : List ℕ) (e : ℕ) → Appended out
 refused_printed n out out' e f h k = printed (refused_text n) out out' e f (omega arith)
 
 module _ (out' : List ℕ) (e : ℕ) where
-  module _ (l t x numbers marks space : List ℕ) (a : Webs) (answer : called a numbers marks space ≡ web_call l t x web_room) where
-    pub webs_accepted : (out : List ℕ) (sweeps : ℕ) → a ≡ Accepted sweeps → 36864 ≤ length out → length t ≤ 1024 → length x ≤ 8192
+  module _ (l t x numbers marks space : List ℕ) (a : Result ℕ Refusal) (answer : called a numbers marks space ≡ web_call l t x web_room) where
+    pub webs_accepted : (out : List ℕ) (sweeps : ℕ) → a ≡ Ok sweeps → 36864 ≤ length out → length t ≤ 1024 → length x ≤ 8192
         → Appended out 0 (all_rows l t x numbers marks) out' e → Short l t x (all_rows l t x numbers marks) → Printed (columns_text l t x) out' e
     unfolding columns_text webs_text
     webs_accepted out sweeps q room few short f s =
@@ -38,21 +38,21 @@ module _ (out' : List ℕ) (e : ℕ) where
         let asked = web_asked l t x web_room sweeps y in
         rw (← answer, q) (printed (all_rows l t x numbers marks) out out' e f (omega (arith, s asked.0 asked.1)))
 
-    pub webs_refused : (n : ℕ) → a ≡ Refused n → Printed (refused_text n) out' e → Printed (columns_text l t x) out' e
+    pub webs_refused : (r : Refusal) (n : ℕ) → a ≡ Err r → n ≡ number r → Printed (refused_text n) out' e → Printed (columns_text l t x) out' e
     unfolding columns_text webs_text
-    webs_refused n q f = rw (← answer, q) f
+    webs_refused r n q z f = rw (← answer, q, ← z) f
 
   module _ (s : List ℕ) where
     pub program_long : 32768 < length s → Printed (refused_text 10) out' e → Printed (program s) out' e
     unfolding program
     program_long h f = rw (lt-ltb 32768 (length s) h) f
 
-    module _ (short : length s ≤ 32768) (l a t x : List ℕ) (r : Answer) (answer : reader.called r l a t x ≡ read_call s room) where
-      pub read_accepted : (k n y : ℕ) (l' t' x' : List ℕ) → r ≡ read.Accepted k n y → l' ≡ take k l → t' ≡ take n t → x' ≡ take y x
+    module _ (short : length s ≤ 32768) (l a t x : List ℕ) where
+      pub read_accepted : (n : Counts) (l' t' x' : List ℕ) → reader.called (Some n) l a t x ≡ read_call s room → l' ≡ take n.lines l → t' ≡ take n.tokens t → x' ≡ take n.text x
           → Printed (columns_text l' t' x') out' e → Printed (program s) out' e
       unfolding program read_text
-      read_accepted k n y l' t' x' q u v w f = rw (le-ltb 32768 (length s) short, ← answer, q, ← u, ← v, ← w) f
+      read_accepted n l' t' x' q u v w f = rw (le-ltb 32768 (length s) short, ← q, ← u, ← v, ← w) f
 
-      pub read_refused : r ≡ read.Refused → Printed (refused_text 10) out' e → Printed (program s) out' e
+      pub read_refused : reader.called None l a t x ≡ read_call s room → Printed (refused_text 10) out' e → Printed (program s) out' e
       unfolding program read_text
-      read_refused q f = rw (le-ltb 32768 (length s) short, ← answer, q) f
+      read_refused q f = rw (le-ltb 32768 (length s) short, ← q) f

@@ -5,8 +5,9 @@ ghost use Rattle.std.specs.Prelude.{◌≤◌, length};
 ghost use Rattle.rows.specs.Rows.{Printed};
 ghost use Rattle.webs_main.specs.Program.{columns_text, program};
 
-use json_read::{Answer, read_json};
-use pseudo_ssa::{Webs, recover};
+use json_read::read_json;
+use model::listing::Listing;
+use pseudo_ssa::recover;
 use rows::columns::{first, first_bytes};
 use rows::{put_refused, put_rows};
 
@@ -14,16 +15,16 @@ use rows::{put_refused, put_rows};
 const MOST_INPUT: usize = 32768;
 
 // The answer of the web call, made with room for 1,024 tokens and working space for 64 lines.
-fn put_webs(out: &mut [u8], lines: &[u32], tokens: &[u32], text: &[u8]) -> usize
-    requires { (36864 ≤ length out.old) × (length tokens.now ≤ 1024) × (length text.now ≤ 8192) }
-    ensures { Printed (columns_text lines.now tokens.now text.now) out.new result }
+fn put_webs(out: &mut [u8], code: &Listing) -> usize
+    requires { (36864 ≤ length out.old) × (length code.now.tokens.now ≤ 1024) × (length code.now.text.now ≤ 8192) }
+    ensures { Printed (columns_text code.now.lines.now code.now.tokens.now code.now.text.now) out.new result }
 {
     let mut numbers = [0u32; 1024];
     let mut marks = [0u8; 1024];
     let mut space = [0u64; 832];
-    match recover(lines, tokens, text, &mut numbers, &mut marks, &mut space) {
-        Webs::Accepted(_) => put_rows(out, lines, tokens, text, &numbers, &marks),
-        Webs::Refused(n) => put_refused(out, n),
+    match recover(code, &mut numbers, &mut marks, &mut space) {
+        Ok(_) => put_rows(out, code, &numbers, &marks),
+        Err(refusal) => put_refused(out, refusal.number()),
     }
 }
 
@@ -40,12 +41,16 @@ pub fn put_answer(out: &mut [u8], s: &[u8]) -> usize
         return put_refused(out, 10);
     }
     match read_json(s, &mut lines, &mut addresses, &mut tokens, &mut text) {
-        Answer::Accepted(k, n, x) => put_webs(
-            out,
-            first(&lines, k),
-            first(&tokens, n),
-            first_bytes(&text, x),
-        ),
-        Answer::Refused => put_refused(out, 10),
+        Some(n) => {
+            let rows = first(&lines, n.lines);
+            let words = first(&tokens, n.tokens);
+            let code = Listing {
+                lines: rows,
+                tokens: words,
+                text: first_bytes(&text, n.text),
+            };
+            put_webs(out, &code)
+        }
+        None => put_refused(out, 10),
     }
 }

@@ -1,21 +1,20 @@
-// Words of 16 bits: reading one, casts, zeroing. Constant time, but for zeroing, which takes a step a word.
+// Words of 16 bits: reading one, casts. Constant time.
 
 #![tactic(auto)]
 
-ghost use Rattle.std.specs.Prelude.{◌≡◌, max, ◌<◌, get_or};
-ghost use Rattle.text.specs.Zeroed.{zeroed};
+ghost use Rattle.std.specs.Prelude.{◌≡◌, ◌<◌, get_or};
 
 // The word at k, 0 past the end.
 pub fn word(ws: &[u16], k: usize) -> u16
     ensures { result ≡ get_or ws.now k 0 }
 {
-    if k < ws.len() { ws[k] } else { 0 }
+    ws.get(k).copied().unwrap_or(0)
 }
 
 pub fn wide(x: u16) -> usize
     ensures { result ≡ x }
 {
-    x as usize
+    usize::from(x)
 }
 
 pub fn narrow(x: usize) -> u16
@@ -29,22 +28,5 @@ pub fn narrow(x: usize) -> u16
 pub fn number(ws: &[u16], k: usize) -> usize
     ensures { result ≡ get_or ws.now k 0 }
 {
-    wide(word(ws, k))
-}
-
-pub fn greater(a: usize, b: usize) -> usize
-    ensures { result ≡ max a b }
-{
-    if a < b { b } else { a }
-}
-
-// Zeroes all words.
-pub fn zero(words: &mut [u16])
-    ensures { words.new ≡ zeroed 0 words.old }
-{
-    let mut i = 0;
-    while i < words.len() {
-        words[i] = 0;
-        i += 1;
-    }
+    usize::from(word(ws, k))
 }

@@ -8,10 +8,10 @@
 --   joins_kind          two tokens that join are of one kind
 --   joins_same, joins_never, joins_other    a kind that joins its like; one that joins none
 -- Assumes nothing.
+use Rattle.std.specs.Prelude.{Some}
 use mathlib.Core.Path.{◌≡◌, refl, sym, ap, ◌∙◌}
 use mathlib.Core.Bool.{Bool, true, false, ◌&&◌, ◌||◌, and-true, and-false}
 use mathlib.Core.List.{List, [], ◌∷◌, ◌++◌, append-nil, append_assoc}
-use mathlib.Core.Option.{some}
 use Prim.Native.Nat.{ℕ, ◌≤◌}
 use native.Mathlib.Omega.{arith}
 use borrow.Author.Tests.{eqb-true, ne_eqb}
@@ -28,7 +28,7 @@ pub end_view : {A : Type 0} (t : A) (ts : List A) → (rs : List A) × (u : A) �
 end_view t [] = ([], t, refl)
 end_view t (u ∷ ts) = let r = end_view u ts in (t ∷ r.0, r.1, ap (λ (l : List _). t ∷ l) r.2)
 
-pub last_snoc : {A : Type 0} (ts : List A) (u : A) → last (ts ++ (u ∷ [])) ≡ some u
+pub last_snoc : {A : Type 0} (ts : List A) (u : A) → last (ts ++ (u ∷ [])) ≡ Some u
 unfolding last
 last_snoc [] u = refl
 last_snoc (t ∷ []) u = refl

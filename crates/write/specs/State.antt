@@ -12,8 +12,8 @@
 --   written_tokens s     all tokens, the open line's behind those of the lines
 --   written_bytes s      all bytes, the open token's behind those of the tokens
 -- Assumes nothing.
-use Rattle.std.specs.Prelude.{ℕ, Bool, List, [], ◌∷◌, ◌++◌}
-use Rattle.std.proofs.Math.Option.{Option, map}
+use Rattle.std.specs.Option.{option_map}
+use Rattle.std.specs.Prelude.{ℕ, Bool, List, [], ◌∷◌, ◌++◌, Option}
 use Rattle.definitions.specs.Lists.{or_else, last}
 use Rattle.definitions.specs.Model.{Token, Line, tok, pseudo_line, text}
 use Rattle.definitions.specs.Columns.{all_tokens}
@@ -58,7 +58,7 @@ abbrev pub kinds_join : ℕ → ℕ → Bool
 kinds_join j k = joins (tok [] j) (tok [] k)
 
 abbrev pub last_kind : List Token → ℕ
-last_kind ts = or_else (map (λ t. t.kind) (last ts)) 256
+last_kind ts = or_else (option_map (λ t. t.kind) (last ts)) 256
 
 -- What is written
 

@@ -12,11 +12,8 @@
 ghost use Rattle.std.specs.Prelude.{if◌then◌else◌, ◌≡◌, true, List, [], ◌++◌, ℕ, ◌+◌, ◌<◌, ◌≤◌, length, take};
 ghost use Rattle.definitions.specs.Lists.{is_some, or_else};
 ghost use Rattle.definitions.specs.Model.{Line};
-ghost use Rattle.model.specs.Addresses.{address};
 ghost use Rattle.write.specs.State.{State, add_bytes, end_token, end_merged, add_token, add_merged, end_line, done, kinds_join};
 ghost use Rattle.write.specs.Holds.{columns, Filled, Room, Holds, Writes, Finished};
-
-use model::columns::Address;
 
 // How many lines, tokens and bytes are written, and the kind of the open line's last token, NO_KIND where it has none.
 #[derive(Clone, Copy)]
@@ -51,10 +48,8 @@ fn copy(text: &mut [u8], from: usize, bytes: &[u8])
     requires { from + length bytes.now ≤ length text.old }
     ensures { Filled (take from text.old ++ bytes.now) (from + length bytes.now) text.new }
 {
-    let mut j = 0;
-    while j < bytes.len() {
+    for j in 0..bytes.len() {
         text[from + j] = bytes[j];
-        j += 1;
     }
 }
 
@@ -185,21 +180,21 @@ pub fn add_merged(
 }
 
 // What a line's word says of its address.
-fn flag(addr: Address) -> usize
-    ensures { (result ≡ (if is_some (address addr) then 256 else 0)) × (result ≤ 256) }
+fn flag(addr: Option<u64>) -> usize
+    ensures { (result ≡ (if is_some addr then 256 else 0)) × (result ≤ 256) }
 {
     match addr {
-        Address::At(_) => 256,
-        Address::Missing => 0,
+        Some(_) => 256,
+        None => 0,
     }
 }
 
-fn address_word(addr: Address) -> u64
-    ensures { result ≡ or_else (address addr) 0 }
+fn address_word(addr: Option<u64>) -> u64
+    ensures { result ≡ or_else addr 0 }
 {
     match addr {
-        Address::At(a) => a,
-        Address::Missing => 0,
+        Some(a) => a,
+        None => 0,
     }
 }
 
@@ -208,11 +203,11 @@ pub fn end_line(
     lines: &mut [u32],
     addresses: &mut [u64],
     c: Cursor,
-    addr: Address,
+    addr: Option<u64>,
     indent: usize,
 ) -> Cursor
     requires { indent < 256 }
-    ensures { (t x : List ℕ) → Writes (end_line (address addr) indent) (columns lines.old addresses.old t x) c (columns lines.new addresses.new t x) result }
+    ensures { (t x : List ℕ) → Writes (end_line addr indent) (columns lines.old addresses.old t x) c (columns lines.new addresses.new t x) result }
 {
     let k = c.lines;
     let end = c.tokens;
@@ -251,8 +246,8 @@ pub fn finish(
     let n = c.lines;
     let k = c.tokens;
     let end = c.text;
-    text::zero_words32(lines, n);
-    text::zero_words64(addresses, n);
-    text::zero_words32(tokens, k);
-    text::zero_bytes(text, end);
+    text::zero(lines, n);
+    text::zero(addresses, n);
+    text::zero(tokens, k);
+    text::zero(text, end);
 }

@@ -6,11 +6,12 @@
 
 ghost use Rattle.std.specs.Prelude.{◌≡◌, true, List, map, ◌++◌, ℕ, ◌+◌, ◌/◌, ◌<◌, ◌≤◌, length, take, get_or};
 ghost use Rattle.definitions.specs.Lists.{part};
-ghost use Rattle.definitions.specs.Columns.{token_list};
 ghost use Rattle.definitions.specs.Questions.{covers};
+ghost use Rattle.model.specs.Listings.{tokens_of};
 ghost use Rattle.write.specs.Holds.{columns, Filled};
 ghost use Rattle.write_run.specs.Runs.{moved, Runs};
 
+use model::listing::Listing;
 use pseudo_types::texts::token_start;
 use write::Cursor;
 
@@ -32,10 +33,8 @@ fn move_words(words: &mut [u32], k: usize, run: &[u32], a: usize, b: usize)
     requires by_index { (j : ℕ) → j < length run.now → (a ≤ get_or run.now j 0 / 256) × (get_or run.now j 0 / 256 + b < a + 16777216) }
     ensures { Filled (take k words.old ++ map (moved a b) run.now) (k + length run.now) words.new }
 {
-    let mut j = 0;
-    while j < run.len() {
+    for j in 0..run.len() {
         words[k + j] = moved(run[j], a, b);
-        j += 1;
     }
 }
 
@@ -44,17 +43,16 @@ pub fn add_run(
     words: &mut [u32],
     bytes: &mut [u8],
     c: Cursor,
-    tokens: &[u32],
-    text: &[u8],
+    code: &Listing,
     from: usize,
     to: usize,
 ) -> Cursor
-    requires { (from < to) × (to ≤ length tokens.now) × (covers 256 0 tokens.now (length text.now) ≡ true) }
-    ensures { (l a : List ℕ) → Runs (part from to (token_list tokens.now text.now))
+    requires { (from < to) × (to ≤ length code.now.tokens.now) × (covers 256 0 code.now.tokens.now (length code.now.text.now) ≡ true) }
+    ensures { (l a : List ℕ) → Runs (part from to (tokens_of code.now))
         (columns l a words.old bytes.old) c (columns l a words.new bytes.new) result }
 {
-    let a = token_start(tokens, from);
-    let e = token_start(tokens, to);
+    let a = token_start(code.tokens, from);
+    let e = token_start(code.tokens, to);
     let b = c.text;
     let k = c.tokens;
     let n = to - from;
@@ -70,12 +68,12 @@ pub fn add_run(
     if MOST_BYTES - b <= e - a {
         return c;
     }
-    let d = write::add_bytes(bytes, c, text::part(text, a, e));
-    move_words(words, k, &tokens[from..to], a, b);
+    let d = write::add_bytes(bytes, c, text::part(code.text, a, e));
+    move_words(words, k, &code.tokens[from..to], a, b);
     Cursor {
         lines: c.lines,
         tokens: k + n,
         text: d.text,
-        last: text::word(tokens, to - 1) % 256,
+        last: text::word(code.tokens, to - 1) % 256,
     }
 }

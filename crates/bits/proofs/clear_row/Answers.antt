@@ -1,13 +1,11 @@
-use Prim.Native.Nat.{◌-◌}
-use Rattle.bits.proofs.RowLaws.{fill_zero, fill_none, fill_end, zero_none, zero_next, zero_end}
-use borrow.Author.Rules.{rules}
+-- `bits::clear_row` meets its contract. Assumes nothing.
+use mathlib.Core.Bool.{false}
+use Rattle.bits.proofs.RowLaws.{run_words, run_bits}
+use Rattle.bits.proofs.Words.{zero_bit}
 use Rattle.bits.proofs.clear_row.Goals as goal
 
-pub loop-i-init : goal.loop-i-init
-loop-i-init c = search (fill_none, zero_none, rules)
+pub returns-clause-filled : goal.returns-clause-filled
+returns-clause-filled c = run_bits c.args.s.now c.fill.new.self c.args.w c.args.r 0 c.requires (c.fill.ensures.after (λ y e. e)) false (λ k h. zero_bit k)
 
-pub loop-i-preserved : goal.loop-i-preserved
-loop-i-preserved c = search (fill_zero, zero_next, rules)
-
-pub returns : goal.returns
-returns c = search (fill_end, zero_end, rules)
+pub returns-clause-zero : goal.returns-clause-zero
+returns-clause-zero c = run_words c.args.s.now c.fill.new.self c.args.w c.args.r 0 c.requires (c.fill.ensures.after (λ y e. e))

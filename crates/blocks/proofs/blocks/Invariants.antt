@@ -7,7 +7,4 @@ use Rattle.blocks.proofs.Reading.{Reading}
 use Rattle.blocks.proofs.blocks.Given as goal
 
 abbrev pub invariant-loop-i : goal.invariant-loop-i
-invariant-loop-i l = (l.i ≤ length l.lines) × (length l.ends ≡ length l.initial.ends) × (length l.parents ≡ length l.initial.parents) × (length l.counts ≡ length l.initial.counts) × Reading (listing l.lines l.tokens l.text) l.ends l.parents l.counts l.top l.i
-
-abbrev pub decreases-loop-i : goal.decreases-loop-i
-decreases-loop-i l = length l.lines - l.i
+invariant-loop-i l = (l.i ≤ length l.code.lines.now) × (length l.ends ≡ length l.initial.ends) × (length l.parents ≡ length l.initial.parents) × (length l.counts ≡ length l.initial.counts) × Reading (listing l.code.lines.now l.code.tokens.now l.code.text.now) l.ends l.parents l.counts l.top l.i

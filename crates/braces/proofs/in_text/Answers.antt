@@ -12,9 +12,6 @@ bounds-s-k c = search (bytes, rules)
 pub step-r-requires : goal.step-r-requires
 step-r-requires c = search (bytes, rules)
 
-pub overflow_add-k : goal.overflow_add-k
-overflow_add-k c = search (bytes, rules)
-
 pub loop-k-smaller : goal.loop-k-smaller
 loop-k-smaller c = search (bytes, rules)
 

@@ -9,6 +9,3 @@ use Rattle.braces.proofs.in_text.Given as goal
 
 abbrev pub invariant-loop-k : goal.invariant-loop-k
 invariant-loop-k l = (l.k ≤ length l.s) × (fold brace (counted l.initial.r) l.s ≡ fold brace (counted l.r) (drop l.k l.s)) × (l.r.opens + l.r.closes + (length l.s - l.k) ≤ l.initial.r.opens + l.initial.r.closes + length l.s)
-
-abbrev pub decreases-loop-k : goal.decreases-loop-k
-decreases-loop-k l = length l.s - l.k

@@ -10,7 +10,4 @@ use Rattle.braces.proofs.Counts.{rest}
 use Rattle.braces.proofs.line_braces.Given as goal
 
 abbrev pub invariant-loop-k : goal.invariant-loop-k
-invariant-loop-k l = (l.s ≤ l.k) × (braces (line (listing l.lines l.tokens l.text) l.i) ≡ fold brace (counted l.b) (rest (line (listing l.lines l.tokens l.text) l.i).tokens (l.k - l.s))) × (l.b.opens + l.b.closes ≤ (l.k - l.s) * 16777215)
-
-abbrev pub decreases-loop-k : goal.decreases-loop-k
-decreases-loop-k l = l.e - l.k
+invariant-loop-k l = (l.s ≤ l.k) × (braces (line (listing l.code.lines.now l.code.tokens.now l.code.text.now) l.i) ≡ fold brace (counted l.b) (rest (line (listing l.code.lines.now l.code.tokens.now l.code.text.now) l.i).tokens (l.k - l.s))) × (l.b.opens + l.b.closes ≤ (l.k - l.s) * 16777215)

@@ -5,4 +5,4 @@ use Rattle.choose.proofs.choose.Goals as goal
 
 pub returns : goal.returns
 returns c = let a = c.args in
-    c.choose_within.ensures ∙ of_limits a.lines.now a.tokens.now a.text.now _
+    c.choose_within.ensures ∙ of_limits a.code.now.lines.now a.code.now.tokens.now a.code.now.text.now _

@@ -1,7 +1,7 @@
 -- `choose::choose_within` meets its contract. Assumes nothing.
 use borrow.Author.Rules.{rules}
+use Rattle.std.specs.Prelude.{Ok, Err}
 use Rattle.questions.specs.Refusals.{at_most}
-use Rattle.pseudo_ssa.specs.declared.Webs.TheVariants.{Accepted, Refused}
 use Rattle.choose.proofs.Choosing.{early, late, chosen_webs, chosen_early, chosen_splits, equation_of, passed}
 use Rattle.choose.proofs.choose_within.Goals as goal
 
@@ -12,7 +12,7 @@ returns-then-number-lt7 c = let a = c.args in
     let ns = R.new.numbers in
     let ms = R.new.marks in
     let ws = R.new.space in
-    chosen_early (at_most a.most) a.lines.now a.tokens.now a.text.now a.numbers.now a.marks.now a.space.now _ ns ms ws (early (at_most a.most) a.lines.now a.tokens.now a.text.now a.numbers.now a.marks.now a.space.now _ ns ms ws (equation_of (at_most a.most) few.0 a.lines.now a.tokens.now a.text.now a.numbers.now a.marks.now a.space.now ns ms ws R.result (Refused c.in-Refused.number) (search rules) R.ensures) c.if-number-lt7.true)
+    chosen_early (at_most a.most) a.code.now.lines.now a.code.now.tokens.now a.code.now.text.now a.numbers.now a.marks.now a.space.now c.in-Err.refusal ns ms ws (early (at_most a.most) a.code.now.lines.now a.code.now.tokens.now a.code.now.text.now a.numbers.now a.marks.now a.space.now c.in-Err.refusal ns ms ws (equation_of (at_most a.most) few.0 a.code.now.lines.now a.code.now.tokens.now a.code.now.text.now a.numbers.now a.marks.now a.space.now ns ms ws (Err c.in-Err.refusal) c.in-Err.ensures) (search rules))
 
 pub split_numbers-requires : goal.split_numbers-requires
 split_numbers-requires c = let a = c.args in
@@ -21,16 +21,16 @@ split_numbers-requires c = let a = c.args in
     let ns = R.new.numbers in
     let ms = R.new.marks in
     let ws = R.new.space in
-    passed (at_most a.most) a.lines.now a.tokens.now a.text.now a.numbers.now a.marks.now a.space.now _ ns ms ws (late (at_most a.most) a.lines.now a.tokens.now a.text.now a.numbers.now a.marks.now a.space.now _ ns ms ws (equation_of (at_most a.most) few.0 a.lines.now a.tokens.now a.text.now a.numbers.now a.marks.now a.space.now ns ms ws R.result (Refused c.in-Refused.number) (search rules) R.ensures) (search rules)) few.0 few.1
+    passed (at_most a.most) a.code.now.lines.now a.code.now.tokens.now a.code.now.text.now a.numbers.now a.marks.now a.space.now _ ns ms ws (late (at_most a.most) a.code.now.lines.now a.code.now.tokens.now a.code.now.text.now a.numbers.now a.marks.now a.space.now c.in-Err.refusal ns ms ws (equation_of (at_most a.most) few.0 a.code.now.lines.now a.code.now.tokens.now a.code.now.text.now a.numbers.now a.marks.now a.space.now ns ms ws (Err c.in-Err.refusal) c.in-Err.ensures) (search rules)) few.0 few.1
 
-pub returns-in-Accepted : goal.returns-in-Accepted
-returns-in-Accepted c = let a = c.args in
+pub returns-in-Ok : goal.returns-in-Ok
+returns-in-Ok c = let a = c.args in
     let few = c.requires in
     let R = c.recover_within in
     let ns = R.new.numbers in
     let ms = R.new.marks in
     let ws = R.new.space in
-    chosen_webs (at_most a.most) a.lines.now a.tokens.now a.text.now a.numbers.now a.marks.now a.space.now _ ns ms ws (equation_of (at_most a.most) few.0 a.lines.now a.tokens.now a.text.now a.numbers.now a.marks.now a.space.now ns ms ws R.result (Accepted c.in-Accepted.sweeps) (search rules) R.ensures)
+    chosen_webs (at_most a.most) a.code.now.lines.now a.code.now.tokens.now a.code.now.text.now a.numbers.now a.marks.now a.space.now _ ns ms ws (equation_of (at_most a.most) few.0 a.code.now.lines.now a.code.now.tokens.now a.code.now.text.now a.numbers.now a.marks.now a.space.now ns ms ws (Ok c.in-Ok.sweeps) c.in-Ok.ensures)
 
 pub returns-else-number-lt7 : goal.returns-else-number-lt7
 returns-else-number-lt7 c = let a = c.args in
@@ -40,4 +40,4 @@ returns-else-number-lt7 c = let a = c.args in
     let ms = R.new.marks in
     let ws = R.new.space in
     let S = c.split_numbers in
-    chosen_splits (at_most a.most) a.lines.now a.tokens.now a.text.now a.numbers.now a.marks.now a.space.now _ ns ms ws _ _ (late (at_most a.most) a.lines.now a.tokens.now a.text.now a.numbers.now a.marks.now a.space.now _ ns ms ws (equation_of (at_most a.most) few.0 a.lines.now a.tokens.now a.text.now a.numbers.now a.marks.now a.space.now ns ms ws R.result (Refused c.in-Refused.number) (search rules) R.ensures) (search rules)) S.ensures.numbers_after S.ensures.marks_after
+    chosen_splits (at_most a.most) a.code.now.lines.now a.code.now.tokens.now a.code.now.text.now a.numbers.now a.marks.now a.space.now _ ns ms ws _ _ (late (at_most a.most) a.code.now.lines.now a.code.now.tokens.now a.code.now.text.now a.numbers.now a.marks.now a.space.now c.in-Err.refusal ns ms ws (equation_of (at_most a.most) few.0 a.code.now.lines.now a.code.now.tokens.now a.code.now.text.now a.numbers.now a.marks.now a.space.now ns ms ws (Err c.in-Err.refusal) c.in-Err.ensures) (search rules)) S.ensures.numbers_after S.ensures.marks_after

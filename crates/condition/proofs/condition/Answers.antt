@@ -3,12 +3,6 @@ use borrow.Author.Rules.{rules}
 use Rattle.condition.proofs.Conditions.{conditions}
 use Rattle.condition.proofs.condition.Goals as goal
 
-pub returns-in_default : goal.returns-in_default
-returns-in_default c = search (conditions, rules)
-
-pub returns-then-less-k : goal.returns-then-less-k
-returns-then-less-k c = search (conditions, rules)
-
 pub returns-then-end-ne0 : goal.returns-then-end-ne0
 returns-then-end-ne0 c = search (conditions, rules)
 
@@ -17,3 +11,9 @@ returns-else-end-ne0 c = search (conditions, rules)
 
 pub returns-else-opens : goal.returns-else-opens
 returns-else-opens c = search (conditions, rules)
+
+pub returns-in_err-k : goal.returns-in_err-k
+returns-in_err-k c = search (conditions, rules)
+
+pub returns-then-saturating_sub-k : goal.returns-then-saturating_sub-k
+returns-then-saturating_sub-k c = search (conditions, rules)

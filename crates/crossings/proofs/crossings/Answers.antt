@@ -3,8 +3,11 @@ use borrow.Author.Rules.{rules}
 use Rattle.crossings.proofs.Joins.{marked_empty, empty_kept, no_gotos}
 use Rattle.crossings.proofs.crossings.Goals as goal
 
-pub returns-then-k-n : goal.returns-then-k-n
-returns-then-k-n c = search (marked_empty, rules)
+pub returns-then-n-next_goto : goal.returns-then-n-next_goto
+returns-then-n-next_goto c = search (marked_empty, empty_kept, no_gotos, rules)
 
-pub returns : goal.returns
-returns c = search (empty_kept, no_gotos, rules)
+pub returns-then-code-le64 : goal.returns-then-code-le64
+returns-then-code-le64 c = search (marked_empty, empty_kept, no_gotos, rules)
+
+pub returns-else-code-le64 : goal.returns-else-code-le64
+returns-else-code-le64 c = search (marked_empty, empty_kept, no_gotos, rules)

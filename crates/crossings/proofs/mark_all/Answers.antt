@@ -1,11 +1,16 @@
 -- `crossings::mark_all` meets its contract. Assumes nothing.
+use Prim.Native.Nat.{ℕ}
 use native.Mathlib.Omega.{arith}
 use borrow.Author.Rules.{rules}
+use lib.ListN.{length-replicate}
 use Rattle.words.proofs.Zeros.{zeros}
 use Rattle.crossings.proofs.mark_all.Goals as goal
 
-pub mark_all_in-requires : goal.mark_all_in-requires
-mark_all_in-requires c = record { in_bounds = (omega arith, omega arith, search rules, search rules); by_index = zeros 256 }
+pub index-requires : goal.index-requires
+index-requires g c = let h = length-replicate {A = ℕ} g.row.H 0 in
+    let n = length-replicate {A = ℕ} g.row.N 0 in record { in_bounds = (omega arith, omega arith, omega arith); by_index = zeros g.row.H }
 
-pub mark_all_in-requires-2 : goal.mark_all_in-requires-2
-mark_all_in-requires-2 c = record { in_bounds = (omega arith, omega arith, search rules, search rules); by_index = zeros 1024 }
+pub mark_lines-requires : goal.mark_lines-requires
+mark_lines-requires g c = let I = c.index in
+    let h = length-replicate {A = ℕ} g.row.H 0 in
+    let n = length-replicate {A = ℕ} g.row.N 0 in record { in_bounds = (omega (arith, I.auto.heads), omega (arith, I.auto.nexts), search rules, search rules); indexed = I.ensures }

@@ -8,9 +8,6 @@ loop-i-init c = search (joins, rules)
 pub mark_line-requires : goal.mark_line-requires
 mark_line-requires c = record { in_bounds = (search rules, search rules, search rules, search rules, search rules); indexed = search rules }
 
-pub overflow_add-i : goal.overflow_add-i
-overflow_add-i c = search (joins, rules)
-
 pub loop-i-smaller : goal.loop-i-smaller
 loop-i-smaller c = search (joins, rules)
 

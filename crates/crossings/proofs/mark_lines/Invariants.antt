@@ -9,7 +9,4 @@ use Rattle.crossings.proofs.Joins.{lines_from}
 use Rattle.crossings.proofs.mark_lines.Given as goal
 
 abbrev pub invariant-loop-i : goal.invariant-loop-i
-invariant-loop-i l = (l.i ≤ l.n) × (length l.far ≡ length l.initial.far) × Marking l.initial.far l.far (all_jumps (listing l.lines l.tokens l.text)) (lines_from (listing l.lines l.tokens l.text) l.i)
-
-abbrev pub decreases-loop-i : goal.decreases-loop-i
-decreases-loop-i l = l.n - l.i
+invariant-loop-i l = (l.i ≤ l.n) × (length l.far ≡ length l.initial.far) × Marking l.initial.far l.far (all_jumps (listing l.code.lines.now l.code.tokens.now l.code.text.now)) (lines_from (listing l.code.lines.now l.code.tokens.now l.code.text.now) l.i)

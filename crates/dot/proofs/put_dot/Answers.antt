@@ -1,14 +1,11 @@
 -- `dot::put_dot` meets its contract.
 -- Assumes nothing.
-use Rattle.dot.proofs.Pictures.{dot_drawn, dot_brace, dot_label}
-use borrow.Author.Rules.{rules}
+use mathlib.Core.Path.{refl}
+use Rattle.dot.proofs.Pictures.{dot_drawn, dot_none}
 use Rattle.dot.proofs.put_dot.Goals as goal
 
-pub returns-in-Drawn : goal.returns-in-Drawn
-returns-in-Drawn c = search (dot_drawn, rules)
+pub returns-in-Ok : goal.returns-in-Ok
+returns-in-Ok c = dot_drawn _ _ _ _ _ _ _ _ _ _ c.requires (c.in-Ok.ensures.fact refl) c.put_picture.ensures
 
-pub returns-in-UnmatchedBrace : goal.returns-in-UnmatchedBrace
-returns-in-UnmatchedBrace c = search (dot_brace, rules)
-
-pub returns-in-UnknownLabel : goal.returns-in-UnknownLabel
-returns-in-UnknownLabel c = search (dot_label, rules)
+pub returns-in-Err : goal.returns-in-Err
+returns-in-Err c = let a = c.args in dot_none _ _ _ _ a.space.now a.ranks.now _ _ _ _ c.in-Err.ensures.result_value c.put.ensures

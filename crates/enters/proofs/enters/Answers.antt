@@ -16,8 +16,8 @@ any_goes_inside-requires c = search (enterings, rules)
 pub returns-then-any_goes_inside : goal.returns-then-any_goes_inside
 returns-then-any_goes_inside c = search (enterings, rules)
 
-pub any_goes_inside-requires-2 : goal.any_goes_inside-requires-2
-any_goes_inside-requires-2 c = search (enterings, rules)
+pub any_goes_inside-requires-else-any_goes_inside-clause-text_value : goal.any_goes_inside-requires-else-any_goes_inside-clause-text_value
+any_goes_inside-requires-else-any_goes_inside-clause-text_value c = search (enterings, rules)
 
-pub returns : goal.returns
-returns c = search (enterings, rules)
+pub returns-else-any_goes_inside : goal.returns-else-any_goes_inside
+returns-else-any_goes_inside c = search (enterings, rules)

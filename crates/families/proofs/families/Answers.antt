@@ -25,9 +25,6 @@ loop-i-init c = search (place_rules, rules)
 pub number_line-count-requires : goal.number_line-count-requires
 number_line-count-requires c = search (place_rules, rules)
 
-pub overflow_add-i : goal.overflow_add-i
-overflow_add-i c = search (place_rules, rules)
-
 pub loop-i-smaller : goal.loop-i-smaller
 loop-i-smaller c = search (place_rules, rules)
 

@@ -8,7 +8,4 @@ use Rattle.families.specs.Families.{Numbered}
 use Rattle.families.proofs.families.Given as goal
 
 abbrev pub invariant-loop-i : goal.invariant-loop-i
-invariant-loop-i l = (length l.table ≡ length l.initial.table) × (length l.defs ≡ length l.initial.defs) × Numbered (listing l.lines l.tokens l.text) l.i l.count l.table l.defs
-
-abbrev pub decreases-loop-i : goal.decreases-loop-i
-decreases-loop-i l = length l.lines - l.i
+invariant-loop-i l = (length l.table ≡ length l.initial.table) × (length l.defs ≡ length l.initial.defs) × Numbered (listing l.code.lines.now l.code.tokens.now l.code.text.now) l.i l.count l.table l.defs

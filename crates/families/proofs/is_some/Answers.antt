@@ -15,6 +15,3 @@ returns-in-Numbered c = λ s. search (hash_rules, rules)
 
 pub returns-in-Var : goal.returns-in-Var
 returns-in-Var c = λ s. search (hash_rules, rules)
-
-pub returns-in-Nothing : goal.returns-in-Nothing
-returns-in-Nothing c = λ s. search (hash_rules, rules)

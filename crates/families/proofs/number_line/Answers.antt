@@ -16,8 +16,5 @@ offset_bounds-defs-i c = search (place_rules, rules)
 pub bounds-defs-i : goal.bounds-defs-i
 bounds-defs-i c = search (place_rules, rules)
 
-pub greater-requires : goal.greater-requires
-greater-requires c = search (place_rules, rules)
-
 pub returns : goal.returns
 returns c = search (place_rules, rules)

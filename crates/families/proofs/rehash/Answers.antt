@@ -15,9 +15,6 @@ family_hash-h-requires c = search (rehash_rules, rules)
 pub link-requires : goal.link-requires
 link-requires c = search (rehash_rules, rules)
 
-pub overflow_add-k : goal.overflow_add-k
-overflow_add-k c = search (rehash_rules, rules)
-
 pub loop-k-smaller : goal.loop-k-smaller
 loop-k-smaller c = search (rehash_rules, rules)
 

@@ -8,7 +8,4 @@ use Rattle.families.specs.Families.{Linked}
 use Rattle.families.proofs.rehash.Given as goal
 
 abbrev pub invariant-loop-k : goal.invariant-loop-k
-invariant-loop-k l = (l.k ≤ l.count) × (256 + 2 * l.count ≤ length l.table) × (length l.table ≡ length l.initial.table) × Linked (listing l.lines l.tokens l.text) l.count l.k l.table
-
-abbrev pub decreases-loop-k : goal.decreases-loop-k
-decreases-loop-k l = l.count - l.k
+invariant-loop-k l = (l.k ≤ l.count) × (256 + 2 * l.count ≤ length l.table) × (length l.table ≡ length l.initial.table) × Linked (listing l.code.lines.now l.code.tokens.now l.code.text.now) l.count l.k l.table

@@ -8,7 +8,7 @@ use Rattle.families.proofs.Finding.{Searching}
 use Rattle.families.proofs.search_chain.Given as goal
 
 abbrev pub invariant-loop-c : goal.invariant-loop-c
-invariant-loop-c l = Searching (multiplier l.table) (defined_families (listing l.lines l.tokens l.text)) l.count (family_of l.s l.r) l.c
+invariant-loop-c l = Searching (multiplier l.table) (defined_families (listing l.code.lines.now l.code.tokens.now l.code.text.now)) l.count (family_of l.s l.r) l.c
 
 abbrev pub decreases-loop-c : goal.decreases-loop-c
 decreases-loop-c l = l.c

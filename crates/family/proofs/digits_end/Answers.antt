@@ -1,4 +1,3 @@
-use Prim.Native.Nat.{◌-◌}
 use Rattle.family.proofs.Digits.{digit_rules}
 use borrow.Author.Rules.{rules}
 use Rattle.family.proofs.digits_end.Goals as goal

@@ -1,5 +1,3 @@
-use Prim.Native.Nat.{◌-◌}
-use mathlib.Core.Bool.{false}
 use native.Mathlib.Omega.{arith}
 use Rattle.family.proofs.FamilyNames.{named_here, named_next, named_nowhere}
 use Rattle.family.proofs.row_named.Goals as goal

@@ -9,6 +9,3 @@ use Rattle.family.proofs.row_named.Given as goal
 
 abbrev pub invariant-loop-i : goal.invariant-loop-i
 invariant-loop-i l = (l.i ≤ 8) × ((j : ℕ) → j < l.i → (l.name ≟ row_name j) ≡ false)
-
-abbrev pub decreases-loop-i : goal.decreases-loop-i
-decreases-loop-i l = 8 - l.i

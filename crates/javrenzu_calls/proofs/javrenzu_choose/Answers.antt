@@ -1,24 +1,20 @@
 -- `javrenzu_calls::javrenzu_choose` meets its contract. Assumes nothing.
+use mathlib.Core.Path.{◌≡◌, ap, ◌∙◌}
 use borrow.Author.Rules.{rules}
-use Rattle.definitions.specs.Calls.{choose_call}
-use Rattle.pseudo_ssa.specs.Answers.{lent}
-use Rattle.javrenzu_calls.proofs.Crossed.{webs_crossed, splits_crossed, unchosen_crossed}
+use Rattle.std.specs.Prelude.{Ok}
+use Rattle.choose.specs.declared.Choice.TheVariants.{ByWebs, BySplits}
+use Rattle.definitions.specs.Calls.{Called, Chosen}
+use Rattle.javrenzu_calls.specs.Crossing.{refusal_number, choice_of, chosen_sweeps}
 use Rattle.javrenzu_calls.proofs.javrenzu_choose.Goals as goal
 
-pub returns-in-ByWebs : goal.returns-in-ByWebs
-returns-in-ByWebs c = let a = c.args in
-    let R = c.choose in
-    let w = webs_crossed (choose_call a.lines.now a.tokens.now a.text.now (lent a.numbers.now a.marks.now a.space.now)) R.result _ _ _ R.ensures _ (search rules) in
-    record { value = w.0; choice_after = w.1.0; sweeps_after = w.1.1.0; space_after = w.1.1.1 }
+pub returns-in-Ok-ByWebs : goal.returns-in-Ok-ByWebs
+unfolding refusal_number choice_of chosen_sweeps
+returns-in-Ok-ByWebs c = let q : c.choose.result ≡ Ok (ByWebs c.in-Ok-ByWebs.count) = search rules in let e = rw q at c.choose.ensures in record { value = ap (λ (c : Called Chosen). refusal_number c.answer) e; choice_after = ap (λ (c : Called Chosen). choice_of c.answer) e; sweeps_after = ap (λ (c : Called Chosen). chosen_sweeps c.answer) e; space_after = ap (λ (c : Called Chosen). c.lent) e }
 
-pub returns-in-BySplits : goal.returns-in-BySplits
-returns-in-BySplits c = let a = c.args in
-    let R = c.choose in
-    let w = splits_crossed (choose_call a.lines.now a.tokens.now a.text.now (lent a.numbers.now a.marks.now a.space.now)) R.result _ _ _ R.ensures c.in-BySplits.is in
-    record { value = w.0; choice_after = w.1.0; sweeps_after = w.1.1.0; space_after = w.1.1.1 }
+pub returns-in-Ok-BySplits : goal.returns-in-Ok-BySplits
+unfolding refusal_number choice_of chosen_sweeps
+returns-in-Ok-BySplits c = let q : c.choose.result ≡ Ok BySplits = search rules in let e = rw q at c.choose.ensures in record { value = ap (λ (c : Called Chosen). refusal_number c.answer) e; choice_after = ap (λ (c : Called Chosen). choice_of c.answer) e; sweeps_after = ap (λ (c : Called Chosen). chosen_sweeps c.answer) e; space_after = ap (λ (c : Called Chosen). c.lent) e }
 
-pub returns-in-Refused : goal.returns-in-Refused
-returns-in-Refused c = let a = c.args in
-    let R = c.choose in
-    let w = unchosen_crossed (choose_call a.lines.now a.tokens.now a.text.now (lent a.numbers.now a.marks.now a.space.now)) R.result _ _ _ R.ensures _ (search rules) in
-    record { value = w.0; choice_after = w.1.0; sweeps_after = w.1.1.0; space_after = w.1.1.1 }
+pub returns-in-Err : goal.returns-in-Err
+unfolding refusal_number choice_of chosen_sweeps
+returns-in-Err c = let e = c.in-Err.ensures in record { value = c.number.ensures ∙ ap (λ (c : Called Chosen). refusal_number c.answer) e; choice_after = ap (λ (c : Called Chosen). choice_of c.answer) e; sweeps_after = ap (λ (c : Called Chosen). chosen_sweeps c.answer) e; space_after = ap (λ (c : Called Chosen). c.lent) e }

@@ -1,18 +1,13 @@
 -- `javrenzu_calls::javrenzu_splits` meets its contract. Assumes nothing.
-use borrow.Author.Rules.{rules}
-use Rattle.definitions.specs.Calls.{split_call}
-use Rattle.splits.specs.Call.{lent}
-use Rattle.javrenzu_calls.proofs.Crossed.{written_crossed, unwritten_crossed}
+use mathlib.Core.Path.{ap, ◌∙◌}
+use Rattle.definitions.specs.Calls.{Called}
+use Rattle.javrenzu_calls.specs.Crossing.{refusal_number}
 use Rattle.javrenzu_calls.proofs.javrenzu_splits.Goals as goal
 
-pub returns-in-Written : goal.returns-in-Written
-returns-in-Written c = let a = c.args in
-    let R = c.split_call in
-    let w = written_crossed (split_call a.lines.now a.tokens.now a.text.now (lent a.numbers.now a.marks.now)) R.result _ _ R.ensures c.in-Written.is in
-    record { value = w.0; marks_after = w.1 }
+pub returns-in-Ok : goal.returns-in-Ok
+unfolding refusal_number
+returns-in-Ok c = let e = c.in-Ok.ensures in record { value = ap (λ (c : Called (Unit {0})). refusal_number c.answer) e; marks_after = ap (λ (c : Called (Unit {0})). c.lent) e }
 
-pub returns-in-Refused : goal.returns-in-Refused
-returns-in-Refused c = let a = c.args in
-    let R = c.split_call in
-    let w = unwritten_crossed (split_call a.lines.now a.tokens.now a.text.now (lent a.numbers.now a.marks.now)) R.result _ _ R.ensures _ (search rules) in
-    record { value = w.0; marks_after = w.1 }
+pub returns-in-Err : goal.returns-in-Err
+unfolding refusal_number
+returns-in-Err c = let e = c.in-Err.ensures in record { value = c.number.ensures ∙ ap (λ (c : Called (Unit {0})). refusal_number c.answer) e; marks_after = ap (λ (c : Called (Unit {0})). c.lent) e }

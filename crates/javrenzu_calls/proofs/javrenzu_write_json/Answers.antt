@@ -1,22 +1,13 @@
 -- `javrenzu_calls::javrenzu_write_json` meets its contract. Assumes nothing.
-use borrow.Author.Rules.{rules}
-use Rattle.write.specs.Holds.{columns}
-use Rattle.json_definitions.specs.JsonCalls.{write_call}
-use Rattle.json_write.specs.declared.Answer.TheVariants.{Accepted, Refused}
+use mathlib.Core.Path.{ap, ◌∙◌}
+use Rattle.json_definitions.specs.JsonCalls.{Written}
 use Rattle.javrenzu_calls.specs.Crossing.{refusal_number, number_of}
-use Rattle.javrenzu_calls.proofs.Crossed.{write_crossed}
 use Rattle.javrenzu_calls.proofs.javrenzu_write_json.Goals as goal
 
-pub returns-in-Accepted : goal.returns-in-Accepted
+pub returns-in-Ok : goal.returns-in-Ok
 unfolding refusal_number number_of
-returns-in-Accepted c = let a = c.args in
-    let R = c.write_json in
-    let w = write_crossed (write_call (columns a.lines.now a.addresses.now a.tokens.now a.text.now) a.json.now) R.result (Accepted _) _ R.ensures (search rules) in
-    record { value = w.0; nbytes_after = w.1.0; json_after = w.1.1 }
+returns-in-Ok c = let e = c.in-Ok.ensures in record { value = ap (λ (c : Written). refusal_number c.answer) e; nbytes_after = ap (λ (c : Written). number_of c.answer) e; json_after = ap (λ (c : Written). c.out) e }
 
-pub returns-in-Refused : goal.returns-in-Refused
+pub returns-in-Err : goal.returns-in-Err
 unfolding refusal_number number_of
-returns-in-Refused c = let a = c.args in
-    let R = c.write_json in
-    let w = write_crossed (write_call (columns a.lines.now a.addresses.now a.tokens.now a.text.now) a.json.now) R.result (Refused _) _ R.ensures (search rules) in
-    record { value = w.0; nbytes_after = w.1.0; json_after = w.1.1 }
+returns-in-Err c = let e = c.in-Err.ensures in record { value = c.number.ensures ∙ ap (λ (c : Written). refusal_number c.answer) e; nbytes_after = ap (λ (c : Written). number_of c.answer) e; json_after = ap (λ (c : Written). c.out) e }

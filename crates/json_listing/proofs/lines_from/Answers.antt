@@ -1,80 +1,44 @@
-use Rattle.json_listing.proofs.LoopRules.{listings}
-use borrow.Author.Rules.{rules}
+use native.Mathlib.Omega.{arith}
+use Rattle.json_lines.specs.InColumns.{line_read}
 use Rattle.json_listing.specs.InColumns.{listing_read}
+use Rattle.json_listing.proofs.LoopRules.{start, full, no_line, pack_n, no_sep, closes, goes_on}
 use Rattle.json_listing.proofs.lines_from.Goals as goal
 
 pub loop-k-init : goal.loop-k-init
-unfolding listing_read
-loop-k-init c = search (listings, rules)
+loop-k-init c = start _ _ _ _ _ c.requires.0 c.requires.1
 
-pub returns-then-addresses-k : goal.returns-then-addresses-k
-unfolding listing_read
-returns-then-addresses-k c = search (listings, rules)
-
-pub line-requires : goal.line-requires
-unfolding listing_read
-line-requires c = search (listings, rules)
-
-pub enum_known-j : goal.enum_known-j
-unfolding listing_read
-enum_known-j c = search (listings, rules)
-
-pub returns-in_default : goal.returns-in_default
-unfolding listing_read
-returns-in_default c = search (listings, rules)
+pub returns-in_err-row : goal.returns-in_err-row
+unfolding line_read listing_read
+returns-in_err-row c = rw c.from_residual.ensures (no_line _ _ _ _ _ _ _ _ _ _ _ _ _ c.loop-k.invariant c.in_err-row.ensures)
 
 pub line_word-requires : goal.line_word-requires
-unfolding listing_read
-line_word-requires c = search (listings, rules)
+unfolding line_read
+line_word-requires c = (pack_n _ _ _ _ _ _ _ _ _ _ _ _ _ c.loop-k.invariant _ _ _ _ _ _ _ c.in_ok-row.ensures, c.in_ok-row.ensures.small)
 
-pub offset_bounds-lines-k : goal.offset_bounds-lines-k
-unfolding listing_read
-offset_bounds-lines-k c = search (listings, rules)
-
-pub bounds-lines-k : goal.bounds-lines-k
-unfolding listing_read
-bounds-lines-k c = search (listings, rules)
-
-pub offset_bounds-addresses-k : goal.offset_bounds-addresses-k
-unfolding listing_read
-offset_bounds-addresses-k c = search (listings, rules)
-
-pub bounds-addresses-k : goal.bounds-addresses-k
-unfolding listing_read
-bounds-addresses-k c = search (listings, rules)
-
-pub overflow_add-k : goal.overflow_add-k
-unfolding listing_read
-overflow_add-k c = search (listings, rules)
-
-pub separator-requires : goal.separator-requires
-unfolding listing_read
-separator-requires c = search (listings, rules)
-
-pub enum_known-l : goal.enum_known-l
-unfolding listing_read
-enum_known-l c = search (listings, rules)
+pub returns-in_err-sep : goal.returns-in_err-sep
+unfolding line_read listing_read
+returns-in_err-sep c =
+    rw c.from_residual-in_err-sep.ensures (no_sep _ _ _ _ _ _ _ _ _ _ _ _ _ c.loop-k.invariant _ _ _ _ _ _ _ c.in_ok-row.ensures c.in_err-sep.ensures)
 
 pub returns-in-Close : goal.returns-in-Close
-unfolding listing_read
-returns-in-Close c = search (listings, rules)
-
-pub returns-in-NoSep : goal.returns-in-NoSep
-unfolding listing_read
-returns-in-NoSep c = search (listings, rules)
-
-pub enum_known-l-in-More-1 : goal.enum_known-l-in-More-1
-unfolding listing_read
-enum_known-l-in-More-1 c = search (listings, rules)
-
-pub loop-k-smaller : goal.loop-k-smaller
-unfolding listing_read
-loop-k-smaller c = search (listings, rules)
+unfolding line_read listing_read
+returns-in-Close c =
+    let long_ln = c.loop-k.invariant.long_ln in
+    let long_ad = c.loop-k.invariant.long_ad in
+    closes _ _ _ _ _ _ _ _ _ _ _ _ _ c.loop-k.invariant _ _ _ _ _ _ _ c.in_ok-row.ensures _ c.line_word.ensures
+    c.line.auto.tokens c.line.auto.text (omega arith) (omega arith) _ (rw c.in-Close.is at c.in_ok-sep.ensures)
 
 pub loop-k-preserved : goal.loop-k-preserved
-unfolding listing_read
-loop-k-preserved c = search (listings, rules)
+unfolding line_read
+loop-k-preserved c =
+    let long_ln = c.loop-k.invariant.long_ln in
+    let long_ad = c.loop-k.invariant.long_ad in
+    goes_on _ _ _ _ _ _ _ _ _ _ _ _ _ c.loop-k.invariant _ _ _ _ _ _ _ c.in_ok-row.ensures _ c.line_word.ensures
+    c.line.auto.tokens c.line.auto.text (omega arith) (omega arith) _ (rw c.in-More.is at c.in_ok-sep.ensures)
 
 pub returns : goal.returns
 unfolding listing_read
-returns c = search (listings, rules)
+returns c =
+    let long_ln = c.loop-k.invariant.long_ln in
+    let long_ad = c.loop-k.invariant.long_ad in
+    full _ _ _ _ _ _ _ _ _ _ _ _ _ c.loop-k.invariant (omega (arith, c.min-k-end.ensures))

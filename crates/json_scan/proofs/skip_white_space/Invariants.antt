@@ -1,13 +1,12 @@
--- `json_scan::skip_white_space` meets its contract. What is left of the white space at i is left at `at`.
+-- `json_scan::skip_white_space` meets its contract. What is left of the white space of `rest` is left of that of s.
 -- Assumes nothing.
 use Rattle.json_definitions.specs.Parser.{skip_white_space}
 use mathlib.Core.Path.{◌≡◌}
-use Prim.Native.Nat.{◌-◌}
-use lib.ListN.{length, drop}
+use lib.ListN.{length}
 use Rattle.json_scan.proofs.skip_white_space.Given as goal
 
-abbrev pub invariant-loop-i : goal.invariant-loop-i
-invariant-loop-i l = skip_white_space (drop l.i l.s) ≡ skip_white_space (drop l.at l.s)
+abbrev pub invariant-loop-c : goal.invariant-loop-c
+invariant-loop-c l = skip_white_space l.rest ≡ skip_white_space l.s
 
-abbrev pub decreases-loop-i : goal.decreases-loop-i
-decreases-loop-i l = length l.s - l.i
+abbrev pub decreases-loop-c : goal.decreases-loop-c
+decreases-loop-c l = length l.rest

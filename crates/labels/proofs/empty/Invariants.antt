@@ -6,6 +6,3 @@ use Rattle.labels.proofs.empty.Given as goal
 
 abbrev pub invariant-loop-k : goal.invariant-loop-k
 invariant-loop-k l = (l.k ≤ l.n) × (length l.heads ≡ length l.initial.heads) × ((b : ℕ) → b < l.k → get_or l.heads b 0 ≡ 0)
-
-abbrev pub decreases-loop-k : goal.decreases-loop-k
-decreases-loop-k l = l.n - l.k

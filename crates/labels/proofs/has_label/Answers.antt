@@ -4,6 +4,6 @@ use Rattle.definitions.specs.Statements.{is_label}
 use Rattle.model.proofs.Ands.{ands}
 use Rattle.labels.proofs.has_label.Goals as goal
 
-pub returns-then-token_count-ne2 : goal.returns-then-token_count-ne2
+pub returns-else-token_count-eq2 : goal.returns-else-token_count-eq2
 unfolding is_label
-returns-then-token_count-ne2 c = search (ands, rules) depth 8
+returns-else-token_count-eq2 c = search (ands, rules) depth 8

@@ -9,7 +9,7 @@ use Rattle.labels.proofs.index_all.Goals as goal
 
 pub loop-i-init : goal.loop-i-init
 loop-i-init c = let a = c.args in
-    (search rules, refl, refl, indexed_start (listing a.lines.now a.tokens.now a.text.now) a.heads.now a.nexts.now a.m _ c.size-c.ensures.0 c.requires.by_index)
+    (search rules, refl, refl, indexed_start (listing a.code.now.lines.now a.code.now.tokens.now a.code.now.text.now) a.heads.now a.nexts.now a.m _ c.size-c.ensures.0 c.requires.by_index)
 
 pub index_line-requires : goal.index_line-requires
 index_line-requires c = let z = simp length-set at c.loop-i.invariant.1 in search rules
@@ -25,4 +25,4 @@ loop-i-preserved c = let l = c.loop-i in
 pub returns : goal.returns
 returns c = let l = c.loop-i in
     let a = c.args in
-    let e : l.i ≡ length a.lines.now = omega arith in record { indexed = λ h. rw (← e) l.invariant.3; value = λ h. refl }
+    let e : l.i ≡ length a.code.now.lines.now = omega arith in record { indexed = λ h. rw (← e) l.invariant.3; value = λ h. refl }

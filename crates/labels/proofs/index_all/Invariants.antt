@@ -7,7 +7,4 @@ use Rattle.labels.specs.Buckets.{Indexed}
 use Rattle.labels.proofs.index_all.Given as goal
 
 abbrev pub invariant-loop-i : goal.invariant-loop-i
-invariant-loop-i l = (l.i ≤ length l.lines) × (length l.heads ≡ length l.initial.heads) × (length l.nexts ≡ length l.initial.nexts) × Indexed (listing l.lines l.tokens l.text) l.heads l.nexts l.i
-
-abbrev pub decreases-loop-i : goal.decreases-loop-i
-decreases-loop-i l = length l.lines - l.i
+invariant-loop-i l = (l.i ≤ length l.code.lines.now) × (length l.heads ≡ length l.initial.heads) × (length l.nexts ≡ length l.initial.nexts) × Indexed (listing l.code.lines.now l.code.tokens.now l.code.text.now) l.heads l.nexts l.i

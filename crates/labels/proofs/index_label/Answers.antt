@@ -10,6 +10,6 @@ link-p-requires c = omega (arith, c.requires.indexed.below c.bucket-b.result c.b
 
 pub returns : goal.returns
 returns c = let a = c.args in
-    indexed_label (listing a.lines.now a.tokens.now a.text.now) a.heads.now a.nexts.now a.i c.requires.indexed
-    (omega (arith, c.requires.i_in_bounds.0, length_listing a.lines.now a.tokens.now a.text.now)) (omega arith)
+    indexed_label (listing a.code.now.lines.now a.code.now.tokens.now a.code.now.text.now) a.heads.now a.nexts.now a.i c.requires.indexed
+    (omega (arith, c.requires.i_in_bounds.0, length_listing a.code.now.lines.now a.code.now.tokens.now a.code.now.text.now)) (omega arith)
     c.requires.i_value c.bucket-b.result _ c.bucket-b.ensures.0 c.text_at-s.ensures c.requires.i_in_bounds.1 c.link-p.result c.link-p.ensures

@@ -11,6 +11,6 @@ index_label-requires c = record { i_in_bounds = c.requires.i_in_bounds; i_value 
 
 pub returns-else-has_label : goal.returns-else-has_label
 returns-else-has_label c = let a = c.args in
-    indexed_other (listing a.lines.now a.tokens.now a.text.now) a.heads.now a.nexts.now a.i c.requires.indexed
-    (omega (arith, c.requires.i_in_bounds.0, length_listing a.lines.now a.tokens.now a.text.now)) (omega arith)
+    indexed_other (listing a.code.now.lines.now a.code.now.tokens.now a.code.now.text.now) a.heads.now a.nexts.now a.i c.requires.indexed
+    (omega (arith, c.requires.i_in_bounds.0, length_listing a.code.now.lines.now a.code.now.tokens.now a.code.now.text.now)) (omega arith)
     c.has_label.result c.has_label.ensures c.if-has_label.false

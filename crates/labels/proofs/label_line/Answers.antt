@@ -23,8 +23,8 @@ overflow_cast-p c = search (wider, rules)
 
 pub loop-p-init : goal.loop-p-init
 loop-p-init c = let a = c.args in
-    lookup_start (listing a.lines.now a.tokens.now a.text.now) a.heads.now a.nexts.now (length a.lines.now) c.requires.indexed
-    (sym (length_listing a.lines.now a.tokens.now a.text.now)) a.s.now _ (ap (λ (b : ℕ). get_or a.heads.now b 0) c.bucket-b.ensures.0)
+    lookup_start (listing a.code.now.lines.now a.code.now.tokens.now a.code.now.text.now) a.heads.now a.nexts.now (length a.code.now.lines.now) c.requires.indexed
+    (sym (length_listing a.code.now.lines.now a.code.now.tokens.now a.code.now.text.now)) a.s.now _ (ap (λ (b : ℕ). get_or a.heads.now b 0) c.bucket-b.ensures.0)
 
 pub overflow_sub-h : goal.overflow_sub-h
 overflow_sub-h c = search (buckets, rules)
@@ -37,7 +37,7 @@ equal-requires c = search (buckets, rules)
 
 pub returns-then-equal : goal.returns-then-equal
 returns-then-equal c = let a = c.args in
-    lookup_found (listing a.lines.now a.tokens.now a.text.now) a.s.now a.nexts.now c.loop-p.p (length a.lines.now) _ c.loop-p.invariant.1
+    lookup_found (listing a.code.now.lines.now a.code.now.tokens.now a.code.now.text.now) a.s.now a.nexts.now c.loop-p.p (length a.code.now.lines.now) _ c.loop-p.invariant.1
     c.requires.indexed.back c.loop-p.invariant.0 c.loop-p-test.true c.equal.result _ c.equal.ensures c.text_at.ensures c.if-equal.true
 
 pub offset_bounds-nexts-h : goal.offset_bounds-nexts-h
@@ -56,10 +56,10 @@ pub loop-p-preserved : goal.loop-p-preserved
 loop-p-preserved c = let a = c.args in
     let q = c.requires.indexed.back (c.loop-p.p - 1) (omega arith) in (
       omega arith,
-      lookup_next (listing a.lines.now a.tokens.now a.text.now) a.s.now a.nexts.now c.loop-p.p (length a.lines.now) _ c.loop-p.invariant.1
+      lookup_next (listing a.code.now.lines.now a.code.now.tokens.now a.code.now.text.now) a.s.now a.nexts.now c.loop-p.p (length a.code.now.lines.now) _ c.loop-p.invariant.1
           c.requires.indexed.back c.loop-p.invariant.0 c.loop-p-test.true c.equal.result _ c.equal.ensures c.text_at.ensures c.if-equal.false,
     )
 
 pub returns : goal.returns
 returns c = let a = c.args in
-    lookup_end (listing a.lines.now a.tokens.now a.text.now) a.s.now a.nexts.now c.loop-p.p _ c.loop-p.invariant.1 c.loop-p-test.false
+    lookup_end (listing a.code.now.lines.now a.code.now.tokens.now a.code.now.text.now) a.s.now a.nexts.now c.loop-p.p _ c.loop-p.invariant.1 c.loop-p-test.false

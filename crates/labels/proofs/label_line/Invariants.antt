@@ -8,7 +8,7 @@ use Rattle.labels.specs.Buckets.{lookup}
 use Rattle.labels.proofs.label_line.Given as goal
 
 abbrev pub invariant-loop-p : goal.invariant-loop-p
-invariant-loop-p l = (l.p ≤ length l.lines) × (label_line (listing l.lines l.tokens l.text) l.s ≡ lookup (listing l.lines l.tokens l.text) l.nexts l.p l.p l.s)
+invariant-loop-p l = (l.p ≤ length l.code.lines.now) × (label_line (listing l.code.lines.now l.code.tokens.now l.code.text.now) l.s ≡ lookup (listing l.code.lines.now l.code.tokens.now l.code.text.now) l.nexts l.p l.p l.s)
 
 abbrev pub decreases-loop-p : goal.decreases-loop-p
 decreases-loop-p l = l.p

@@ -14,9 +14,6 @@ loop-k-init c = search (masking, rules)
 pub key-m-requires : goal.key-m-requires
 key-m-requires c = search (masking, rules)
 
-pub overflow_add-k : goal.overflow_add-k
-overflow_add-k c = search (masking, rules)
-
 pub loop-k-smaller : goal.loop-k-smaller
 loop-k-smaller c = search (masking, rules)
 

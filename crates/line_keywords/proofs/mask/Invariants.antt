@@ -9,7 +9,4 @@ use Rattle.line_keywords.proofs.Filling.{from}
 use Rattle.line_keywords.proofs.mask.Given as goal
 
 abbrev pub invariant-loop-k : goal.invariant-loop-k
-invariant-loop-k l = (l.s ≤ l.k) × (mask (line (listing l.lines l.tokens l.text) l.i) ≡ from l.lines l.tokens l.text l.i l.s l.k l.m)
-
-abbrev pub decreases-loop-k : goal.decreases-loop-k
-decreases-loop-k l = l.e - l.k
+invariant-loop-k l = (l.s ≤ l.k) × (mask (line (listing l.code.lines.now l.code.tokens.now l.code.text.now) l.i) ≡ from l.code.lines.now l.code.tokens.now l.code.text.now l.i l.s l.k l.m)

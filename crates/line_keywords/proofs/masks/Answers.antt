@@ -11,9 +11,6 @@ mask-requires c = search (filling, rules)
 pub bounds-masks-i : goal.bounds-masks-i
 bounds-masks-i c = search (filling, rules)
 
-pub overflow_add-i : goal.overflow_add-i
-overflow_add-i c = search (filling, rules)
-
 pub loop-i-smaller : goal.loop-i-smaller
 loop-i-smaller c = search (filling, rules)
 

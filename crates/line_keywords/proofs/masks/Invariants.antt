@@ -7,7 +7,4 @@ use Rattle.line_keywords.proofs.Filling.{Filling}
 use Rattle.line_keywords.proofs.masks.Given as goal
 
 abbrev pub invariant-loop-i : goal.invariant-loop-i
-invariant-loop-i l = (l.i ≤ length l.lines) × Filling l.lines l.tokens l.text l.masks l.i × (length l.masks ≡ length l.initial.masks)
-
-abbrev pub decreases-loop-i : goal.decreases-loop-i
-decreases-loop-i l = length l.lines - l.i
+invariant-loop-i l = (l.i ≤ length l.code.lines.now) × Filling l.code.lines.now l.code.tokens.now l.code.text.now l.masks l.i × (length l.masks ≡ length l.initial.masks)

@@ -1,39 +1,18 @@
-use Rattle.std.proofs.Common.{◌-◌, rules}
-use Rattle.names.proofs.Hashing.{hash_next, hashing}
+use Rattle.std.proofs.Common.{rules}
+use Rattle.names.proofs.Hashing.{hash_next, hash_none, hash_one, hash_two, hash_rest}
 use Rattle.names.proofs.hashed.Goals as goal
 
-pub loop-i-init : goal.loop-i-init
-loop-i-init c = search (hashing, rules)
+pub loop-rest-preserved : goal.loop-rest-preserved
+loop-rest-preserved c = (search rules, hash_next _ _ _ _ c.loop-rest.invariant.1 _ _ c.in-len4-up.len_at_least c.packed.ensures.0 c.mix-h.ensures.0)
 
-pub overflow_sub-s : goal.overflow_sub-s
-overflow_sub-s c = search (hashing, rules)
+pub returns-in-empty : goal.returns-in-empty
+returns-in-empty c = hash_none _ _ _ _ c.loop-rest.invariant.1 c.in-empty.len_below
 
-pub four-requires : goal.four-requires
-four-requires c = search (hashing, rules)
+pub returns-in-len1 : goal.returns-in-len1
+returns-in-len1 c = hash_one _ _ _ _ c.loop-rest.invariant.1 _ _ c.mix.ensures.0 c.in-len1.len_at_least c.in-len1.len_below c.packed-in-len1.ensures.0
 
-pub mix-h-requires : goal.mix-h-requires
-mix-h-requires c = search (hashing, rules)
+pub returns-in-len2 : goal.returns-in-len2
+returns-in-len2 c = hash_two _ _ _ _ c.loop-rest.invariant.1 _ _ c.mix-in-len2.ensures.0 c.in-len2.len_at_least c.in-len2.len_below c.packed-in-len2.ensures.0
 
-pub overflow_add-i : goal.overflow_add-i
-overflow_add-i c = search (hashing, rules)
-
-pub loop-i-smaller : goal.loop-i-smaller
-loop-i-smaller c = search (hashing, rules)
-
-pub loop-i-preserved : goal.loop-i-preserved
-loop-i-preserved c = (search rules, search rules, hash_next _ _ _ _ c.loop-i.invariant.2 _ _ c.loop-i-test.true c.four.ensures.0 c.mix-h.ensures.0)
-
-pub slice_bounds-three-count : goal.slice_bounds-three-count
-slice_bounds-three-count c = search (hashing, rules)
-
-pub three-requires : goal.three-requires
-three-requires c = search (hashing, rules)
-
-pub mix-requires : goal.mix-requires
-mix-requires c = search (hashing, rules)
-
-pub returns-then-i-s : goal.returns-then-i-s
-returns-then-i-s c = search (hashing, rules)
-
-pub returns : goal.returns
-returns c = search (hashing, rules)
+pub returns-in-len3-up : goal.returns-in-len3-up
+returns-in-len3-up c = hash_rest _ _ _ _ c.loop-rest.invariant.1 _ _ c.mix-in-len3-up.ensures.0 c.in-len3-up.len_at_least c.in_default.len_below c.packed-in-len3-up.ensures.0

@@ -1,13 +1,9 @@
 -- `numbering::number_reads` meets its contract. The first j reads are done.
 -- Assumes nothing.
 use mathlib.Core.Path.{◌≡◌}
-use Prim.Native.Nat.{◌-◌}
 use lib.ListN.{length, take}
 use Rattle.numbering.specs.Lines.{Reads}
 use Rattle.numbering.proofs.number_reads.Given as goal
 
-abbrev pub invariant-loop-j : goal.invariant-loop-j
-invariant-loop-j l = (length l.space ≡ length l.initial.space) × (length l.read ≡ length l.initial.read) × Reads l.n l.r l.w l.nums l.initial.space l.space l.rep (take l.j l.reads) l.initial.read l.read
-
-abbrev pub decreases-loop-j : goal.decreases-loop-j
-decreases-loop-j l = length l.reads - l.j
+abbrev pub invariant-loop-i : goal.invariant-loop-i
+invariant-loop-i l = (length l.space ≡ length l.initial.space) × (length l.read ≡ length l.initial.read) × Reads l.n l.r l.w l.nums l.initial.space l.space l.rep (take l.i-index l.reads) l.initial.read l.read

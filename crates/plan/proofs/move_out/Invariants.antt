@@ -6,6 +6,3 @@ use Rattle.plan.proofs.move_out.Given as goal
 
 abbrev pub invariant-loop-k : goal.invariant-loop-k
 invariant-loop-k l = Moving l.n l.a l.e l.initial.plan l.plan l.k
-
-abbrev pub decreases-loop-k : goal.decreases-loop-k
-decreases-loop-k l = l.e - l.k

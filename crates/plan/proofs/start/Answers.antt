@@ -21,9 +21,6 @@ offset_bounds-plan-i c = search (starting, rules)
 pub bounds-plan-i : goal.bounds-plan-i
 bounds-plan-i c = search (starting, rules)
 
-pub overflow_add-i : goal.overflow_add-i
-overflow_add-i c = search (starting, rules)
-
 pub loop-i-smaller : goal.loop-i-smaller
 loop-i-smaller c = search (starting, rules)
 

@@ -7,6 +7,3 @@ use Rattle.plan.proofs.start.Given as goal
 
 abbrev pub invariant-loop-i : goal.invariant-loop-i
 invariant-loop-i l = Starting l.lines l.initial.plan l.plan l.i
-
-abbrev pub decreases-loop-i : goal.decreases-loop-i
-decreases-loop-i l = length l.lines - l.i

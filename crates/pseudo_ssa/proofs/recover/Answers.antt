@@ -11,4 +11,4 @@ pub returns : goal.returns
 returns c = let a = c.args in
     let W = c.recover_within in
     let o = lent a.numbers.now a.marks.now a.space.now in
-    let equation = W.ensures ∙ within_enough limits a.lines.now a.tokens.now a.text.now o (omega arith) ∙ of_limits a.lines.now a.tokens.now a.text.now o in record { space_after = equation; by_index = of_numbers a.lines.now a.tokens.now a.text.now o W.result _ _ _ equation }
+    let equation = W.ensures ∙ within_enough limits a.code.now.lines.now a.code.now.tokens.now a.code.now.text.now o (omega arith) ∙ of_limits a.code.now.lines.now a.code.now.tokens.now a.code.now.text.now o in record { space_after = equation; by_index = of_numbers a.code.now.lines.now a.code.now.tokens.now a.code.now.text.now o W.result _ _ _ equation }

@@ -8,15 +8,12 @@ use Rattle.pseudo_ssa.proofs.recover_within.Goals as goal
 
 pub answered-requires : goal.answered-requires
 answered-requires c = let a = c.args in
-    let q = c.refusal-q in
-    asked (at_most a.most) a.lines.now a.tokens.now a.text.now a.numbers.now a.marks.now a.space.now q.result q.ensures (search rules) c.requires.0 c.requires.1
+    asked (at_most a.most) a.code.now.lines.now a.code.now.tokens.now a.code.now.text.now a.numbers.now a.marks.now a.space.now c.in_ok-refusal.ensures c.requires.0 c.requires.1
 
-pub returns-then-q-eq0 : goal.returns-then-q-eq0
-returns-then-q-eq0 c = let a = c.args in
-    let q = c.refusal-q in
-    c.answered.ensures ∙ within_answered (at_most a.most) a.budget a.lines.now a.tokens.now a.text.now a.numbers.now a.marks.now a.space.now q.result q.ensures (search rules)
+pub returns : goal.returns
+returns c = let a = c.args in
+    c.answered.ensures ∙ within_answered (at_most a.most) a.budget a.code.now.lines.now a.code.now.tokens.now a.code.now.text.now a.numbers.now a.marks.now a.space.now c.in_ok-refusal.ensures
 
-pub returns-else-q-eq0 : goal.returns-else-q-eq0
-returns-else-q-eq0 c = let a = c.args in
-    let q = c.refusal-q in
-    within_refused (at_most a.most) a.budget a.lines.now a.tokens.now a.text.now a.numbers.now a.marks.now a.space.now q.result q.ensures c.if-q-eq0.false
+pub returns-in_err-refusal : goal.returns-in_err-refusal
+returns-in_err-refusal c = let a = c.args in
+    let e = within_refused (at_most a.most) a.budget a.code.now.lines.now a.code.now.tokens.now a.code.now.text.now a.numbers.now a.marks.now a.space.now _ c.in_err-refusal.ensures in search rules

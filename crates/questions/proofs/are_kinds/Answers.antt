@@ -11,9 +11,6 @@ is_kind-requires c = search (asked, rules)
 pub both-ok-requires : goal.both-ok-requires
 both-ok-requires c = search (asked, rules)
 
-pub overflow_add-k : goal.overflow_add-k
-overflow_add-k c = search (asked, rules)
-
 pub loop-k-smaller : goal.loop-k-smaller
 loop-k-smaller c = search (asked, rules)
 

@@ -9,6 +9,3 @@ use Rattle.questions.proofs.are_kinds.Given as goal
 
 abbrev pub invariant-loop-k : goal.invariant-loop-k
 invariant-loop-k l = all (λ w. leb (w % 256) 7) l.tokens ≡ (l.ok && all (λ w. leb (w % 256) 7) (drop l.k l.tokens))
-
-abbrev pub decreases-loop-k : goal.decreases-loop-k
-decreases-loop-k l = length l.tokens - l.k

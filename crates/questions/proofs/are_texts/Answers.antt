@@ -9,17 +9,14 @@ loop-k-init c = search (loops, asked, rules)
 pub is_text-requires : goal.is_text-requires
 is_text-requires c = search (loops, asked, rules)
 
-pub overflow_add-k : goal.overflow_add-k
-overflow_add-k c = search (loops, asked, rules)
-
 pub loop-k-smaller : goal.loop-k-smaller
 loop-k-smaller c = search (loops, asked, rules)
 
 pub loop-k-preserved : goal.loop-k-preserved
 loop-k-preserved c = search (loops, asked, rules)
 
-pub returns-else-is_text : goal.returns-else-is_text
-returns-else-is_text c = search (loops, asked, rules)
-
 pub returns : goal.returns
 returns c = search (loops, asked, rules)
+
+pub returns-then-not-is_text : goal.returns-then-not-is_text
+returns-then-not-is_text c = search (loops, asked, rules)

@@ -8,7 +8,4 @@ use Rattle.definitions.specs.Utf8.{is_utf8}
 use Rattle.questions.proofs.are_texts.Given as goal
 
 abbrev pub invariant-loop-k : goal.invariant-loop-k
-invariant-loop-k l = (l.k ≤ l.n) × (all (λ t. is_utf8 t.text) (token_list l.tokens l.text) ≡ all (λ t. is_utf8 t.text) (drop l.k (token_list l.tokens l.text)))
-
-abbrev pub decreases-loop-k : goal.decreases-loop-k
-decreases-loop-k l = l.n - l.k
+invariant-loop-k l = (l.k ≤ l.n) × (all (λ t. is_utf8 t.text) (token_list l.code.tokens.now l.code.text.now) ≡ all (λ t. is_utf8 t.text) (drop l.k (token_list l.code.tokens.now l.code.text.now)))

@@ -6,6 +6,3 @@ use Rattle.questions.proofs.bound.Given as goal
 
 abbrev pub invariant-loop-k : goal.invariant-loop-k
 invariant-loop-k l = (l.k ≤ length l.s) × Bounded l.most l.k l.s
-
-abbrev pub decreases-loop-k : goal.decreases-loop-k
-decreases-loop-k l = length l.s - l.k

@@ -11,9 +11,6 @@ rises-requires c = search (asked, rules)
 pub both-ok-requires : goal.both-ok-requires
 both-ok-requires c = search (asked, rules)
 
-pub overflow_add-i : goal.overflow_add-i
-overflow_add-i c = search (asked, rules)
-
 pub loop-i-smaller : goal.loop-i-smaller
 loop-i-smaller c = search (asked, rules)
 

@@ -1,4 +1,3 @@
--- `questions::question_3` meets its contract. Assumes nothing.
 use borrow.Author.Rules.{rules}
 use Rattle.questions.proofs.Ascii.{bounds}
 use Rattle.questions.proofs.question_3.Goals as goal

@@ -10,13 +10,13 @@ use native.Mathlib.Omega.{arith}
 use Rattle.recover_loops.proofs.passed_in.Goals as goal
 
 pub plan_loops-requires : goal.plan_loops-requires
-plan_loops-requires c = let g = c.args in let C = columns g.lines.now g.addresses.now g.tokens.now g.text.now in let O = columns g.rows.now g.places.now g.words.now g.bytes.now in let e = c.requires.bytes_value in let few = few_lines C O e in let p = c.requires in record { lines_len_bound = (few, p.lines_in_bounds, (asked_all C O e).2); masks = p.masks }
+plan_loops-requires c = let g = c.args in let C = columns g.code.now.lines.now g.addresses.now g.code.now.tokens.now g.code.now.text.now in let O = columns g.rows.now g.places.now g.words.now g.bytes.now in let e = c.requires.bytes_value in let few = few_lines C O e in let p = c.requires in record { lines_len_bound = (few, p.lines_in_bounds, (asked_all C O e).2); masks = p.masks }
 
 pub returns-in_default : goal.returns-in_default
-returns-in_default c = let g = c.args in let C = columns g.lines.now g.addresses.now g.tokens.now g.text.now in let O = columns g.rows.now g.places.now g.words.now g.bytes.now in let e = c.requires.bytes_value in call_overflows loops C O e (plan_overflow (source C) _ _ (c.plan_loops.ensures.result_after (source C) (columns_source _ _ _ _ (asked_all C O e).1)) c.in_default.is) _ c.zero_all.ensures
+returns-in_default c = let g = c.args in let C = columns g.code.now.lines.now g.addresses.now g.code.now.tokens.now g.code.now.text.now in let O = columns g.rows.now g.places.now g.words.now g.bytes.now in let e = c.requires.bytes_value in call_overflows loops C O e (plan_overflow (source C) _ _ (c.plan_loops.ensures.result_after (source C) (columns_source _ _ _ _ (asked_all C O e).1)) c.in_default.is) _ c.zero_all.ensures
 
 pub written-requires : goal.written-requires
-written-requires c = let g = c.args in let C = columns g.lines.now g.addresses.now g.tokens.now g.text.now in let O = columns g.rows.now g.places.now g.words.now g.bytes.now in let e = c.requires.bytes_value in let q = c.in-Lines.is in let p = plan_emitted _ _ _ _ c.plan_loops.ensures.emitted q in let few = few_lines C O e in record { n_in_bounds = (omega (arith, p.0, few, c.requires.lines_in_bounds, c.plan_loops.auto.plan), p.1); fact = writable C O _ e (plan_fits (source C) _ _ (c.plan_loops.ensures.result_after (source C) (columns_source _ _ _ _ (asked_all C O e).1)) _ q) }
+written-requires c = let g = c.args in let C = columns g.code.now.lines.now g.addresses.now g.code.now.tokens.now g.code.now.text.now in let O = columns g.rows.now g.places.now g.words.now g.bytes.now in let e = c.requires.bytes_value in let q = c.in-Lines.is in let p = plan_emitted _ _ _ _ c.plan_loops.ensures.emitted q in let few = few_lines C O e in record { n_in_bounds = (omega (arith, p.0, few, c.requires.lines_in_bounds, c.plan_loops.auto.plan), p.1); fact = writable C O _ e (plan_fits (source C) _ _ (c.plan_loops.ensures.result_after (source C) (columns_source _ _ _ _ (asked_all C O e).1)) _ q) }
 
 pub returns : goal.returns
-returns c = let g = c.args in let C = columns g.lines.now g.addresses.now g.tokens.now g.text.now in let O = columns g.rows.now g.places.now g.words.now g.bytes.now in let e = c.requires.bytes_value in call_accepts loops C O e _ (plan_lines (source C) _ _ (c.plan_loops.ensures.result_after (source C) (columns_source _ _ _ _ (asked_all C O e).1)) _ c.in-Lines.is) _ c.written.ensures
+returns c = let g = c.args in let C = columns g.code.now.lines.now g.addresses.now g.code.now.tokens.now g.code.now.text.now in let O = columns g.rows.now g.places.now g.words.now g.bytes.now in let e = c.requires.bytes_value in call_accepts loops C O e _ (plan_lines (source C) _ _ (c.plan_loops.ensures.result_after (source C) (columns_source _ _ _ _ (asked_all C O e).1)) _ c.in-Lines.is) _ c.written.ensures

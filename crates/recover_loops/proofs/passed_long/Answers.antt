@@ -6,7 +6,7 @@ use Rattle.theory.proofs.ListLaws.{replicate_default}
 use Rattle.recover_loops.proofs.passed_long.Goals as goal
 
 pub masks-requires : goal.masks-requires
-masks-requires c = let g = c.args in record { lines_in_bounds = few_lines (columns g.lines.now g.addresses.now g.tokens.now g.text.now) (columns g.rows.now g.places.now g.words.now g.bytes.now) c.requires; by_index = λ k. replicate_default 1024 k 0 }
+masks-requires c = let g = c.args in record { lines_in_bounds = few_lines (columns g.code.now.lines.now g.addresses.now g.code.now.tokens.now g.code.now.text.now) (columns g.rows.now g.places.now g.words.now g.bytes.now) c.requires; by_index = λ k. replicate_default 1024 k 0 }
 
 pub passed_in-requires : goal.passed_in-requires
-passed_in-requires c = let g = c.args in record { lines_in_bounds = few_lines (columns g.lines.now g.addresses.now g.tokens.now g.text.now) (columns g.rows.now g.places.now g.words.now g.bytes.now) c.requires; bytes_value = c.requires; masks = c.masks.ensures }
+passed_in-requires c = let g = c.args in record { lines_in_bounds = few_lines (columns g.code.now.lines.now g.addresses.now g.code.now.tokens.now g.code.now.text.now) (columns g.rows.now g.places.now g.words.now g.bytes.now) c.requires; bytes_value = c.requires; masks = c.masks.ensures }

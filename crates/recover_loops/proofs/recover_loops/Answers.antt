@@ -1,12 +1,14 @@
 -- `recover_loops::recover_loops` meets its contract. The questions, then the pass.
 -- Assumes nothing.
 use Rattle.definitions.specs.Answers.{loops}
-use Rattle.pass_call.proofs.Calling.{asked_none, asked_some, refusal_is}
+use Rattle.pass_call.proofs.Calling.{refusal_is}
+use borrow.Author.Rules.{rules}
+use mathlib.Core.Path.{sym}
 use Rattle.write.specs.Holds.{columns}
 use Rattle.recover_loops.proofs.recover_loops.Goals as goal
 
-pub passed-requires : goal.passed-requires
-passed-requires c = asked_none _ _ c.asked-n.ensures.result_value c.if-n-eq0.true
+pub returns-in_err-asked : goal.returns-in_err-asked
+returns-in_err-asked c = let g = c.args in let C = columns g.code.now.lines.now g.addresses.now g.code.now.tokens.now g.code.now.text.now in let O = columns g.rows.now g.places.now g.words.now g.bytes.now in let e = refusal_is loops C O _ c.in_err-asked.ensures.result_value in search rules
 
-pub returns : goal.returns
-returns c = let g = c.args in let C = columns g.lines.now g.addresses.now g.tokens.now g.text.now in let O = columns g.rows.now g.places.now g.words.now g.bytes.now in refusal_is loops C O _ (asked_some _ _ c.asked-n.ensures.result_value c.if-n-eq0.false) c.refusal.result c.refusal.ensures
+pub passed-requires : goal.passed-requires
+passed-requires c = sym c.in_ok-asked.ensures.result_value

@@ -12,4 +12,4 @@ pub loop-i-preserved : goal.loop-i-preserved
 loop-i-preserved c = search (going_next, rules)
 
 pub returns : goal.returns
-returns c = record { appended = search (all_done, rules); short = rows_short _ _ _ _ _ c.shared_slice_known-4-1.given }
+returns c = record { appended = search (all_done, rules); short = rows_short _ _ _ _ _ c.type_inv.numbers }

@@ -7,7 +7,4 @@ use Rattle.rows.proofs.RowRules.{Going}
 use Rattle.rows.proofs.put_rows.Given as goal
 
 abbrev pub invariant-loop-i : goal.invariant-loop-i
-invariant-loop-i l = Going (line_rows l.lines l.tokens l.text l.numbers l.marks) 0 (length l.lines) l.initial.out 0 l.out l.to l.i
-
-abbrev pub decreases-loop-i : goal.decreases-loop-i
-decreases-loop-i l = length l.lines - l.i
+invariant-loop-i l = Going (line_rows l.code.lines.now l.code.tokens.now l.code.text.now l.numbers l.marks) 0 (length l.code.lines.now) l.initial.out 0 l.out l.to l.i

@@ -1,5 +1,5 @@
-use Prim.Native.Nat.{◌-◌}
-use mathlib.Core.Path.{refl, ◌∙◌}
+use Prim.Native.Nat.{◌≤◌}
+use mathlib.Core.Path.{refl}
 use native.Mathlib.Omega.{arith}
 use lib.ListN.{length-set}
 use Rattle.sweep.proofs.Numbering.{number_start, number_end}
@@ -7,7 +7,7 @@ use borrow.Author.Rules.{rules}
 use Rattle.sweep.proofs.number.Goals as goal
 
 pub loop-i-init : goal.loop-i-init
-loop-i-init c = (omega arith, omega arith, simp length-set (omega arith), refl, number_start _ _ c.args.defs.now (omega arith))
+loop-i-init c = (simp length-set (omega arith), refl, number_start _ _ c.args.defs.now (omega arith))
 
 pub returns : goal.returns
-returns c = search (number_end, rules)
+returns c = let h : c.loop-i.i ≤ c.args.n = omega arith in search (number_end, rules)

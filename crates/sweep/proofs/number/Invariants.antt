@@ -1,12 +1,9 @@
 -- `sweep::number` meets its contract. The invariant: the lines below i are numbered. Assumes nothing.
-use Prim.Native.Nat.{◌-◌, ◌≤◌, ◌<◌}
+use Prim.Native.Nat.{◌≤◌}
 use mathlib.Core.Path.{◌≡◌}
 use lib.ListN.{length}
 use Rattle.visit.specs.Numbers.{Numbering}
 use Rattle.sweep.proofs.number.Given as goal
 
 abbrev pub invariant-loop-i : goal.invariant-loop-i
-invariant-loop-i l = (0 < l.i) × (l.i ≤ l.n) × (l.n ≤ length l.defs) × (length l.defs ≡ length l.initial.defs) × Numbering l.families l.f l.defs l.i l.c
-
-abbrev pub decreases-loop-i : goal.decreases-loop-i
-decreases-loop-i l = l.n - l.i
+invariant-loop-i l = (l.n ≤ length l.defs) × (length l.defs ≡ length l.initial.defs) × Numbering l.families l.f l.defs l.i l.c

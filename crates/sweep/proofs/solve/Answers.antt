@@ -1,4 +1,3 @@
-use Prim.Native.Nat.{◌-◌}
 use mathlib.Core.Bool.{false≢true}
 use Rattle.visit.proofs.LayoutLaws.{room_same, kept_both}
 use Rattle.sweep.proofs.Counting.{solve_next, solve_done, solve_over, agree_still, first_listed, first_turned, first_done, first_over, first_kept}
@@ -14,28 +13,28 @@ sweep-requires c = (search (room_same, rules), search rules, search (kept_both, 
 pub turn-requires : goal.turn-requires
 turn-requires c = search (room_same, rules)
 
-pub returns-else-sweep : goal.returns-else-sweep
-returns-else-sweep c = search (first_done, rules)
+pub returns-then-not-sweep : goal.returns-then-not-sweep
+returns-then-not-sweep c = search (first_done, rules)
 
 pub loop-count-init : goal.loop-count-init
 loop-count-init c = let pre = c.requires in
-    (search rules, search rules, first_turned _ _ _ _ _ _ _ _ _ pre.0.lines pre.0.wide pre.1 c.start.ensures c.sweep.ensures c.if-sweep.true c.turn.ensures)
+    (search rules, first_turned _ _ _ _ _ _ _ _ _ pre.0.lines pre.0.wide pre.1 c.start.ensures c.sweep.ensures c.if-not-sweep.false c.turn.ensures)
 
 pub sweep-requires-in-loop-count : goal.sweep-requires-in-loop-count
 sweep-requires-in-loop-count c = let pre = c.requires in
     let kept = first_kept _ _ _ _ _ _ _ _ _ c.start.ensures c.sweep.ensures c.turn.ensures in
-    (search (room_same, rules), search rules, agree_still _ _ _ _ _ _ _ _ pre.0.wide kept c.loop-count.invariant.2 pre.2, search rules, λ e. absurd (false≢true e))
+    (search (room_same, rules), search rules, agree_still _ _ _ _ _ _ _ _ pre.0.wide kept c.loop-count.invariant.1 pre.2, search rules, λ e. absurd (false≢true e))
 
-pub turn-requires-then-sweep-2 : goal.turn-requires-then-sweep-2
-turn-requires-then-sweep-2 c = search (room_same, rules)
+pub turn-requires-in-loop-count : goal.turn-requires-in-loop-count
+turn-requires-in-loop-count c = search (room_same, rules)
 
 pub loop-count-preserved : goal.loop-count-preserved
 loop-count-preserved c = let inv = c.loop-count.invariant in
     let pre = c.requires in
-    (search rules, search rules, solve_next _ _ _ _ _ _ _ _ _ pre.0.lines pre.0.wide pre.1 inv.2 c.sweep-in-loop-count.ensures _ c.if-sweep-2.true c.turn-then-sweep-2.ensures)
+    (search rules, solve_next _ _ _ _ _ _ _ _ _ pre.0.lines pre.0.wide pre.1 inv.1 c.sweep-in-loop-count.ensures _ c.if-not-sweep-2.false c.turn-in-loop-count.ensures)
 
-pub returns-else-sweep-2 : goal.returns-else-sweep-2
-returns-else-sweep-2 c = search (solve_done, first_kept, rules)
+pub returns-then-not-sweep-2 : goal.returns-then-not-sweep-2
+returns-then-not-sweep-2 c = search (solve_done, first_kept, rules)
 
 pub returns : goal.returns
 returns c = search (solve_over, first_kept, rules)

@@ -1,12 +1,8 @@
 -- `sweep::solve` meets its contract. The invariant: `count` sweeps are done, each of which changed something. Assumes nothing.
-use Prim.Native.Nat.{◌-◌, ◌≤◌}
 use mathlib.Core.Path.{◌≡◌}
 use lib.ListN.{length}
 use Rattle.sweep.proofs.Counting.{Solving}
 use Rattle.sweep.proofs.solve.Given as goal
 
 abbrev pub invariant-loop-count : goal.invariant-loop-count
-invariant-loop-count l = (length l.space ≡ length l.initial.space) × (l.count ≤ l.budget) × Solving l.n l.r l.w l.defs l.initial.space l.space l.count
-
-abbrev pub decreases-loop-count : goal.decreases-loop-count
-decreases-loop-count l = l.budget - l.count
+invariant-loop-count l = (length l.space ≡ length l.initial.space) × Solving l.n l.r l.w l.defs l.initial.space l.space l.count

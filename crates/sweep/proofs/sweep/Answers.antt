@@ -1,4 +1,3 @@
-use Prim.Native.Nat.{◌-◌}
 use Rattle.visit.proofs.LayoutLaws.{room_same}
 use Rattle.visit.proofs.StepLaws.{step_full}
 use Rattle.sweep.proofs.Worklist.{work_start, work_next, work_end, work_agree}

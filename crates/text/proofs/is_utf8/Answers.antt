@@ -1,4 +1,3 @@
-use Prim.Native.Nat.{◌-◌}
 use Rattle.text.proofs.CodePoints.{code_points}
 use borrow.Author.Rules.{rules}
 use Rattle.text.proofs.is_utf8.Goals as goal

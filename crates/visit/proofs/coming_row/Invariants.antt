@@ -1,5 +1,4 @@
 -- `visit::coming_row` meets its contract. The invariant: the first k words are made. Assumes nothing.
-use Prim.Native.Nat.{◌-◌, ◌≤◌}
 use mathlib.Core.Path.{◌≡◌}
 use lib.ListN.{length}
 use Rattle.bits.specs.Rows.{Filled}
@@ -9,7 +8,4 @@ use Rattle.visit.specs.Steps.{coming}
 use Rattle.visit.proofs.coming_row.Given as goal
 
 abbrev pub invariant-loop-k : goal.invariant-loop-k
-invariant-loop-k l = (l.k ≤ l.w) × (length l.space ≡ length l.initial.space) × Filled l.initial.space l.space (making l.n l.r l.w) l.k (λ b. coming (preds_of l.n l.r l.initial.space) b (outs l.n l.r l.w l.initial.space b) l.i)
-
-abbrev pub decreases-loop-k : goal.decreases-loop-k
-decreases-loop-k l = l.w - l.k
+invariant-loop-k l = (length l.space ≡ length l.initial.space) × Filled l.initial.space l.space (making l.n l.r l.w) l.k (λ b. coming (preds_of l.n l.r l.initial.space) b (outs l.n l.r l.w l.initial.space b) l.i)

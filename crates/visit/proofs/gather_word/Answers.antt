@@ -1,4 +1,3 @@
-use Prim.Native.Nat.{◌-◌}
 use native.Mathlib.Omega.{arith}
 use Rattle.visit.proofs.StepLaws.{gather_start, gather_next, gather_end, preds_row}
 use borrow.Author.Rules.{rules}

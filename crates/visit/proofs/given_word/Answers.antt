@@ -6,4 +6,4 @@ pub returns-then-d-eq0 : goal.returns-then-d-eq0
 returns-then-d-eq0 c = make_coming _ _ _ c.args.i _ _ _ c.args.defs.now c.if-d-eq0.true c.coming_word.ensures
 
 pub returns : goal.returns
-returns c = make_own _ _ _ c.args.i _ _ _ c.args.defs.now _ c.wide.ensures c.if-d-eq0.false c.bit_word.ensures
+returns c = make_own _ _ _ c.args.i _ _ _ c.args.defs.now _ c.from.ensures c.if-d-eq0.false c.bit_word.ensures

@@ -1,12 +1,8 @@
 -- `visit::visit_line` meets its contract. The invariant: the first k words are visited. Assumes nothing.
-use Prim.Native.Nat.{◌-◌, ◌≤◌}
 use mathlib.Core.Path.{◌≡◌}
 use lib.ListN.{length}
 use Rattle.visit.proofs.StepLaws.{Visiting}
 use Rattle.visit.proofs.visit_line.Given as goal
 
 abbrev pub invariant-loop-k : goal.invariant-loop-k
-invariant-loop-k l = (l.k ≤ l.w) × (length l.space ≡ length l.initial.space) × Visiting l.n l.r l.w l.i l.k l.defs l.initial.space l.space l.changed
-
-abbrev pub decreases-loop-k : goal.decreases-loop-k
-decreases-loop-k l = l.w - l.k
+invariant-loop-k l = (length l.space ≡ length l.initial.space) × Visiting l.n l.r l.w l.i l.k l.defs l.initial.space l.space l.changed

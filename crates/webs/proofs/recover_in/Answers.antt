@@ -5,10 +5,10 @@ use Rattle.webs.proofs.Whole.{bounds_by, finds_all, known_by, state_start, whole
 use Rattle.webs.proofs.recover_in.Goals as goal
 
 pub chain_tokens-requires : goal.chain_tokens-requires
-chain_tokens-requires c = let f = finds_all _ _ _ _ _ _ c.families-count.ensures in (f, bounds_by _ _ c.requires.in_bounds.3 c.requires.in_bounds.1 c.requires.in_bounds.2, c.requires.lines_in_bounds.1, omega (arith, c.families-count.ensures.small, c.requires.lines_in_bounds_2.2))
+chain_tokens-requires g c = let f = finds_all _ _ _ _ _ _ c.families-count.ensures in (f, bounds_by _ _ c.requires.in_bounds.3 c.requires.in_bounds.1 c.requires.in_bounds.2, c.requires.lines_in_bounds.1, omega (arith, c.families-count.ensures.small, c.requires.room.1))
 
 pub all_webs-requires : goal.all_webs-requires
-all_webs-requires c = let B = bounds_by _ _ c.requires.in_bounds.3 c.requires.in_bounds.1 c.requires.in_bounds.2 in (known_by _ _ _ _ _ _ c.families-count.ensures _ B c.requires.in_bounds.0 c.requires.in_bounds.4 _ _ c.chain_tokens.ensures, state_start _ _ _ _ _ c.args.marks.now B _ _ _ _ c.requires.lines_in_bounds.3 c.requires.lines_in_bounds.2 c.zero_bytes.ensures c.chain_tokens.ensures, c.requires.lines_in_bounds.0)
+all_webs-requires g c = let B = bounds_by _ _ c.requires.in_bounds.3 c.requires.in_bounds.1 c.requires.in_bounds.2 in (known_by _ _ _ _ _ _ c.families-count.ensures _ B c.requires.in_bounds.0 c.requires.in_bounds.4 _ _ c.chain_tokens.ensures, state_start _ _ _ _ _ c.args.marks.now B _ _ _ _ c.requires.lines_in_bounds.3 c.requires.lines_in_bounds.2 c.zero.ensures c.chain_tokens.ensures, c.requires.lines_in_bounds.0, c.requires.room.1, c.requires.room.2)
 
 pub returns : goal.returns
-returns c = whole_by _ _ _ _ _ _ _ _ _ c.requires.in_bounds.0 c.requires.lines_in_bounds.3 c.all_webs.ensures
+returns g c = whole_by _ _ _ _ _ _ _ _ _ c.requires.in_bounds.0 c.requires.lines_in_bounds.3 c.all_webs.ensures

@@ -9,6 +9,3 @@ use Rattle.write.proofs.copy.Given as goal
 
 abbrev pub invariant-loop-j : goal.invariant-loop-j
 invariant-loop-j l = (l.j ≤ length l.bytes) × (length l.text ≡ length l.initial.text) × Filled (take l.from l.initial.text ++ take l.j l.bytes) (l.from + l.j) l.text
-
-abbrev pub decreases-loop-j : goal.decreases-loop-j
-decreases-loop-j l = length l.bytes - l.j

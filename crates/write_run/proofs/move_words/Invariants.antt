@@ -10,6 +10,3 @@ use Rattle.write_run.proofs.move_words.Given as goal
 
 abbrev pub invariant-loop-j : goal.invariant-loop-j
 invariant-loop-j l = (l.j ≤ length l.run) × (length l.words ≡ length l.initial.words) × Filled (take l.k l.initial.words ++ take l.j (map (moved l.a l.b) l.run)) (l.k + l.j) l.words
-
-abbrev pub decreases-loop-j : goal.decreases-loop-j
-decreases-loop-j l = length l.run - l.j

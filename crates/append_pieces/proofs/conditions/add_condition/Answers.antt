@@ -9,7 +9,7 @@ pub returns-in_default : goal.returns-in_default
 returns-in_default c = λ l a. adds_as (sym (condition_nothing _ _ c.condition.ensures.result_value c.in_default.is)) adds_none
 
 pub returns-then-token_count-k : goal.returns-then-token_count-k
-returns-then-token_count-k c = absurd (condition_inside _ _ c.condition.ensures.result_value _ _ c.in-Cut.is c.condition.ensures.within _ c.token_count.ensures c.if-token_count-k.true)
+returns-then-token_count-k c = absurd (condition_inside _ _ c.condition.ensures.result_value _ c.in-Some.is c.condition.ensures.within _ c.token_count.ensures c.if-token_count-k.true)
 
 pub returns : goal.returns
-returns c = λ l a. adds_as (condition_run _ _ c.condition.ensures.result_value _ _ c.in-Cut.is c.condition.ensures.within) (c.add_run.ensures l a)
+returns c = λ l a. adds_as (condition_run _ _ c.condition.ensures.result_value _ c.in-Some.is c.condition.ensures.within) (c.add_run.ensures l a)

@@ -13,7 +13,4 @@ use Rattle.append_pieces.proofs.Runs.{Left}
 use Rattle.append_pieces.proofs.conditions.add_run.Given as goal
 
 abbrev pub invariant-loop-j : goal.invariant-loop-j
-invariant-loop-j l = (length l.words ≡ length l.initial.words) × (length l.bytes ≡ length l.initial.bytes) × ((ls a : List ℕ) → Left l.merged (whole (cut_run (line (listing l.lines l.tokens l.text) l.i) l.k l.end l.from)) (columns ls a l.initial.words l.initial.bytes) l.initial.d (whole (cut_run (line (listing l.lines l.tokens l.text) l.i) l.k l.end l.j)) (columns ls a l.words l.bytes) l.d)
-
-abbrev pub decreases-loop-j : goal.decreases-loop-j
-decreases-loop-j l = l.n - l.j
+invariant-loop-j l = (length l.words ≡ length l.initial.words) × (length l.bytes ≡ length l.initial.bytes) × ((ls a : List ℕ) → Left l.merged (whole (cut_run (line (listing l.code.lines.now l.code.tokens.now l.code.text.now) l.i) l.k l.end l.from)) (columns ls a l.initial.words l.initial.bytes) l.initial.d (whole (cut_run (line (listing l.code.lines.now l.code.tokens.now l.code.text.now) l.i) l.k l.end l.j)) (columns ls a l.words l.bytes) l.d)

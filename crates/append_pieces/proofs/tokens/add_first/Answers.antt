@@ -17,8 +17,8 @@ add-d-requires c = c.kind_at-kind.ensures.1
 pub loop-j-preserved : goal.loop-j-preserved
 loop-j-preserved c = let g = c.args in
     let i = c.loop-j.invariant in
-    (c.add-d.auto.words ∙ i.0, c.add-d.auto.bytes ∙ i.1, λ l a. line_goes g.popped (line (listing g.lines.now g.tokens.now g.text.now) g.i).tokens g.n c.requires _ (i.2 l a) c.loop-j-test.true _ _ c.dressed_text-s.ensures c.kind_at-kind.ensures.0 (c.add-d.ensures l a))
+    (c.add-d.auto.words ∙ i.0, c.add-d.auto.bytes ∙ i.1, λ l a. line_goes g.popped (line (listing g.code.now.lines.now g.code.now.tokens.now g.code.now.text.now) g.i).tokens g.n c.requires _ (i.2 l a) c.loop-j-test.true _ _ c.dressed_text-s.ensures c.kind_at-kind.ensures.0 (c.add-d.ensures l a))
 
 pub returns : goal.returns
 returns c = let g = c.args in
-    λ l a. line_ends g.popped (line (listing g.lines.now g.tokens.now g.text.now) g.i).tokens g.n c.requires _ (c.loop-j.invariant.2 l a) c.loop-j-test.false
+    λ l a. line_ends g.popped (line (listing g.code.now.lines.now g.code.now.tokens.now g.code.now.text.now) g.i).tokens g.n c.requires _ (c.loop-j.invariant.2 l a) c.loop-j-test.false

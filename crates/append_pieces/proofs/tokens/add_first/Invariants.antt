@@ -12,7 +12,4 @@ use Rattle.append_pieces.proofs.Runs.{Left}
 use Rattle.append_pieces.proofs.tokens.add_first.Given as goal
 
 abbrev pub invariant-loop-j : goal.invariant-loop-j
-invariant-loop-j l = (length l.words ≡ length l.initial.words) × (length l.bytes ≡ length l.initial.bytes) × ((ls a : List ℕ) → Left l.merged (dressed l.popped (take l.n (line (listing l.lines l.tokens l.text) l.i).tokens)) (columns ls a l.initial.words l.initial.bytes) l.initial.d (drop l.j (dressed l.popped (take l.n (line (listing l.lines l.tokens l.text) l.i).tokens))) (columns ls a l.words l.bytes) l.d)
-
-abbrev pub decreases-loop-j : goal.decreases-loop-j
-decreases-loop-j l = l.n - l.j
+invariant-loop-j l = (length l.words ≡ length l.initial.words) × (length l.bytes ≡ length l.initial.bytes) × ((ls a : List ℕ) → Left l.merged (dressed l.popped (take l.n (line (listing l.code.lines.now l.code.tokens.now l.code.text.now) l.i).tokens)) (columns ls a l.initial.words l.initial.bytes) l.initial.d (drop l.j (dressed l.popped (take l.n (line (listing l.code.lines.now l.code.tokens.now l.code.text.now) l.i).tokens))) (columns ls a l.words l.bytes) l.d)

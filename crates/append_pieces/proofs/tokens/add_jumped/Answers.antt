@@ -10,4 +10,4 @@ pub add_first-d-requires : goal.add_first-d-requires
 add_first-d-requires c = cut_within _ _ c.cut_place-n.ensures
 
 pub returns : goal.returns
-returns c = let g = c.args in λ l a. adds_as (jumped_parts g.popped (line (listing g.lines.now g.tokens.now g.text.now) g.i) g.kw.now c.cut_place-n.result c.cut_place-n.ensures) (adds_more _ _ (c.add_first-d.ensures l a) (adds_more _ _ (c.add-e.ensures l a) (c.add_last.ensures l a)))
+returns c = let g = c.args in λ l a. adds_as (jumped_parts g.popped (line (listing g.code.now.lines.now g.code.now.tokens.now g.code.now.text.now) g.i) g.kw.now c.cut_place-n.result c.cut_place-n.ensures) (adds_more _ _ (c.add_first-d.ensures l a) (adds_more _ _ (c.add-e.ensures l a) (c.add_last.ensures l a)))

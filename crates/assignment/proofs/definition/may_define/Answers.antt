@@ -3,11 +3,5 @@ use borrow.Author.Rules.{rules}
 use Rattle.text.proofs.Bools.{bools}
 use Rattle.assignment.proofs.definition.may_define.Goals as goal
 
-pub returns-then-is_var : goal.returns-then-is_var
-returns-then-is_var c = search (bools, rules)
-
-pub returns-else-is_var : goal.returns-else-is_var
-returns-else-is_var c = search (bools, rules)
-
 pub returns-else-is_wide : goal.returns-else-is_wide
 returns-else-is_wide c = search (bools, rules)

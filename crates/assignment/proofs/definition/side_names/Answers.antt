@@ -12,9 +12,6 @@ expr_names-requires c = search (defining, rules)
 pub returns-then-expr_names : goal.returns-then-expr_names
 returns-then-expr_names c = search (defining, rules)
 
-pub overflow_add-k : goal.overflow_add-k
-overflow_add-k c = search (defining, rules)
-
 pub loop-k-smaller : goal.loop-k-smaller
 loop-k-smaller c = search (defining, rules)
 

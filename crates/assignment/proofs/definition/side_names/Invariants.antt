@@ -9,7 +9,4 @@ use Rattle.assignment.specs.Assignments.{side}
 use Rattle.assignment.proofs.definition.side_names.Given as goal
 
 abbrev pub invariant-loop-k : goal.invariant-loop-k
-invariant-loop-k l = any (names_family (family_of l.s l.r)) (side (line (listing l.lines l.tokens l.text) l.i) l.a l.e) ≡ any (names_family (family_of l.s l.r)) (side (line (listing l.lines l.tokens l.text) l.i) l.k l.e)
-
-abbrev pub decreases-loop-k : goal.decreases-loop-k
-decreases-loop-k l = l.e - l.k
+invariant-loop-k l = any (names_family (family_of l.s l.r)) (side (line (listing l.code.lines.now l.code.tokens.now l.code.text.now) l.i) l.a l.e) ≡ any (names_family (family_of l.s l.r)) (side (line (listing l.code.lines.now l.code.tokens.now l.code.text.now) l.i) l.k l.e)

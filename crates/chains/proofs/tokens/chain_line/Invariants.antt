@@ -11,7 +11,7 @@ use Rattle.chains.specs.Chains.{Bounds, Chained}
 use Rattle.chains.proofs.tokens.chain_line.Given as goal
 
 abbrev pub invariant-loop-p : goal.invariant-loop-p
-invariant-loop-p l = (length l.memo ≡ length l.initial.memo) × (length l.numbers ≡ length l.initial.numbers) × (length l.first ≡ length l.initial.first) × (l.s ≤ l.p) × (l.p ≤ line_end l.lines l.tokens l.i) × Bounds l.lines l.tokens × Chained l.lines l.tokens l.text l.count l.p l.numbers l.first × Memo (defined_families (listing l.lines l.tokens l.text)) l.memo
+invariant-loop-p l = (length l.memo ≡ length l.initial.memo) × (length l.numbers ≡ length l.initial.numbers) × (length l.first ≡ length l.initial.first) × (l.s ≤ l.p) × (l.p ≤ line_end l.code.lines.now l.code.tokens.now l.i) × Bounds l.code.lines.now l.code.tokens.now × Chained l.code.lines.now l.code.tokens.now l.code.text.now l.count l.p l.numbers l.first × Memo (defined_families (listing l.code.lines.now l.code.tokens.now l.code.text.now)) l.memo
 
 abbrev pub decreases-loop-p : goal.decreases-loop-p
 decreases-loop-p l = l.p - l.s

@@ -15,9 +15,6 @@ offset_bounds-first-k c = search (token_rules, rules)
 pub bounds-first-k : goal.bounds-first-k
 bounds-first-k c = search (token_rules, rules)
 
-pub overflow_add-k : goal.overflow_add-k
-overflow_add-k c = search (token_rules, rules)
-
 pub loop-k-smaller : goal.loop-k-smaller
 loop-k-smaller c = search (token_rules, rules)
 

@@ -8,6 +8,3 @@ use Rattle.chains.proofs.tokens.no_heads.Given as goal
 
 abbrev pub invariant-loop-k : goal.invariant-loop-k
 invariant-loop-k l = (length l.first ≡ length l.initial.first) × Heads l.end l.k l.first
-
-abbrev pub decreases-loop-k : goal.decreases-loop-k
-decreases-loop-k l = length l.initial.first - l.k

@@ -9,6 +9,3 @@ use Rattle.dot.proofs.edges.put_edges.Given as goal
 
 abbrev pub invariant-loop-i : goal.invariant-loop-i
 invariant-loop-i l = Going (λ k. rows (λ j. edge (succs l.n 17 l.space k j) k j) 0 l.n) 0 l.n l.initial.out l.at l.out l.to l.i
-
-abbrev pub decreases-loop-i : goal.decreases-loop-i
-decreases-loop-i l = l.n - l.i

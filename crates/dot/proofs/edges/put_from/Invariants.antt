@@ -8,6 +8,3 @@ use Rattle.dot.proofs.edges.put_from.Given as goal
 
 abbrev pub invariant-loop-j : goal.invariant-loop-j
 invariant-loop-j l = Going (λ k. edge (succs l.n 17 l.space l.i k) l.i k) 0 l.n l.initial.out l.at l.out l.to l.j
-
-abbrev pub decreases-loop-j : goal.decreases-loop-j
-decreases-loop-j l = l.n - l.j

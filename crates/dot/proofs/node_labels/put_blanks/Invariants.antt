@@ -7,6 +7,3 @@ use Rattle.dot.proofs.node_labels.put_blanks.Given as goal
 
 abbrev pub invariant-loop-i : goal.invariant-loop-i
 invariant-loop-i l = Going (λ k. ascii "&nbsp;&nbsp;&nbsp;&nbsp;") 0 l.d l.initial.out l.at l.out l.to l.i
-
-abbrev pub decreases-loop-i : goal.decreases-loop-i
-decreases-loop-i l = l.d - l.i

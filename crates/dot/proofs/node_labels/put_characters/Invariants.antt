@@ -8,6 +8,3 @@ use Rattle.dot.proofs.node_labels.put_characters.Given as goal
 
 abbrev pub invariant-loop-j : goal.invariant-loop-j
 invariant-loop-j l = Going (λ k. character (get_or l.s k 0)) 0 (length l.s) l.initial.out l.at l.out l.to l.j
-
-abbrev pub decreases-loop-j : goal.decreases-loop-j
-decreases-loop-j l = length l.s - l.j

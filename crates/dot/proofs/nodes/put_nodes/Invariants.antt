@@ -7,7 +7,4 @@ use Prim.Native.Nat.{◌-◌}
 use Rattle.dot.proofs.nodes.put_nodes.Given as goal
 
 abbrev pub invariant-loop-i : goal.invariant-loop-i
-invariant-loop-i l = Going (node_at l.lines l.tokens l.text l.numbers l.w) 0 (length l.lines) l.initial.out l.at l.out l.to l.i
-
-abbrev pub decreases-loop-i : goal.decreases-loop-i
-decreases-loop-i l = length l.lines - l.i
+invariant-loop-i l = Going (node_at l.code.lines.now l.code.tokens.now l.code.text.now l.numbers l.w) 0 (length l.code.lines.now) l.initial.out l.at l.out l.to l.i

@@ -6,7 +6,4 @@ use Prim.Native.Nat.{◌-◌}
 use Rattle.dot.proofs.webs.first_of.Given as goal
 
 abbrev pub invariant-loop-p : goal.invariant-loop-p
-invariant-loop-p l = Finding (token_list l.tokens l.text) l.numbers l.k l.p
-
-abbrev pub decreases-loop-p : goal.decreases-loop-p
-decreases-loop-p l = l.k - l.p
+invariant-loop-p l = Finding (token_list l.code.tokens.now l.code.text.now) l.numbers l.k l.p

@@ -7,7 +7,4 @@ use Prim.Native.Nat.{◌-◌}
 use Rattle.dot.proofs.webs.rank.Given as goal
 
 abbrev pub invariant-loop-k : goal.invariant-loop-k
-invariant-loop-k l = Ranking (token_list l.tokens l.text) l.numbers (length l.tokens) (length l.initial.ranks) l.ranks l.c l.k
-
-abbrev pub decreases-loop-k : goal.decreases-loop-k
-decreases-loop-k l = length l.tokens - l.k
+invariant-loop-k l = Ranking (token_list l.code.tokens.now l.code.text.now) l.numbers (length l.code.tokens.now) (length l.initial.ranks) l.ranks l.c l.k

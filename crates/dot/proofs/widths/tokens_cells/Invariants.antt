@@ -9,7 +9,4 @@ use Prim.Native.Nat.{◌-◌}
 use Rattle.dot.proofs.widths.tokens_cells.Given as goal
 
 abbrev pub invariant-loop-k : goal.invariant-loop-k
-invariant-loop-k l = Summing (token_cells (token_list l.tokens l.text) l.numbers) (line_start l.lines l.i) l.end l.s l.k
-
-abbrev pub decreases-loop-k : goal.decreases-loop-k
-decreases-loop-k l = l.end - l.k
+invariant-loop-k l = Summing (token_cells (token_list l.code.tokens.now l.code.text.now) l.numbers) (line_start l.code.lines.now l.i) l.end l.s l.k

@@ -7,7 +7,4 @@ use Prim.Native.Nat.{◌-◌}
 use Rattle.dot.proofs.widths.widest.Given as goal
 
 abbrev pub invariant-loop-i : goal.invariant-loop-i
-invariant-loop-i l = Measuring (line_cells l.lines l.tokens l.text l.numbers) (length l.lines) l.m l.i
-
-abbrev pub decreases-loop-i : goal.decreases-loop-i
-decreases-loop-i l = length l.lines - l.i
+invariant-loop-i l = Measuring (line_cells l.code.lines.now l.code.tokens.now l.code.text.now l.numbers) (length l.code.lines.now) l.m l.i

@@ -10,7 +10,4 @@ use Rattle.write.specs.Holds.{columns, Holds}
 use Rattle.emit.proofs.lines.emit.Given as goal
 
 abbrev pub invariant-loop-i : goal.invariant-loop-i
-invariant-loop-i l = (length l.rows ≡ length l.initial.rows) × (length l.places ≡ length l.initial.places) × (length l.words ≡ length l.initial.words) × (length l.bytes ≡ length l.initial.bytes) × (l.i ≤ l.n) × Holds (done (render (with_addresses l.lines l.addresses (listing l.lines l.tokens l.text)) (take l.i l.plan))) (columns l.rows l.places l.words l.bytes) l.c
-
-abbrev pub decreases-loop-i : goal.decreases-loop-i
-decreases-loop-i l = l.n - l.i
+invariant-loop-i l = (length l.rows ≡ length l.initial.rows) × (length l.places ≡ length l.initial.places) × (length l.words ≡ length l.initial.words) × (length l.bytes ≡ length l.initial.bytes) × (l.i ≤ l.n) × Holds (done (render (with_addresses l.code.lines.now l.addresses (listing l.code.lines.now l.code.tokens.now l.code.text.now)) (take l.i l.plan))) (columns l.rows l.places l.words l.bytes) l.c

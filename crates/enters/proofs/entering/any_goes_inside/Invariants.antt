@@ -9,7 +9,7 @@ use Rattle.enters.specs.Inside.{goes_inside}
 use Rattle.enters.proofs.entering.any_goes_inside.Given as goal
 
 abbrev pub invariant-loop-k : goal.invariant-loop-k
-invariant-loop-k l = (l.k ≤ length l.words) × (any (goes_inside (listing l.lines l.tokens l.text) l.labels) l.words ≡ any (goes_inside (listing l.lines l.tokens l.text) l.labels) (drop l.k l.words))
+invariant-loop-k l = (l.k ≤ length l.words) × (any (goes_inside (listing l.code.lines.now l.code.tokens.now l.code.text.now) l.labels) l.words ≡ any (goes_inside (listing l.code.lines.now l.code.tokens.now l.code.text.now) l.labels) (drop l.k l.words))
 
 abbrev pub decreases-loop-k : goal.decreases-loop-k
 decreases-loop-k l = length l.words - l.k

@@ -17,9 +17,6 @@ names-requires c = search (scans, rules)
 pub returns-then-names : goal.returns-then-names
 returns-then-names c = search (scans, rules)
 
-pub overflow_add-k : goal.overflow_add-k
-overflow_add-k c = search (scans, rules)
-
 pub loop-k-smaller : goal.loop-k-smaller
 loop-k-smaller c = search (scans, rules)
 

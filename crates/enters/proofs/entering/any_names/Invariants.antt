@@ -9,7 +9,4 @@ use Rattle.enters.specs.Inside.{names}
 use Rattle.enters.proofs.entering.any_names.Given as goal
 
 abbrev pub invariant-loop-k : goal.invariant-loop-k
-invariant-loop-k l = any (names (listing l.lines l.tokens l.text) l.s) l.labels ≡ any (names (listing l.lines l.tokens l.text) l.s) (drop l.k l.labels)
-
-abbrev pub decreases-loop-k : goal.decreases-loop-k
-decreases-loop-k l = length l.labels - l.k
+invariant-loop-k l = any (names (listing l.code.lines.now l.code.tokens.now l.code.text.now) l.s) l.labels ≡ any (names (listing l.code.lines.now l.code.tokens.now l.code.text.now) l.s) (drop l.k l.labels)

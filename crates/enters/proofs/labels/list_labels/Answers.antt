@@ -14,9 +14,6 @@ bounds-words-k c = search (lists, rules)
 pub keep-m-requires : goal.keep-m-requires
 keep-m-requires c = search (lists, rules)
 
-pub overflow_add-k : goal.overflow_add-k
-overflow_add-k c = search (lists, rules)
-
 pub loop-k-smaller : goal.loop-k-smaller
 loop-k-smaller c = search (lists, rules)
 

@@ -9,7 +9,4 @@ use Rattle.enters.specs.Inside.{labels}
 use Rattle.enters.proofs.labels.list_labels.Given as goal
 
 abbrev pub invariant-loop-k : goal.invariant-loop-k
-invariant-loop-k l = (l.m ≤ l.k) × (l.k ≤ length l.words) × (length l.list ≡ length l.initial.list) × (take l.m l.list ++ labels (listing l.lines l.tokens l.text) (drop l.k l.words) ≡ labels (listing l.lines l.tokens l.text) l.words)
-
-abbrev pub decreases-loop-k : goal.decreases-loop-k
-decreases-loop-k l = length l.words - l.k
+invariant-loop-k l = (l.m ≤ l.k) × (l.k ≤ length l.words) × (length l.list ≡ length l.initial.list) × (take l.m l.list ++ labels (listing l.code.lines.now l.code.tokens.now l.code.text.now) (drop l.k l.words) ≡ labels (listing l.code.lines.now l.code.tokens.now l.code.text.now) l.words)

@@ -20,9 +20,6 @@ overflow_sub-result c = search (seeks, rules)
 pub returns-then-has_g : goal.returns-then-has_g
 returns-then-has_g c = search (seeks, rules)
 
-pub overflow_add-k : goal.overflow_add-k
-overflow_add-k c = search (seeks, rules)
-
 pub loop-k-smaller : goal.loop-k-smaller
 loop-k-smaller c = search (seeks, rules)
 

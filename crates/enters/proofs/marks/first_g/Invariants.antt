@@ -10,7 +10,4 @@ use Rattle.enters.specs.Marks.{has_g}
 use Rattle.enters.proofs.marks.first_g.Given as goal
 
 abbrev pub invariant-loop-k : goal.invariant-loop-k
-invariant-loop-k l = (l.s ≤ l.k) × (position has_g (line (listing l.lines l.tokens l.text) l.i).tokens ≡ placed has_g l.lines l.tokens l.text l.i l.s l.k)
-
-abbrev pub decreases-loop-k : goal.decreases-loop-k
-decreases-loop-k l = l.e - l.k
+invariant-loop-k l = (l.s ≤ l.k) × (position has_g (line (listing l.code.lines.now l.code.tokens.now l.code.text.now) l.i).tokens ≡ placed has_g l.code.lines.now l.code.tokens.now l.code.text.now l.i l.s l.k)

@@ -14,9 +14,6 @@ offset_bounds-marks-i c = search (markings, rules)
 pub bounds-marks-i : goal.bounds-marks-i
 bounds-marks-i c = search (markings, rules)
 
-pub overflow_add-i : goal.overflow_add-i
-overflow_add-i c = search (markings, rules)
-
 pub loop-i-smaller : goal.loop-i-smaller
 loop-i-smaller c = search (markings, rules)
 

@@ -7,7 +7,4 @@ use Rattle.enters.proofs.MarkRules.{Marking}
 use Rattle.enters.proofs.marks.mark_lines.Given as goal
 
 abbrev pub invariant-loop-i : goal.invariant-loop-i
-invariant-loop-i l = (l.i ≤ length l.lines) × Marking (listing l.lines l.tokens l.text) l.initial.marks l.marks l.i
-
-abbrev pub decreases-loop-i : goal.decreases-loop-i
-decreases-loop-i l = length l.lines - l.i
+invariant-loop-i l = (l.i ≤ length l.code.lines.now) × Marking (listing l.code.lines.now l.code.tokens.now l.code.text.now) l.initial.marks l.marks l.i

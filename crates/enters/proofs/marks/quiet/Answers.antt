@@ -9,10 +9,10 @@ pub returns-then-m-eq0 : goal.returns-then-m-eq0
 unfolding quiet
 returns-then-m-eq0 c = search (bools, rules)
 
-pub returns-then-p-eq0 : goal.returns-then-p-eq0
+pub returns-then-p-ne0 : goal.returns-then-p-ne0
 unfolding quiet
-returns-then-p-eq0 c = search (bools, rules)
+returns-then-p-ne0 c = search (bools, rules)
 
-pub returns : goal.returns
+pub returns-else-p-ne0 : goal.returns-else-p-ne0
 unfolding quiet
-returns c = search (bools, rules)
+returns-else-p-ne0 c = search (bools, rules)

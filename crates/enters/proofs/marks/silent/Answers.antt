@@ -15,6 +15,3 @@ returns-then-quiet c = search (silents, rules)
 
 pub returns-else-quiet : goal.returns-else-quiet
 returns-else-quiet c = search (silents, rules)
-
-pub returns-else-over : goal.returns-else-over
-returns-else-over c = search (silents, rules)

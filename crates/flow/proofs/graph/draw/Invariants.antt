@@ -10,7 +10,4 @@ use Rattle.flow.proofs.Graphs.{lines_from}
 use Rattle.flow.proofs.graph.draw.Given as goal
 
 abbrev pub invariant-loop-i : goal.invariant-loop-i
-invariant-loop-i l = (l.i ≤ l.n) × (length l.space ≡ length l.initial.space) × (gotos_lead (listing l.lines l.tokens l.text) ≡ lines_from (listing l.lines l.tokens l.text) l.n l.i) × Drawing (length l.lines) l.r l.initial.space l.space (rest (listing l.lines l.tokens l.text) (blocks_of (listing l.lines l.tokens l.text)) 0) (rest (listing l.lines l.tokens l.text) (blocks_of (listing l.lines l.tokens l.text)) l.i)
-
-abbrev pub decreases-loop-i : goal.decreases-loop-i
-decreases-loop-i l = l.n - l.i
+invariant-loop-i l = (l.i ≤ l.n) × (length l.space ≡ length l.initial.space) × (gotos_lead (listing l.code.lines.now l.code.tokens.now l.code.text.now) ≡ lines_from (listing l.code.lines.now l.code.tokens.now l.code.text.now) l.n l.i) × Drawing (length l.code.lines.now) l.r l.initial.space l.space (rest (listing l.code.lines.now l.code.tokens.now l.code.text.now) (blocks_of (listing l.code.lines.now l.code.tokens.now l.code.text.now)) 0) (rest (listing l.code.lines.now l.code.tokens.now l.code.text.now) (blocks_of (listing l.code.lines.now l.code.tokens.now l.code.text.now)) l.i)

@@ -11,9 +11,6 @@ test_token_names-requires c = search (test_names, rules)
 pub returns-then-test_token_names : goal.returns-then-test_token_names
 returns-then-test_token_names c = search (test_names, rules)
 
-pub overflow_add-k : goal.overflow_add-k
-overflow_add-k c = search (test_names, rules)
-
 pub loop-k-smaller : goal.loop-k-smaller
 loop-k-smaller c = search (test_names, rules)
 

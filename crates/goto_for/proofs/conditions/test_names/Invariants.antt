@@ -10,7 +10,4 @@ use Rattle.negate.specs.Tests.{test_from, test_tokens}
 use Rattle.goto_for.proofs.conditions.test_names.Given as goal
 
 abbrev pub invariant-loop-k : goal.invariant-loop-k
-invariant-loop-k l = any (names_family (family_of l.s l.r)) (test_tokens (line (listing l.lines l.tokens l.text) l.i) l.m) ≡ any (names_family (family_of l.s l.r)) (test_from (line (listing l.lines l.tokens l.text) l.i) l.m l.k)
-
-abbrev pub decreases-loop-k : goal.decreases-loop-k
-decreases-loop-k l = l.m - l.k
+invariant-loop-k l = any (names_family (family_of l.s l.r)) (test_tokens (line (listing l.code.lines.now l.code.tokens.now l.code.text.now) l.i) l.m) ≡ any (names_family (family_of l.s l.r)) (test_from (line (listing l.code.lines.now l.code.tokens.now l.code.text.now) l.i) l.m l.k)

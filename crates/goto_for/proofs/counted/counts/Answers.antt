@@ -19,11 +19,8 @@ overflow_add-w c = search (for_words, rules)
 pub continues-requires : goal.continues-requires
 continues-requires c = search (for_words, rules)
 
-pub returns-then-continues : goal.returns-then-continues
-returns-then-continues c = search (for_words, rules)
-
-pub returns-else-continues : goal.returns-else-continues
-returns-else-continues c = search (for_words, rules)
-
 pub returns-else-head_names : goal.returns-else-head_names
 returns-else-head_names c = search (for_words, rules)
+
+pub returns-then-head_names : goal.returns-then-head_names
+returns-then-head_names c = search (for_words, rules)

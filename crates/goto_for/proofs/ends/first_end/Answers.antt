@@ -17,9 +17,6 @@ ends-requires c = search (end_words, rules)
 pub returns-then-ends : goal.returns-then-ends
 returns-then-ends c = search (end_words, rules)
 
-pub overflow_add-j : goal.overflow_add-j
-overflow_add-j c = search (end_words, rules)
-
 pub loop-j-smaller : goal.loop-j-smaller
 loop-j-smaller c = search (end_words, rules)
 

@@ -8,7 +8,7 @@ use Rattle.goto_for.specs.Words.{init_words}
 use Rattle.goto_for.proofs.initialisers.initialiser.Given as goal
 
 abbrev pub invariant-loop-left : goal.invariant-loop-left
-invariant-loop-left l = (l.k ≤ l.w) × (init_words (listing l.lines l.tokens l.text) (names_family (family_of l.s l.r)) l.plan l.ind 4 l.w ≡ init_words (listing l.lines l.tokens l.text) (names_family (family_of l.s l.r)) l.plan l.ind l.left l.k)
+invariant-loop-left l = (l.k ≤ l.w) × (init_words (listing l.code.lines.now l.code.tokens.now l.code.text.now) (names_family (family_of l.s l.r)) l.plan l.ind 4 l.w ≡ init_words (listing l.code.lines.now l.code.tokens.now l.code.text.now) (names_family (family_of l.s l.r)) l.plan l.ind l.left l.k)
 
 abbrev pub decreases-loop-left : goal.decreases-loop-left
 decreases-loop-left l = l.left

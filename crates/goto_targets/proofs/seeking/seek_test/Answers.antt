@@ -11,9 +11,6 @@ loop-k-init c = search (tests, rules)
 pub seek_test_token-r-requires : goal.seek_test_token-r-requires
 seek_test_token-r-requires c = search (tests, rules)
 
-pub overflow_add-k : goal.overflow_add-k
-overflow_add-k c = search (tests, rules)
-
 pub loop-k-smaller : goal.loop-k-smaller
 loop-k-smaller c = search (tests, rules)
 

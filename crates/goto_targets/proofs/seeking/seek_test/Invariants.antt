@@ -10,7 +10,4 @@ use Rattle.goto_targets.specs.Seek.{seek, told}
 use Rattle.goto_targets.proofs.seeking.seek_test.Given as goal
 
 abbrev pub invariant-loop-k : goal.invariant-loop-k
-invariant-loop-k l = seek (told (listing l.lines l.tokens l.text) l.initial.r) (whole (test_from (line (listing l.lines l.tokens l.text) l.i) l.m 0)) ≡ seek (told (listing l.lines l.tokens l.text) l.r) (whole (test_from (line (listing l.lines l.tokens l.text) l.i) l.m l.k))
-
-abbrev pub decreases-loop-k : goal.decreases-loop-k
-decreases-loop-k l = l.m - l.k
+invariant-loop-k l = seek (told (listing l.code.lines.now l.code.tokens.now l.code.text.now) l.initial.r) (whole (test_from (line (listing l.code.lines.now l.code.tokens.now l.code.text.now) l.i) l.m 0)) ≡ seek (told (listing l.code.lines.now l.code.tokens.now l.code.text.now) l.r) (whole (test_from (line (listing l.code.lines.now l.code.tokens.now l.code.text.now) l.i) l.m l.k))

@@ -11,9 +11,6 @@ text_at-e-requires c = search (runs, rules)
 pub step-r-requires : goal.step-r-requires
 step-r-requires c = search (runs, rules)
 
-pub overflow_add-j : goal.overflow_add-j
-overflow_add-j c = search (runs, rules)
-
 pub loop-j-smaller : goal.loop-j-smaller
 loop-j-smaller c = search (runs, rules)
 

@@ -9,7 +9,4 @@ use Rattle.goto_targets.specs.Seek.{seek, told}
 use Rattle.goto_targets.proofs.seeking.seek_tokens.Given as goal
 
 abbrev pub invariant-loop-j : goal.invariant-loop-j
-invariant-loop-j l = seek (told (listing l.lines l.tokens l.text) l.initial.r) (part 0 l.n (line (listing l.lines l.tokens l.text) l.i).tokens) ≡ seek (told (listing l.lines l.tokens l.text) l.r) (part l.j l.n (line (listing l.lines l.tokens l.text) l.i).tokens)
-
-abbrev pub decreases-loop-j : goal.decreases-loop-j
-decreases-loop-j l = l.n - l.j
+invariant-loop-j l = seek (told (listing l.code.lines.now l.code.tokens.now l.code.text.now) l.initial.r) (part 0 l.n (line (listing l.code.lines.now l.code.tokens.now l.code.text.now) l.i).tokens) ≡ seek (told (listing l.code.lines.now l.code.tokens.now l.code.text.now) l.r) (part l.j l.n (line (listing l.code.lines.now l.code.tokens.now l.code.text.now) l.i).tokens)

@@ -6,7 +6,7 @@ use lib.ListN.{length}
 use Rattle.goto_turns.proofs.turns.run.Given as goal
 
 abbrev pub invariant-loop-h : goal.invariant-loop-h
-invariant-loop-h l = Running l.lines l.tokens l.text l.initial.plan l.plan l.n l.h
+invariant-loop-h l = Running l.code.lines.now l.code.tokens.now l.code.text.now l.initial.plan l.plan l.n l.h
 
 abbrev pub decreases-loop-h : goal.decreases-loop-h
-decreases-loop-h l = length l.lines - l.h
+decreases-loop-h l = length l.code.lines.now - l.h

@@ -27,9 +27,6 @@ offset_bounds-plan-k-in-loop-k c = search (rewriting, rules)
 pub bounds-plan-k-in-loop-k : goal.bounds-plan-k-in-loop-k
 bounds-plan-k-in-loop-k c = search (rewriting, rules)
 
-pub overflow_add-k : goal.overflow_add-k
-overflow_add-k c = search (rewriting, rules)
-
 pub loop-k-smaller : goal.loop-k-smaller
 loop-k-smaller c = search (rewriting, rules)
 

@@ -7,7 +7,4 @@ use Rattle.gotos.proofs.BodyRules.{Rewriting}
 use Rattle.gotos.proofs.body.rewrite_body.Given as goal
 
 abbrev pub invariant-loop-k : goal.invariant-loop-k
-invariant-loop-k l = Rewriting (listing l.lines l.tokens l.text) l.h (exit l.leaves l.x) l.n l.a l.e l.initial.plan l.plan l.k
-
-abbrev pub decreases-loop-k : goal.decreases-loop-k
-decreases-loop-k l = l.e - l.k
+invariant-loop-k l = Rewriting (listing l.code.lines.now l.code.tokens.now l.code.text.now) l.h (exit l.leaves l.x) l.n l.a l.e l.initial.plan l.plan l.k

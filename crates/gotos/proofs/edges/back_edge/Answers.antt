@@ -21,17 +21,14 @@ back_word-requires c = search (edges, rules)
 pub later-best-requires : goal.later-best-requires
 later-best-requires c = search (edges, rules)
 
-pub overflow_add-j : goal.overflow_add-j
-overflow_add-j c = search (edges, rules)
-
 pub loop-j-smaller : goal.loop-j-smaller
 loop-j-smaller c = search (edges, rules)
 
 pub loop-j-preserved : goal.loop-j-preserved
 loop-j-preserved c = search (edges, rules)
 
-pub returns-else-inside_word : goal.returns-else-inside_word
-returns-else-inside_word c = search (edges, rules)
-
 pub returns : goal.returns
 returns c = search (edges, rules)
+
+pub returns-then-not-inside_word : goal.returns-then-not-inside_word
+returns-then-not-inside_word c = search (edges, rules)

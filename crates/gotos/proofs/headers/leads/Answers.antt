@@ -19,8 +19,8 @@ piece-requires c = search (leads, rules)
 pub leading_test-requires : goal.leading_test-requires
 leading_test-requires c = search (leads, rules)
 
-pub returns-in-At : goal.returns-in-At
-returns-in-At c = search (leads, rules)
+pub returns-in-Some : goal.returns-in-Some
+returns-in-Some c = search (leads, rules)
 
-pub returns-in-Nothing : goal.returns-in-Nothing
-returns-in-Nothing c = search (leads, rules)
+pub returns-in-None : goal.returns-in-None
+returns-in-None c = search (leads, rules)

@@ -7,9 +7,6 @@ use Rattle.gotos.proofs.words.back_word.Goals as goal
 pub indent-requires : goal.indent-requires
 indent-requires c = search (backs, rules)
 
-pub returns-then-indent-d : goal.returns-then-indent-d
-returns-then-indent-d c = search (backs, rules)
-
 pub header-requires : goal.header-requires
 header-requires c = search (backs, rules)
 

@@ -4,8 +4,8 @@ use borrow.Author.Rules.{rules}
 use Rattle.javrenzu.proofs.Rules.{splits_said, splits_refused}
 use Rattle.javrenzu.proofs.calls.split_rows.Goals as goal
 
-pub returns-in-Written : goal.returns-in-Written
-returns-in-Written c = search (splits_said, rules)
+pub returns-in-Ok : goal.returns-in-Ok
+returns-in-Ok c = search (splits_said, rules)
 
-pub returns-in-Refused : goal.returns-in-Refused
-returns-in-Refused c = search (splits_refused, rules)
+pub returns-in-Err : goal.returns-in-Err
+returns-in-Err c = search (splits_refused, rules)

@@ -9,6 +9,3 @@ use Rattle.json_append.proofs.bytes.copy.Given as goal
 
 abbrev pub invariant-loop-j : goal.invariant-loop-j
 invariant-loop-j l = (l.j ≤ length l.bytes) × (length l.out ≡ length l.initial.out) × Filled (take l.at l.initial.out ++ take l.j l.bytes) (l.at + l.j) l.out
-
-abbrev pub decreases-loop-j : goal.decreases-loop-j
-decreases-loop-j l = length l.bytes - l.j

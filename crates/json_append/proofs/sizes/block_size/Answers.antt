@@ -16,9 +16,6 @@ bounds-s-i c = omega arith
 pub overflow_add-n : goal.overflow_add-n
 overflow_add-n c = omega arith
 
-pub overflow_add-k : goal.overflow_add-k
-overflow_add-k c = omega arith
-
 pub loop-k-smaller : goal.loop-k-smaller
 loop-k-smaller c = omega arith
 

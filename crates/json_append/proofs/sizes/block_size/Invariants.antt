@@ -8,6 +8,3 @@ use Rattle.json_append.proofs.sizes.block_size.Given as goal
 
 abbrev pub invariant-loop-k : goal.invariant-loop-k
 invariant-loop-k l = Counted byte_size 6 (part l.i (l.i + 8) l.s) l.n l.k
-
-abbrev pub decreases-loop-k : goal.decreases-loop-k
-decreases-loop-k l = 8 - l.k

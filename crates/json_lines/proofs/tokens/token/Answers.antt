@@ -1,23 +1,30 @@
 -- `json_lines::tokens::token` meets its contract.
 -- Assumes nothing.
-use Rattle.json_lines.proofs.MemberRules.{members, token_in}
-use Rattle.json_scan.proofs.Rules.{steps}
-use borrow.Author.Rules.{rules}
+use Rattle.std.proofs.Common.{◌-◌, length}
+use native.Mathlib.Omega.{arith}
 use Rattle.json_lines.specs.Answers.{token_rest}
+use Rattle.json_lines.proofs.MemberRules.{members, token_go, token_no, kind_small}
 use Rattle.json_lines.proofs.tokens.token.Goals as goal
 
-pub returns-in_default : goal.returns-in_default
-unfolding token_rest
-returns-in_default c = search (members, steps, rules) depth 12
+pub returns-in_err-s-clause-result_after : goal.returns-in_err-s-clause-result_after
+returns-in_err-s-clause-result_after c = grind (arith, token_no)
 
-pub returns-in_default-string : goal.returns-in_default-string
-unfolding token_rest
-returns-in_default-string c = search (members, steps, rules) depth 12
+pub returns-in_err-end-clause-result_after : goal.returns-in_err-end-clause-result_after
+returns-in_err-end-clause-result_after c =
+    let h = token_go c.args.s.now c.in_ok-s.s.now (length c.args.text.now - c.args.from) c.in_ok-s.ensures in
+    grind (arith, members)
 
-pub returns-in_default-token_kind : goal.returns-in_default-token_kind
+pub returns-in_err-kind-clause-result_after : goal.returns-in_err-kind-clause-result_after
 unfolding token_rest
-returns-in_default-token_kind c = search (members, steps, rules) depth 12
+returns-in_err-kind-clause-result_after c =
+    let h = token_go c.args.s.now c.in_ok-s.s.now (length c.args.text.now - c.args.from) c.in_ok-s.ensures in
+    grind (arith, members)
 
-pub returns : goal.returns
+pub returns-clause-result_after : goal.returns-clause-result_after
 unfolding token_rest
-returns c = record { result_after = search (members, steps, rules) depth 12; text_unchanged = search (members, steps, rules); within = token_in _ _ _ _ _ _ _ _ _ _ c.in-Ends.is c.string.ensures.within c.in-Value.is c.token_kind.ensures }
+returns-clause-result_after c =
+    let h = token_go c.args.s.now c.in_ok-s.s.now (length c.args.text.now - c.args.from) c.in_ok-s.ensures in
+    grind (arith, members)
+
+pub returns-clause-within : goal.returns-clause-within
+returns-clause-within c = (c.in_ok-end.ensures.within.0, (c.in_ok-end.ensures.within.1, kind_small _ _ _ c.in_ok-kind.ensures))

@@ -1,69 +1,35 @@
-use Rattle.json_strings.proofs.StringRules.{texts}
-use borrow.Author.Rules.{rules}
+use native.Mathlib.Omega.{arith}
+use Rattle.std.proofs.Common.{◌≤◌, length, ◌-◌}
+use Rattle.json_strings.proofs.StringRules.{going_start, characters_quote, characters_past, plain_full, plain_next, characters_bad, characters_full, characters_less, characters_next, copied}
 use Rattle.json_strings.proofs.strings.characters.Goals as goal
 
-pub loop-i-init : goal.loop-i-init
-loop-i-init c = search (texts, rules)
+pub loop-c-init : goal.loop-c-init
+loop-c-init c = going_start _ _ _ c.requires
 
-pub bounds-s-i : goal.bounds-s-i
-bounds-s-i c = search (texts, rules)
+pub returns-then-c-eq34-clause-result_after : goal.returns-then-c-eq34-clause-result_after
+returns-then-c-eq34-clause-result_after c = characters_quote _ _ _ _ _ _ c.loop-c.invariant _ _ c.in-Some.ensures.cases.0 c.if-c-eq34.true
 
-pub overflow_add-result : goal.overflow_add-result
-overflow_add-result c = search (texts, rules)
+pub returns-then-text-to-clause-result_after : goal.returns-then-text-to-clause-result_after
+returns-then-text-to-clause-result_after c = plain_full _ _ _ _ _ _ c.loop-c.invariant _ _ c.in-Some.ensures.cases.0 c.if-c-eq34.false c.is_plain.result c.is_plain.ensures c.if-is_plain.true c.if-text-to.true
 
-pub returns-then-c-eq34 : goal.returns-then-c-eq34
-returns-then-c-eq34 c = record { result_after = search (texts, rules); text_unchanged = search (texts, rules); within = search (texts, rules) }
+pub loop-c-preserved-then-is_plain : goal.loop-c-preserved-then-is_plain
+loop-c-preserved-then-is_plain c = plain_next _ _ _ _ _ _ c.loop-c.invariant _ _ c.in-Some.ensures.cases.0 c.if-c-eq34.false _ c.is_plain.ensures c.if-is_plain.true (omega arith)
 
-pub is_plain-requires : goal.is_plain-requires
-is_plain-requires c = search (texts, rules)
+pub returns-in_err-p-clause-result_after : goal.returns-in_err-p-clause-result_after
+returns-in_err-p-clause-result_after c = rw c.from_residual.ensures (characters_bad _ _ _ _ _ _ c.loop-c.invariant _ _ c.in-Some.ensures.cases.0 c.if-c-eq34.false c.in_err-p.ensures)
 
-pub returns-then-text-to : goal.returns-then-text-to
-returns-then-text-to c = search (texts, rules)
+pub returns-then-text-to-2-clause-result_after : goal.returns-then-text-to-2-clause-result_after
+returns-then-text-to-2-clause-result_after c = characters_full _ _ _ _ _ _ c.loop-c.invariant _ _ c.in-Some.ensures.cases.0 c.if-c-eq34.false _ _ c.in_ok-p.ensures (rw c.as_slice-bytes.ensures at c.if-text-to-2.true)
 
-pub bounds-text-to : goal.bounds-text-to
-bounds-text-to c = search (texts, rules)
+pub loop-c-smaller : goal.loop-c-smaller
+loop-c-smaller c = characters_less _ _ _ _ _ _ c.loop-c.invariant _ _ c.in-Some.ensures.cases.0 c.if-c-eq34.false _ _ c.in_ok-p.ensures
 
-pub overflow_add-to : goal.overflow_add-to
-overflow_add-to c = search (texts, rules)
+pub loop-c-preserved : goal.loop-c-preserved
+loop-c-preserved c =
+    let room : length c.as_slice-bytes.result.now ≤ length c.loop-c.text - c.loop-c.to = omega arith in
+    let told = rw (← c.as_slice-bytes.ensures) at c.in_ok-p.ensures in
+    characters_next _ _ _ _ _ _ c.loop-c.invariant _ _ c.in-Some.ensures.cases.0 c.if-c-eq34.false c.as_slice-bytes.result.now _ told _ room
+    (copied _ _ _ _ _ c.copy_from_slice.ensures.after (omega arith) (omega (arith, c.loop-c.invariant.high)))
 
-pub overflow_add-i : goal.overflow_add-i
-overflow_add-i c = search (texts, rules)
-
-pub loop-i-smaller-then-is_plain : goal.loop-i-smaller-then-is_plain
-loop-i-smaller-then-is_plain c = search (texts, rules)
-
-pub loop-i-preserved-then-is_plain : goal.loop-i-preserved-then-is_plain
-loop-i-preserved-then-is_plain c = search (texts, rules)
-
-pub character-requires : goal.character-requires
-character-requires c = search (texts, rules)
-
-pub enum_known-p : goal.enum_known-p
-enum_known-p c = search (texts, rules)
-
-pub returns-in_default : goal.returns-in_default
-returns-in_default c = search (texts, rules)
-
-pub size-n-requires : goal.size-n-requires
-size-n-requires c = search (texts, rules)
-
-pub overflow_sub-text : goal.overflow_sub-text
-overflow_sub-text c = search (texts, rules)
-
-pub returns-then-text-to-2 : goal.returns-then-text-to-2
-returns-then-text-to-2 c = search (texts, rules)
-
-pub put-requires : goal.put-requires
-put-requires c = search (texts, rules)
-
-pub overflow_add-to-else-is_plain : goal.overflow_add-to-else-is_plain
-overflow_add-to-else-is_plain c = search (texts, rules)
-
-pub loop-i-smaller : goal.loop-i-smaller
-loop-i-smaller c = search (texts, rules)
-
-pub loop-i-preserved : goal.loop-i-preserved
-loop-i-preserved c = search (texts, rules)
-
-pub returns : goal.returns
-returns c = search (texts, rules)
+pub returns-clause-result_after : goal.returns-clause-result_after
+returns-clause-result_after c = characters_past _ _ _ _ _ _ c.loop-c.invariant c.in_default.ensures.cases

@@ -9,10 +9,10 @@ loop-i-init c = elements_start _ _ _ _ _ _ (omega arith)
 
 pub loop-i-preserved : goal.loop-i-preserved
 loop-i-preserved c = let a = c.args in
-    elements_next _ (lines_of a.lines.now a.addresses.now a.tokens.now a.text.now) _ _ _ _ _ _ _ c.loop-i.invariant _ c.loop-i-test.true
-    (omega (arith, length_lines a.lines.now a.addresses.now a.tokens.now a.text.now c.requires)) _ _ c.put_next_line-to.ensures
+    elements_next _ (lines_of a.code.now.lines.now a.addresses.now a.code.now.tokens.now a.code.now.text.now) _ _ _ _ _ _ _ c.loop-i.invariant _ c.loop-i-test.true
+    (omega (arith, length_lines a.code.now.lines.now a.addresses.now a.code.now.tokens.now a.code.now.text.now c.requires)) _ _ c.put_next_line-to.ensures
 
 pub returns : goal.returns
 returns c = let a = c.args in
-    rw (← lines_part a.lines.now a.addresses.now a.tokens.now a.text.now c.requires a.from)
+    rw (← lines_part a.code.now.lines.now a.addresses.now a.code.now.tokens.now a.code.now.text.now c.requires a.from)
     (elements_end _ _ _ _ _ _ _ _ _ c.loop-i.invariant c.loop-i-test.false _ _ c.put_byte.ensures)

@@ -8,7 +8,4 @@ use lib.ListN.{length}
 use Rattle.json_write.proofs.lines.put_lines.Given as goal
 
 abbrev pub invariant-loop-i : goal.invariant-loop-i
-invariant-loop-i l = Going line_text (lines_of l.lines l.addresses l.tokens l.text) l.from (length l.lines) l.initial.out l.at l.out l.to l.i
-
-abbrev pub decreases-loop-i : goal.decreases-loop-i
-decreases-loop-i l = length l.lines - l.i
+invariant-loop-i l = Going line_text (lines_of l.code.lines.now l.addresses l.code.tokens.now l.code.text.now) l.from (length l.code.lines.now) l.initial.out l.at l.out l.to l.i

@@ -4,8 +4,8 @@ use borrow.Author.Rules.{rules}
 use Rattle.json_write.proofs.SizeRules.{address_known, address_null}
 use Rattle.json_write.proofs.sizes.address_size.Goals as goal
 
-pub returns-in-At : goal.returns-in-At
-returns-in-At c = search (address_known, address_null, rules)
+pub returns-in-Some : goal.returns-in-Some
+returns-in-Some c = search (address_known, address_null, rules)
 
-pub returns-in-Missing : goal.returns-in-Missing
-returns-in-Missing c = search (address_known, address_null, rules)
+pub returns-in-None : goal.returns-in-None
+returns-in-None c = search (address_known, address_null, rules)

@@ -12,9 +12,6 @@ loop-i-init c = counted_start head_size 75 _
 pub overflow_add-n : goal.overflow_add-n
 overflow_add-n c = omega arith
 
-pub overflow_add-i : goal.overflow_add-i
-overflow_add-i c = omega arith
-
 pub loop-i-smaller : goal.loop-i-smaller
 loop-i-smaller c = omega arith
 
@@ -23,5 +20,5 @@ loop-i-preserved c = search (heads_next, rules)
 
 pub returns : goal.returns
 returns c = let a = c.args in
-    let m = length_lines a.lines.now a.addresses.now a.tokens.now a.text.now c.requires.1 in
-    record { is = heads_end a.lines.now a.addresses.now a.tokens.now a.text.now c.requires.1 _ _ c.loop-i.invariant (omega arith); most = omega arith }
+    let m = length_lines a.code.now.lines.now a.addresses.now a.code.now.tokens.now a.code.now.text.now c.requires.1 in
+    record { is = heads_end a.code.now.lines.now a.addresses.now a.code.now.tokens.now a.code.now.text.now c.requires.1 _ _ c.loop-i.invariant (omega arith); most = omega arith }

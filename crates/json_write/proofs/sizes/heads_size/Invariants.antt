@@ -8,7 +8,4 @@ use Rattle.json_append.proofs.Sums.{Counted}
 use Rattle.json_write.proofs.sizes.heads_size.Given as goal
 
 abbrev pub invariant-loop-i : goal.invariant-loop-i
-invariant-loop-i l = Counted head_size 75 (lines_of l.lines l.addresses l.tokens l.text) l.n l.i
-
-abbrev pub decreases-loop-i : goal.decreases-loop-i
-decreases-loop-i l = length l.lines - l.i
+invariant-loop-i l = Counted head_size 75 (lines_of l.code.lines.now l.addresses l.code.tokens.now l.code.text.now) l.n l.i

@@ -12,9 +12,6 @@ loop-k-init c = counted_start token_size 24 _
 pub overflow_add-n : goal.overflow_add-n
 overflow_add-n c = omega arith
 
-pub overflow_add-k : goal.overflow_add-k
-overflow_add-k c = omega arith
-
 pub loop-k-smaller : goal.loop-k-smaller
 loop-k-smaller c = omega arith
 
@@ -23,5 +20,5 @@ loop-k-preserved c = search (tokens_next, rules)
 
 pub returns : goal.returns
 returns c = let a = c.args in
-    let m = length_tokens a.tokens.now a.text.now in
+    let m = length_tokens a.code.now.tokens.now a.code.now.text.now in
     record { is = counted_end token_size 24 _ _ _ c.loop-k.invariant (omega arith); most = omega arith }

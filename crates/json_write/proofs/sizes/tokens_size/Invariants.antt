@@ -8,7 +8,4 @@ use Rattle.json_append.proofs.Sums.{Counted}
 use Rattle.json_write.proofs.sizes.tokens_size.Given as goal
 
 abbrev pub invariant-loop-k : goal.invariant-loop-k
-invariant-loop-k l = Counted token_size 24 (token_list l.tokens l.text) l.n l.k
-
-abbrev pub decreases-loop-k : goal.decreases-loop-k
-decreases-loop-k l = length l.tokens - l.k
+invariant-loop-k l = Counted token_size 24 (token_list l.code.tokens.now l.code.text.now) l.n l.k

@@ -13,5 +13,5 @@ returns-then-end-from c = search (array_none, rules)
 
 pub returns : goal.returns
 returns c = let a = c.args in
-    array_some token_text (token_list a.tokens.now a.text.now) _ _ _ c.if-end-from.false (omega (arith, length_tokens a.tokens.now a.text.now, c.requires))
+    array_some token_text (token_list a.code.now.tokens.now a.code.now.text.now) _ _ _ c.if-end-from.false (omega (arith, length_tokens a.code.now.tokens.now a.code.now.text.now, c.requires))
     _ _ _ _ c.put_byte-i.ensures _ _ c.put_token-j.ensures _ _ c.put_tokens.ensures

@@ -11,15 +11,12 @@ loop-k-init c = elements_start _ _ _ _ _ _ (omega arith)
 pub put_next_token-to-requires : goal.put_next_token-to-requires
 put_next_token-to-requires c = search (elements_end, rules)
 
-pub overflow_add-k : goal.overflow_add-k
-overflow_add-k c = search (elements_end, rules)
-
 pub loop-k-smaller : goal.loop-k-smaller
 loop-k-smaller c = search (elements_end, rules)
 
 pub loop-k-preserved : goal.loop-k-preserved
 loop-k-preserved c = let a = c.args in
-    elements_next _ (token_list a.tokens.now a.text.now) _ _ _ _ _ _ _ c.loop-k.invariant _ c.loop-k-test.true (omega (arith, length_tokens a.tokens.now a.text.now, c.requires)) _ _ c.put_next_token-to.ensures
+    elements_next _ (token_list a.code.now.tokens.now a.code.now.text.now) _ _ _ _ _ _ _ c.loop-k.invariant _ c.loop-k-test.true (omega (arith, length_tokens a.code.now.tokens.now a.code.now.text.now, c.requires)) _ _ c.put_next_token-to.ensures
 
 pub put_byte-requires : goal.put_byte-requires
 put_byte-requires c = search (elements_end, rules)

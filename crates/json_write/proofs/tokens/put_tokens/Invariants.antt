@@ -7,7 +7,4 @@ use Prim.Native.Nat.{◌-◌}
 use Rattle.json_write.proofs.tokens.put_tokens.Given as goal
 
 abbrev pub invariant-loop-k : goal.invariant-loop-k
-invariant-loop-k l = Going token_text (token_list l.tokens l.text) l.from l.end l.initial.out l.at l.out l.to l.k
-
-abbrev pub decreases-loop-k : goal.decreases-loop-k
-decreases-loop-k l = l.end - l.k
+invariant-loop-k l = Going token_text (token_list l.code.tokens.now l.code.text.now) l.from l.end l.initial.out l.at l.out l.to l.k

@@ -7,7 +7,7 @@ use Rattle.definitions.specs.Statements.{targets}
 use Rattle.labels.proofs.gotos.next_goto.Given as goal
 
 abbrev pub invariant-loop-k : goal.invariant-loop-k
-invariant-loop-k l = (l.from ≤ l.k) × (targets (part l.from l.e (token_list l.tokens l.text)) ≡ targets (part l.k l.e (token_list l.tokens l.text)))
+invariant-loop-k l = (l.from ≤ l.k) × (targets (part l.from l.e (token_list l.code.tokens.now l.code.text.now)) ≡ targets (part l.k l.e (token_list l.code.tokens.now l.code.text.now)))
 
 abbrev pub decreases-loop-k : goal.decreases-loop-k
 decreases-loop-k l = l.e - l.k

@@ -7,7 +7,7 @@ use Rattle.definitions.specs.Statements.{first_symbol}
 use Rattle.labels.proofs.gotos.next_symbol.Given as goal
 
 abbrev pub invariant-loop-k : goal.invariant-loop-k
-invariant-loop-k l = (l.from ≤ l.k) × (first_symbol (part l.from l.e (token_list l.tokens l.text)) ≡ first_symbol (part l.k l.e (token_list l.tokens l.text)))
+invariant-loop-k l = (l.from ≤ l.k) × (first_symbol (part l.from l.e (token_list l.code.tokens.now l.code.text.now)) ≡ first_symbol (part l.k l.e (token_list l.code.tokens.now l.code.text.now)))
 
 abbrev pub decreases-loop-k : goal.decreases-loop-k
 decreases-loop-k l = l.e - l.k

@@ -14,9 +14,6 @@ is_close-requires c = search (loops, rules)
 pub returns-then-is_close : goal.returns-then-is_close
 returns-then-is_close c = search (loops, rules)
 
-pub overflow_add-j : goal.overflow_add-j
-overflow_add-j c = search (loops, rules)
-
 pub loop-j-smaller : goal.loop-j-smaller
 loop-j-smaller c = search (loops, rules)
 

@@ -10,7 +10,4 @@ use Rattle.definitions.specs.Lists.{any, contains}
 use Rattle.line_steps.proofs.keywords.has_close.Given as goal
 
 abbrev pub invariant-loop-j : goal.invariant-loop-j
-invariant-loop-j l = (l.j ≤ l.n) × (any (λ t. eqb t.kind Punct && contains 125 t.text) (line (listing l.lines l.tokens l.text) l.i).tokens ≡ any (λ t. eqb t.kind Punct && contains 125 t.text) (drop l.j (line (listing l.lines l.tokens l.text) l.i).tokens))
-
-abbrev pub decreases-loop-j : goal.decreases-loop-j
-decreases-loop-j l = l.n - l.j
+invariant-loop-j l = (l.j ≤ l.n) × (any (λ t. eqb t.kind Punct && contains 125 t.text) (line (listing l.code.lines.now l.code.tokens.now l.code.text.now) l.i).tokens ≡ any (λ t. eqb t.kind Punct && contains 125 t.text) (drop l.j (line (listing l.code.lines.now l.code.tokens.now l.code.text.now) l.i).tokens))

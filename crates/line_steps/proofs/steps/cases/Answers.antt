@@ -14,12 +14,12 @@ overflow_cast-e c = search (wider, rules)
 
 pub returns-then-is_switch : goal.returns-then-is_switch
 returns-then-is_switch c = let a = c.args in
-    cases_some (listing a.lines.now a.tokens.now a.text.now) (blocks_of (listing a.lines.now a.tokens.now a.text.now)) a.ends.now c.requires.fact a.h (omega (arith, length_listing a.lines.now a.tokens.now a.text.now)) (length a.lines.now) a.r c.is_switch.result c.is_switch.ensures _ _ c.if-e-ne0.true c.if-is_switch.true c.case_steps.ensures
+    cases_some (listing a.code.now.lines.now a.code.now.tokens.now a.code.now.text.now) (blocks_of (listing a.code.now.lines.now a.code.now.tokens.now a.code.now.text.now)) a.ends.now c.requires.fact a.h (omega (arith, length_listing a.code.now.lines.now a.code.now.tokens.now a.code.now.text.now)) (length a.code.now.lines.now) a.r c.is_switch.result c.is_switch.ensures _ _ c.if-e-ne0.true c.if-is_switch.true c.case_steps.ensures
 
 pub returns-else-is_switch : goal.returns-else-is_switch
 returns-else-is_switch c = let a = c.args in
-    cases_other (listing a.lines.now a.tokens.now a.text.now) (blocks_of (listing a.lines.now a.tokens.now a.text.now)) a.ends.now c.requires.fact a.h (omega (arith, length_listing a.lines.now a.tokens.now a.text.now)) (length a.lines.now) a.r c.is_switch.result c.is_switch.ensures _ c.if-e-ne0.true c.if-is_switch.false
+    cases_other (listing a.code.now.lines.now a.code.now.tokens.now a.code.now.text.now) (blocks_of (listing a.code.now.lines.now a.code.now.tokens.now a.code.now.text.now)) a.ends.now c.requires.fact a.h (omega (arith, length_listing a.code.now.lines.now a.code.now.tokens.now a.code.now.text.now)) (length a.code.now.lines.now) a.r c.is_switch.result c.is_switch.ensures _ c.if-e-ne0.true c.if-is_switch.false
 
 pub returns-else-e-ne0 : goal.returns-else-e-ne0
 returns-else-e-ne0 c = let a = c.args in
-    cases_none (listing a.lines.now a.tokens.now a.text.now) (blocks_of (listing a.lines.now a.tokens.now a.text.now)) a.ends.now c.requires.fact a.h (omega (arith, length_listing a.lines.now a.tokens.now a.text.now)) (length a.lines.now) a.r _ c.if-e-ne0.false
+    cases_none (listing a.code.now.lines.now a.code.now.tokens.now a.code.now.text.now) (blocks_of (listing a.code.now.lines.now a.code.now.tokens.now a.code.now.text.now)) a.ends.now c.requires.fact a.h (omega (arith, length_listing a.code.now.lines.now a.code.now.tokens.now a.code.now.text.now)) (length a.code.now.lines.now) a.r _ c.if-e-ne0.false

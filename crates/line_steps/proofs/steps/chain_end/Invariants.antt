@@ -10,7 +10,7 @@ use Rattle.blocks.specs.Structure.{blocks_of}
 use Rattle.line_steps.proofs.steps.chain_end.Given as goal
 
 abbrev pub invariant-loop-e : goal.invariant-loop-e
-invariant-loop-e l = (l.at < length l.lines) × (l.e ≡ cond (is_else_close (line (listing l.lines l.tokens l.text) l.at)) (get_or l.ends l.at 0) 0) × (chain_end (listing l.lines l.tokens l.text) (blocks_of (listing l.lines l.tokens l.text)) (length (listing l.lines l.tokens l.text)) l.c ≡ chain_end (listing l.lines l.tokens l.text) (blocks_of (listing l.lines l.tokens l.text)) (length (listing l.lines l.tokens l.text)) l.at)
+invariant-loop-e l = (l.at < length l.code.lines.now) × (l.e ≡ cond (is_else_close (line (listing l.code.lines.now l.code.tokens.now l.code.text.now) l.at)) (get_or l.ends l.at 0) 0) × (chain_end (listing l.code.lines.now l.code.tokens.now l.code.text.now) (blocks_of (listing l.code.lines.now l.code.tokens.now l.code.text.now)) (length (listing l.code.lines.now l.code.tokens.now l.code.text.now)) l.c ≡ chain_end (listing l.code.lines.now l.code.tokens.now l.code.text.now) (blocks_of (listing l.code.lines.now l.code.tokens.now l.code.text.now)) (length (listing l.code.lines.now l.code.tokens.now l.code.text.now)) l.at)
 
 abbrev pub decreases-loop-e : goal.decreases-loop-e
-decreases-loop-e l = length l.lines - l.at
+decreases-loop-e l = length l.code.lines.now - l.at

@@ -7,22 +7,22 @@ use Rattle.blocks.specs.Structure.{blocks_of}
 use Rattle.line_steps.proofs.Falls.{else_later, falls_past, falls_next, falls_chain}
 use Rattle.line_steps.proofs.steps.falls_to.Goals as goal
 
-pub returns-then-lines-next : goal.returns-then-lines-next
-returns-then-lines-next c = let a = c.args in
-    let n = length_listing a.lines.now a.tokens.now a.text.now in
-    falls_past (listing a.lines.now a.tokens.now a.text.now) (blocks_of (listing a.lines.now a.tokens.now a.text.now)) a.ends.now c.requires.fact a.i (omega (arith, n, c.if-lines-next.true))
-
 pub returns-then-e-eq0 : goal.returns-then-e-eq0
 returns-then-e-eq0 c = let a = c.args in
-    let n = length_listing a.lines.now a.tokens.now a.text.now in
-    falls_next (listing a.lines.now a.tokens.now a.text.now) (blocks_of (listing a.lines.now a.tokens.now a.text.now)) a.ends.now c.requires.fact a.i c.else_end-e.result (omega (arith, n, c.if-lines-next.false)) c.else_end-e.ensures c.if-e-eq0.true
+    let n = length_listing a.code.now.lines.now a.code.now.tokens.now a.code.now.text.now in
+    falls_next (listing a.code.now.lines.now a.code.now.tokens.now a.code.now.text.now) (blocks_of (listing a.code.now.lines.now a.code.now.tokens.now a.code.now.text.now)) a.ends.now c.requires.fact a.i c.else_end-e.result (omega (arith, n, c.if-code-next.false)) c.else_end-e.ensures c.if-e-eq0.true
 
 pub chain_end-requires : goal.chain_end-requires
 chain_end-requires c = let a = c.args in
-    let n = length_listing a.lines.now a.tokens.now a.text.now in
-    let w = else_later (listing a.lines.now a.tokens.now a.text.now) (blocks_of (listing a.lines.now a.tokens.now a.text.now)) a.ends.now c.requires.fact (a.i + 1) c.else_end-e.result (omega (arith, n, c.if-lines-next.false)) c.else_end-e.ensures c.if-e-eq0.false in record { c_in_bounds = (omega arith, omega arith, c.requires.i_in_bounds.2); fact = c.requires.fact }
+    let n = length_listing a.code.now.lines.now a.code.now.tokens.now a.code.now.text.now in
+    let w = else_later (listing a.code.now.lines.now a.code.now.tokens.now a.code.now.text.now) (blocks_of (listing a.code.now.lines.now a.code.now.tokens.now a.code.now.text.now)) a.ends.now c.requires.fact (a.i + 1) c.else_end-e.result (omega (arith, n, c.if-code-next.false)) c.else_end-e.ensures c.if-e-eq0.false in record { c_in_bounds = (omega arith, omega arith, c.requires.i_in_bounds.2); fact = c.requires.fact }
 
 pub returns : goal.returns
 returns c = let a = c.args in
-    let n = length_listing a.lines.now a.tokens.now a.text.now in
-    falls_chain (listing a.lines.now a.tokens.now a.text.now) (blocks_of (listing a.lines.now a.tokens.now a.text.now)) a.ends.now c.requires.fact a.i c.else_end-e.result (omega (arith, n, c.if-lines-next.false)) c.else_end-e.ensures c.chain_end.result c.if-e-eq0.false c.chain_end.ensures.0
+    let n = length_listing a.code.now.lines.now a.code.now.tokens.now a.code.now.text.now in
+    falls_chain (listing a.code.now.lines.now a.code.now.tokens.now a.code.now.text.now) (blocks_of (listing a.code.now.lines.now a.code.now.tokens.now a.code.now.text.now)) a.ends.now c.requires.fact a.i c.else_end-e.result (omega (arith, n, c.if-code-next.false)) c.else_end-e.ensures c.chain_end.result c.if-e-eq0.false c.chain_end.ensures.0
+
+pub returns-then-code-next : goal.returns-then-code-next
+returns-then-code-next c = let a = c.args in
+    let n = length_listing a.code.now.lines.now a.code.now.tokens.now a.code.now.text.now in
+    falls_past (listing a.code.now.lines.now a.code.now.tokens.now a.code.now.text.now) (blocks_of (listing a.code.now.lines.now a.code.now.tokens.now a.code.now.text.now)) a.ends.now c.requires.fact a.i (omega (arith, n, c.if-code-next.true))

@@ -6,8 +6,8 @@ use Rattle.line_steps.proofs.steps.leave.Goals as goal
 
 pub returns-then-is_left : goal.returns-then-is_left
 returns-then-is_left c = let a = c.args in
-    left_yes (listing a.lines.now a.tokens.now a.text.now) a.ends.now (length a.lines.now) a.r a.i a.h c.is_left.result c.is_left.ensures _ _ _ c.if-is_left.true c.step.ensures c.past_end.ensures
+    left_yes (listing a.code.now.lines.now a.code.now.tokens.now a.code.now.text.now) a.ends.now (length a.code.now.lines.now) a.r a.i a.h c.is_left.result c.is_left.ensures _ _ _ c.if-is_left.true c.step.ensures c.past_end.ensures
 
 pub returns-else-is_left : goal.returns-else-is_left
 returns-else-is_left c = let a = c.args in
-    left_no (listing a.lines.now a.tokens.now a.text.now) a.ends.now (length a.lines.now) a.r a.i a.h c.is_left.result c.is_left.ensures _ c.if-is_left.false
+    left_no (listing a.code.now.lines.now a.code.now.tokens.now a.code.now.text.now) a.ends.now (length a.code.now.lines.now) a.r a.i a.h c.is_left.result c.is_left.ensures _ c.if-is_left.false

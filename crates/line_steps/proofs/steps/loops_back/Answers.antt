@@ -14,17 +14,17 @@ overflow_cast-e c = search (wider, rules)
 
 pub add_edge-requires : goal.add_edge-requires
 add_edge-requires c = let a = c.args in
-    let w = end_inside (listing a.lines.now a.tokens.now a.text.now) (blocks_of (listing a.lines.now a.tokens.now a.text.now)) a.ends.now c.requires.fact a.h (omega (arith, length_listing a.lines.now a.tokens.now a.text.now)) c.if-e-ne0.true in
-    (c.requires.matrices.0, omega (arith, length_listing a.lines.now a.tokens.now a.text.now), c.requires.matrices.1)
+    let w = end_inside (listing a.code.now.lines.now a.code.now.tokens.now a.code.now.text.now) (blocks_of (listing a.code.now.lines.now a.code.now.tokens.now a.code.now.text.now)) a.ends.now c.requires.fact a.h (omega (arith, length_listing a.code.now.lines.now a.code.now.tokens.now a.code.now.text.now)) c.if-e-ne0.true in
+    (c.requires.matrices.0, omega (arith, length_listing a.code.now.lines.now a.code.now.tokens.now a.code.now.text.now), c.requires.matrices.1)
 
 pub returns-then-is_loop : goal.returns-then-is_loop
 returns-then-is_loop c = let a = c.args in
-    back_some (listing a.lines.now a.tokens.now a.text.now) (blocks_of (listing a.lines.now a.tokens.now a.text.now)) a.ends.now c.requires.fact a.h (omega (arith, length_listing a.lines.now a.tokens.now a.text.now)) (length a.lines.now) a.r _ _ c.is_loop.result c.if-e-ne0.true c.is_loop.ensures c.if-is_loop.true c.add_edge.ensures
+    back_some (listing a.code.now.lines.now a.code.now.tokens.now a.code.now.text.now) (blocks_of (listing a.code.now.lines.now a.code.now.tokens.now a.code.now.text.now)) a.ends.now c.requires.fact a.h (omega (arith, length_listing a.code.now.lines.now a.code.now.tokens.now a.code.now.text.now)) (length a.code.now.lines.now) a.r _ _ c.is_loop.result c.if-e-ne0.true c.is_loop.ensures c.if-is_loop.true c.add_edge.ensures
 
 pub returns-else-is_loop : goal.returns-else-is_loop
 returns-else-is_loop c = let a = c.args in
-    back_other (listing a.lines.now a.tokens.now a.text.now) (blocks_of (listing a.lines.now a.tokens.now a.text.now)) a.ends.now c.requires.fact a.h (omega (arith, length_listing a.lines.now a.tokens.now a.text.now)) (length a.lines.now) a.r _ c.is_loop.result c.is_loop.ensures c.if-is_loop.false
+    back_other (listing a.code.now.lines.now a.code.now.tokens.now a.code.now.text.now) (blocks_of (listing a.code.now.lines.now a.code.now.tokens.now a.code.now.text.now)) a.ends.now c.requires.fact a.h (omega (arith, length_listing a.code.now.lines.now a.code.now.tokens.now a.code.now.text.now)) (length a.code.now.lines.now) a.r _ c.is_loop.result c.is_loop.ensures c.if-is_loop.false
 
 pub returns-else-e-ne0 : goal.returns-else-e-ne0
 returns-else-e-ne0 c = let a = c.args in
-    back_none (listing a.lines.now a.tokens.now a.text.now) (blocks_of (listing a.lines.now a.tokens.now a.text.now)) a.ends.now c.requires.fact a.h (omega (arith, length_listing a.lines.now a.tokens.now a.text.now)) (length a.lines.now) a.r _ c.if-e-ne0.false
+    back_none (listing a.code.now.lines.now a.code.now.tokens.now a.code.now.text.now) (blocks_of (listing a.code.now.lines.now a.code.now.tokens.now a.code.now.text.now)) a.ends.now c.requires.fact a.h (omega (arith, length_listing a.code.now.lines.now a.code.now.tokens.now a.code.now.text.now)) (length a.code.now.lines.now) a.r _ c.if-e-ne0.false

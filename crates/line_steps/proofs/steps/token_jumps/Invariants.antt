@@ -12,7 +12,7 @@ use Rattle.line_steps.proofs.Edges.{jumps_at}
 use Rattle.line_steps.proofs.steps.token_jumps.Given as goal
 
 abbrev pub invariant-loop-k : goal.invariant-loop-k
-invariant-loop-k l = (length l.space ≡ length l.initial.space) × (all is_some (leads (listing l.lines l.tokens l.text) l.i) ≡ all is_some (leads_at (listing l.lines l.tokens l.text) (token_list l.tokens l.text) l.k l.e)) × Drawing (length l.lines) l.r l.initial.space l.space (from l.i (jumps (listing l.lines l.tokens l.text) l.i)) (from l.i (jumps_at (listing l.lines l.tokens l.text) (token_list l.tokens l.text) l.k l.e))
+invariant-loop-k l = (length l.space ≡ length l.initial.space) × (all is_some (leads (listing l.code.lines.now l.code.tokens.now l.code.text.now) l.i) ≡ all is_some (leads_at (listing l.code.lines.now l.code.tokens.now l.code.text.now) (token_list l.code.tokens.now l.code.text.now) l.k l.e)) × Drawing (length l.code.lines.now) l.r l.initial.space l.space (from l.i (jumps (listing l.code.lines.now l.code.tokens.now l.code.text.now) l.i)) (from l.i (jumps_at (listing l.code.lines.now l.code.tokens.now l.code.text.now) (token_list l.code.tokens.now l.code.text.now) l.k l.e))
 
 abbrev pub decreases-loop-k : goal.decreases-loop-k
 decreases-loop-k l = l.e - l.k

@@ -7,9 +7,6 @@ use Rattle.loops.proofs.for_loops.before.Goals as goal
 pub assignment-requires : goal.assignment-requires
 assignment-requires c = search (init_lines, rules)
 
-pub enum_known-from : goal.enum_known-from
-enum_known-from c = search (init_lines, rules)
-
 pub returns-in_default : goal.returns-in_default
 returns-in_default c = search (init_lines, rules)
 
@@ -34,8 +31,11 @@ returns-then-rest_names c = search (init_lines, rules)
 pub call_at-requires : goal.call_at-requires
 call_at-requires c = search (init_lines, rules)
 
-pub returns-in-At : goal.returns-in-At
-returns-in-At c = search (init_lines, rules)
+pub returns-in-None : goal.returns-in-None
+returns-in-None c = search (init_lines, rules)
 
-pub returns-in-Nothing : goal.returns-in-Nothing
-returns-in-Nothing c = search (init_lines, rules)
+pub returns-in-Some-call_at-clause-result_value : goal.returns-in-Some-call_at-clause-result_value
+returns-in-Some-call_at-clause-result_value c = search (init_lines, rules)
+
+pub returns-in-Some-call_at-clause-result_value_2 : goal.returns-in-Some-call_at-clause-result_value_2
+returns-in-Some-call_at-clause-result_value_2 c = search (init_lines, rules)

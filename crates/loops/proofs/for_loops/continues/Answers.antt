@@ -17,9 +17,6 @@ continues_at-requires c = search (continue_words, rules)
 pub returns-then-continues_at : goal.returns-then-continues_at
 returns-then-continues_at c = search (continue_words, rules)
 
-pub overflow_add-j : goal.overflow_add-j
-overflow_add-j c = search (continue_words, rules)
-
 pub loop-j-smaller : goal.loop-j-smaller
 loop-j-smaller c = search (continue_words, rules)
 

@@ -8,7 +8,4 @@ use Rattle.loops.specs.Words.{continue_word}
 use Rattle.loops.proofs.for_loops.continues.Given as goal
 
 abbrev pub invariant-loop-j : goal.invariant-loop-j
-invariant-loop-j l = any (continue_word (listing l.lines l.tokens l.text)) (part l.a l.e l.plan) ≡ any (continue_word (listing l.lines l.tokens l.text)) (part l.j l.e l.plan)
-
-abbrev pub decreases-loop-j : goal.decreases-loop-j
-decreases-loop-j l = l.e - l.j
+invariant-loop-j l = any (continue_word (listing l.code.lines.now l.code.tokens.now l.code.text.now)) (part l.a l.e l.plan) ≡ any (continue_word (listing l.code.lines.now l.code.tokens.now l.code.text.now)) (part l.j l.e l.plan)

@@ -25,9 +25,6 @@ initialiser-requires c = search (for_words, rules)
 pub enum_known-k : goal.enum_known-k
 enum_known-k c = search (for_words, rules)
 
-pub returns-in_default : goal.returns-in_default
-returns-in_default c = search (for_words, rules)
-
 pub counts-requires : goal.counts-requires
 counts-requires c = search (for_words, rules)
 

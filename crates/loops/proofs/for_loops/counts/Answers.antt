@@ -22,11 +22,8 @@ overflow_add-w c = search (for_words, rules)
 pub continues-requires : goal.continues-requires
 continues-requires c = search (for_words, rules)
 
-pub returns-then-continues : goal.returns-then-continues
-returns-then-continues c = search (for_words, rules)
-
-pub returns-else-continues : goal.returns-else-continues
-returns-else-continues c = search (for_words, rules)
-
 pub returns-else-condition_names : goal.returns-else-condition_names
 returns-else-condition_names c = search (for_words, rules)
+
+pub returns-then-condition_names : goal.returns-then-condition_names
+returns-then-condition_names c = search (for_words, rules)

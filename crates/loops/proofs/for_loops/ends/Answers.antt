@@ -13,11 +13,8 @@ source-requires c = search (end_words, rules)
 pub is_label-requires : goal.is_label-requires
 is_label-requires c = search (end_words, rules)
 
-pub returns-then-is_label : goal.returns-then-is_label
-returns-then-is_label c = search (end_words, rules)
-
-pub returns-else-is_label : goal.returns-else-is_label
-returns-else-is_label c = search (end_words, rules)
-
 pub returns-else-indent-ind : goal.returns-else-indent-ind
 returns-else-indent-ind c = search (end_words, rules)
+
+pub returns-then-indent-ind : goal.returns-then-indent-ind
+returns-then-indent-ind c = search (end_words, rules)

@@ -9,7 +9,4 @@ use Rattle.loops.specs.Words.{ends_word}
 use Rattle.loops.proofs.for_loops.first_end.Given as goal
 
 abbrev pub invariant-loop-j : goal.invariant-loop-j
-invariant-loop-j l = position_from l.from (ends_word (listing l.lines l.tokens l.text) l.ind) (take l.n l.plan) ≡ position_from l.j (ends_word (listing l.lines l.tokens l.text) l.ind) (take l.n l.plan)
-
-abbrev pub decreases-loop-j : goal.decreases-loop-j
-decreases-loop-j l = l.n - l.j
+invariant-loop-j l = position_from l.from (ends_word (listing l.code.lines.now l.code.tokens.now l.code.text.now) l.ind) (take l.n l.plan) ≡ position_from l.j (ends_word (listing l.code.lines.now l.code.tokens.now l.code.text.now) l.ind) (take l.n l.plan)

@@ -14,9 +14,6 @@ names_at-requires c = search (loops, rules)
 pub returns-then-names_at : goal.returns-then-names_at
 returns-then-names_at c = search (loops, rules)
 
-pub overflow_add-j : goal.overflow_add-j
-overflow_add-j c = search (loops, rules)
-
 pub loop-j-smaller : goal.loop-j-smaller
 loop-j-smaller c = search (loops, rules)
 

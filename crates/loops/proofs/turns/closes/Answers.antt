@@ -13,18 +13,6 @@ indent-requires-2 c = search (guard_words, rules)
 pub overflow_add-indent : goal.overflow_add-indent
 overflow_add-indent c = search (guard_words, rules)
 
-pub returns-then-indent : goal.returns-then-indent
-returns-then-indent c = search (guard_words, rules)
-
-pub indent-requires-3 : goal.indent-requires-3
-indent-requires-3 c = search (guard_words, rules)
-
-pub indent-requires-4 : goal.indent-requires-4
-indent-requires-4 c = search (guard_words, rules)
-
-pub returns-then-indent-2 : goal.returns-then-indent-2
-returns-then-indent-2 c = search (guard_words, rules)
-
 pub source-requires : goal.source-requires
 source-requires c = search (guard_words, rules)
 

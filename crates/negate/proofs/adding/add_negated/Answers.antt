@@ -11,12 +11,12 @@ use Rattle.negate.proofs.adding.add_negated.Goals as goal
 
 pub returns-in_default : goal.returns-in_default
 returns-in_default c = let a = c.args in
-    let L : Line = (line (listing a.lines.now a.tokens.now a.text.now) a.i) in
+    let L : Line = (line (listing a.code.now.lines.now a.code.now.tokens.now a.code.now.text.now) a.i) in
     λ l b. adds_as (ap (λ (m : ℕ). negation L m c.only_comparison-o.result) c.test_count-m.ensures ∙ c.only_comparison-o.ensures.result_value)
     (adds_around L c.test_count-m.result c.only_comparison-o.result c.in_default.is (c.add_merged-d.ensures l b) (c.add_test_tokens-e.ensures l b) (c.add_merged.ensures l b))
 
 pub returns : goal.returns
 returns c = let a = c.args in
-    let L : Line = (line (listing a.lines.now a.tokens.now a.text.now) a.i) in
+    let L : Line = (line (listing a.code.now.lines.now a.code.now.tokens.now a.code.now.text.now) a.i) in
     λ l b. adds_as (ap (λ (m : ℕ). negation L m c.only_comparison-o.result) c.test_count-m.ensures ∙ c.only_comparison-o.ensures.result_value)
     (adds_flip L c.test_count-m.result c.only_comparison-o.result _ _ _ c.in-At.is (c.add_test_tokens.ensures l b))

@@ -10,14 +10,14 @@ use Rattle.negate.proofs.adding.add_test_tokens.Goals as goal
 
 pub loop-k-init : goal.loop-k-init
 loop-k-init c = let a = c.args in
-    (search rules, search rules, search rules, λ l b. tokens_start (line (listing a.lines.now a.tokens.now a.text.now) a.i) a.m a.o)
+    (search rules, search rules, search rules, λ l b. tokens_start (line (listing a.code.now.lines.now a.code.now.tokens.now a.code.now.text.now) a.i) a.m a.o)
 
 pub add_test_token-d-requires : goal.add_test_token-d-requires
 add_test_token-d-requires c = (c.loop-k-test.true, c.requires)
 
 pub loop-k-preserved : goal.loop-k-preserved
 loop-k-preserved c = let a = c.args in
-    (search rules, search rules, search rules, λ l b. tokens_next (line (listing a.lines.now a.tokens.now a.text.now) a.i) a.m a.o c.loop-k.k (c.loop-k.invariant.3 l b) (c.add_test_token-d.ensures l b))
+    (search rules, search rules, search rules, λ l b. tokens_next (line (listing a.code.now.lines.now a.code.now.tokens.now a.code.now.text.now) a.i) a.m a.o c.loop-k.k (c.loop-k.invariant.3 l b) (c.add_test_token-d.ensures l b))
 
 pub returns : goal.returns
 returns c = let a = c.args in

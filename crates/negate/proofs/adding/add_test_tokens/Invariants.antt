@@ -13,7 +13,4 @@ use mathlib.Core.Path.{◌≡◌}
 use Rattle.negate.proofs.adding.add_test_tokens.Given as goal
 
 abbrev pub invariant-loop-k : goal.invariant-loop-k
-invariant-loop-k l = (l.k ≤ l.m) × (length l.words ≡ length l.initial.words) × (length l.bytes ≡ length l.initial.bytes) × Adding true (whole (map (negated_token (line (listing l.lines l.tokens l.text) l.i) l.m l.o) (range 0 l.k))) l.initial.words l.initial.bytes l.initial.d l.words l.bytes l.d
-
-abbrev pub decreases-loop-k : goal.decreases-loop-k
-decreases-loop-k l = l.m - l.k
+invariant-loop-k l = (l.k ≤ l.m) × (length l.words ≡ length l.initial.words) × (length l.bytes ≡ length l.initial.bytes) × Adding true (whole (map (negated_token (line (listing l.code.lines.now l.code.tokens.now l.code.text.now) l.i) l.m l.o) (range 0 l.k))) l.initial.words l.initial.bytes l.initial.d l.words l.bytes l.d

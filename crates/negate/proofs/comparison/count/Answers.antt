@@ -16,9 +16,6 @@ is_byte-n-requires c = search (counting, rules)
 pub overflow_add-n : goal.overflow_add-n
 overflow_add-n c = search (counting, rules)
 
-pub overflow_add-k : goal.overflow_add-k
-overflow_add-k c = search (counting, rules)
-
 pub loop-k-smaller : goal.loop-k-smaller
 loop-k-smaller c = search (counting, rules)
 

@@ -8,6 +8,3 @@ use Rattle.negate.proofs.comparison.count.Given as goal
 
 abbrev pub invariant-loop-k : goal.invariant-loop-k
 invariant-loop-k l = (l.k ≤ length l.s) × (occurs l.b l.s ≡ l.n + occurs l.b (drop l.k l.s)) × (l.n ≤ l.k)
-
-abbrev pub decreases-loop-k : goal.decreases-loop-k
-decreases-loop-k l = length l.s - l.k

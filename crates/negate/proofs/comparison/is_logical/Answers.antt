@@ -9,9 +9,3 @@ starts_with-requires c = search (bools, rules)
 
 pub returns-then-starts_with : goal.returns-then-starts_with
 returns-then-starts_with c = search (bools, rules)
-
-pub starts_with-requires-2 : goal.starts_with-requires-2
-starts_with-requires-2 c = search (bools, rules)
-
-pub returns : goal.returns
-returns c = search (bools, rules)

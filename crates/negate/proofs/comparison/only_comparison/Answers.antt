@@ -9,7 +9,7 @@ use Rattle.negate.proofs.comparison.only_comparison.Goals as goal
 
 pub scan-r-requires : goal.scan-r-requires
 scan-r-requires c = let a = c.args in
-    omega (arith, c.test_count-m.ensures, line_short a.lines.now a.tokens.now a.text.now a.i (omega (arith, c.shared_slice_known-1.given a.i)))
+    omega (arith, c.test_count-m.ensures, line_short a.code.now.lines.now a.code.now.tokens.now a.code.now.text.now a.i (a.code.now.lines_fit a.i))
 
 pub returns-then-r-ne1 : goal.returns-then-r-ne1
 unfolding Sound

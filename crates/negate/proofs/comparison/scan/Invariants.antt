@@ -10,7 +10,4 @@ use mathlib.Core.Path.{◌≡◌}
 use Rattle.negate.proofs.comparison.scan.Given as goal
 
 abbrev pub invariant-loop-k : goal.invariant-loop-k
-invariant-loop-k l = (l.k ≤ l.m) × (scan 0 (test_tokens (line (listing l.lines l.tokens l.text) l.i) l.m) nothing_seen ≡ scan l.k (test_from (line (listing l.lines l.tokens l.text) l.i) l.m l.k) (seen l.r)) × (weight l.r ≤ l.k * 50331645)
-
-abbrev pub decreases-loop-k : goal.decreases-loop-k
-decreases-loop-k l = l.m - l.k
+invariant-loop-k l = (l.k ≤ l.m) × (scan 0 (test_tokens (line (listing l.code.lines.now l.code.tokens.now l.code.text.now) l.i) l.m) nothing_seen ≡ scan l.k (test_from (line (listing l.code.lines.now l.code.tokens.now l.code.text.now) l.i) l.m l.k) (seen l.r)) × (weight l.r ≤ l.k * 50331645)

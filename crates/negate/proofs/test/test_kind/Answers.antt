@@ -18,4 +18,4 @@ kind-requires c = search rules
 pub returns : goal.returns
 unfolding test_token
 returns c = let a = c.args in
-    (search rules, omega (arith, c.kind.ensures, kind_short a.lines.now a.tokens.now a.text.now a.i (a.k + 1)))
+    (search rules, omega (arith, c.kind.ensures, kind_short a.code.now.lines.now a.code.now.tokens.now a.code.now.text.now a.i (a.k + 1)))

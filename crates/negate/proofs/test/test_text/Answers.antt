@@ -21,10 +21,6 @@ pub back-requires : goal.back-requires
 unfolding test_token
 back-requires c = search (tests, rules)
 
-pub less-requires : goal.less-requires
-unfolding test_token
-less-requires c = search (tests, rules)
-
 pub part-requires : goal.part-requires
 unfolding test_token
 part-requires c = search (tests, rules)

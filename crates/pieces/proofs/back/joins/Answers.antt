@@ -4,9 +4,6 @@ use Rattle.pieces.proofs.Backs.{joining}
 use borrow.Author.Rules.{rules}
 use Rattle.pieces.proofs.back.joins.Goals as goal
 
-pub returns-then-s-n : goal.returns-then-s-n
-returns-then-s-n c = search (joining, rules)
-
 pub part-requires : goal.part-requires
 part-requires c = search (joining, rules)
 

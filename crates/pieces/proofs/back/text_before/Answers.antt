@@ -10,9 +10,6 @@ text_from-s-requires c = search (before_is, rules)
 pub text_from-n-requires : goal.text_from-n-requires
 text_from-n-requires c = search (before_is, rules)
 
-pub less-requires : goal.less-requires
-less-requires c = search (before_is, rules)
-
 pub part-requires : goal.part-requires
 part-requires c = search (before_is, rules)
 

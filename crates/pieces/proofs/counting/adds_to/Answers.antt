@@ -10,8 +10,5 @@ starts_with-requires c = search (adding, rules)
 pub returns-then-starts_with : goal.returns-then-starts_with
 returns-then-starts_with c = search (adding, rules)
 
-pub starts_with-requires-2 : goal.starts_with-requires-2
-starts_with-requires-2 c = search (adding, rules)
-
-pub returns : goal.returns
-returns c = search (adding, rules)
+pub returns-else-starts_with : goal.returns-else-starts_with
+returns-else-starts_with c = search (adding, rules)

@@ -7,14 +7,8 @@ use Rattle.pieces.proofs.counting.jumped_steps.Goals as goal
 pub cut_place-n-requires : goal.cut_place-n-requires
 cut_place-n-requires c = search (jumps, rules)
 
-pub returns-then-n-eq0 : goal.returns-then-n-eq0
-returns-then-n-eq0 c = search (jumps, rules)
-
 pub text_between-requires : goal.text_between-requires
 text_between-requires c = search (jumps, rules)
 
 pub adds_to-requires : goal.adds_to-requires
 adds_to-requires c = search (jumps, rules)
-
-pub returns : goal.returns
-returns c = search (jumps, rules)

@@ -10,9 +10,6 @@ text_from-s-requires c = search (between_is, rules)
 pub text_from-m-requires : goal.text_from-m-requires
 text_from-m-requires c = search (between_is, rules)
 
-pub less-requires : goal.less-requires
-less-requires c = search (between_is, rules)
-
 pub part-requires : goal.part-requires
 part-requires c = search (between_is, rules)
 

@@ -7,20 +7,8 @@ use Rattle.pieces.proofs.initial.cut_assigns.Goals as goal
 pub cut_place-requires : goal.cut_place-requires
 cut_place-requires c = search (cut_lines, rules)
 
-pub returns-then-cut_place-lt2 : goal.returns-then-cut_place-lt2
-returns-then-cut_place-lt2 c = search (cut_lines, rules)
-
 pub kind-requires : goal.kind-requires
 kind-requires c = search (cut_lines, rules)
-
-pub returns-then-kind-ne1 : goal.returns-then-kind-ne1
-returns-then-kind-ne1 c = search (cut_lines, rules)
-
-pub kind-requires-2 : goal.kind-requires-2
-kind-requires-2 c = search (cut_lines, rules)
-
-pub returns-then-kind-ne6 : goal.returns-then-kind-ne6
-returns-then-kind-ne6 c = search (cut_lines, rules)
 
 pub text_at-requires : goal.text_at-requires
 text_at-requires c = search (cut_lines, rules)
@@ -28,5 +16,8 @@ text_at-requires c = search (cut_lines, rules)
 pub starts_with-requires : goal.starts_with-requires
 starts_with-requires c = search (cut_lines, rules)
 
-pub returns : goal.returns
-returns c = search (cut_lines, rules)
+pub returns-then-kind-eq6 : goal.returns-then-kind-eq6
+returns-then-kind-eq6 c = search (cut_lines, rules)
+
+pub returns-else-kind-eq6 : goal.returns-else-kind-eq6
+returns-else-kind-eq6 c = search (cut_lines, rules)

@@ -15,9 +15,6 @@ token_names-requires c = search (cut_tokens, rules)
 pub returns-then-token_names : goal.returns-then-token_names
 returns-then-token_names c = search (cut_tokens, rules)
 
-pub overflow_add-j : goal.overflow_add-j
-overflow_add-j c = search (cut_tokens, rules)
-
 pub loop-j-smaller : goal.loop-j-smaller
 loop-j-smaller c = search (cut_tokens, rules)
 

@@ -10,7 +10,4 @@ use mathlib.Core.Path.{◌≡◌}
 use Rattle.pieces.proofs.initial.cut_names.Given as goal
 
 abbrev pub invariant-loop-j : goal.invariant-loop-j
-invariant-loop-j l = any (names_family (family_of l.s l.r)) (cut_from (line (listing l.lines l.tokens l.text) l.i) l.a) ≡ any (names_family (family_of l.s l.r)) (cut_from (line (listing l.lines l.tokens l.text) l.i) l.j)
-
-abbrev pub decreases-loop-j : goal.decreases-loop-j
-decreases-loop-j l = l.n - l.j
+invariant-loop-j l = any (names_family (family_of l.s l.r)) (cut_from (line (listing l.code.lines.now l.code.tokens.now l.code.text.now) l.i) l.a) ≡ any (names_family (family_of l.s l.r)) (cut_from (line (listing l.code.lines.now l.code.tokens.now l.code.text.now) l.i) l.j)

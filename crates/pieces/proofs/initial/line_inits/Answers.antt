@@ -7,9 +7,6 @@ use Rattle.pieces.proofs.initial.line_inits.Goals as goal
 pub assignment-requires : goal.assignment-requires
 assignment-requires c = search (init_lines, rules)
 
-pub enum_known-from : goal.enum_known-from
-enum_known-from c = search (init_lines, rules)
-
 pub returns-in_default : goal.returns-in_default
 returns-in_default c = search (init_lines, rules)
 
@@ -19,11 +16,8 @@ token_names-requires c = search (init_lines, rules)
 pub side_names-requires : goal.side_names-requires
 side_names-requires c = search (init_lines, rules)
 
-pub returns-then-side_names : goal.returns-then-side_names
-returns-then-side_names c = search (init_lines, rules)
-
-pub returns-else-side_names : goal.returns-else-side_names
-returns-else-side_names c = search (init_lines, rules)
-
 pub returns-else-token_names : goal.returns-else-token_names
 returns-else-token_names c = search (init_lines, rules)
+
+pub returns-then-token_names : goal.returns-then-token_names
+returns-then-token_names c = search (init_lines, rules)

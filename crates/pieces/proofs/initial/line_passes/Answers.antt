@@ -25,8 +25,8 @@ returns-then-line_names c = search (init_lines, rules)
 pub call_at-requires : goal.call_at-requires
 call_at-requires c = search (init_lines, rules)
 
-pub returns-in-At : goal.returns-in-At
-returns-in-At c = search (init_lines, rules)
+pub returns-in-None : goal.returns-in-None
+returns-in-None c = search (init_lines, rules)
 
-pub returns-in-Nothing : goal.returns-in-Nothing
-returns-in-Nothing c = search (init_lines, rules)
+pub returns-in-Some-call_at : goal.returns-in-Some-call_at
+returns-in-Some-call_at c = search (init_lines, rules)

@@ -19,9 +19,6 @@ keyword_at-requires c = search (keeps, rules)
 pub enum_known-g : goal.enum_known-g
 enum_known-g c = search (keeps, rules)
 
-pub returns-in_default : goal.returns-in_default
-returns-in_default c = search (keeps, rules)
-
 pub closed_test-requires : goal.closed_test-requires
 closed_test-requires c = search (keeps, rules)
 
@@ -33,3 +30,6 @@ returns-else-ends_with c = search (keeps, rules)
 
 pub returns-else-is_kw : goal.returns-else-is_kw
 returns-else-is_kw c = search (keeps, rules)
+
+pub returns-in_err-g : goal.returns-in_err-g
+returns-in_err-g c = search (keeps, rules)

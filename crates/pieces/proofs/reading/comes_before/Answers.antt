@@ -7,8 +7,8 @@ use Rattle.pieces.proofs.reading.comes_before.Goals as goal
 pub enum_known-f : goal.enum_known-f
 enum_known-f c = search (cuts, rules)
 
-pub returns-in-At : goal.returns-in-At
-returns-in-At c = search (cuts, rules)
+pub returns-in-Some : goal.returns-in-Some
+returns-in-Some c = search (cuts, rules)
 
-pub returns-in-Nothing : goal.returns-in-Nothing
-returns-in-Nothing c = search (cuts, rules)
+pub returns-in-None : goal.returns-in-None
+returns-in-None c = search (cuts, rules)

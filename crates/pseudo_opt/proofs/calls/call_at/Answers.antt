@@ -21,9 +21,6 @@ overflow_sub-result c = search (callees, rules)
 pub returns-then-is_callee : goal.returns-then-is_callee
 returns-then-is_callee c = search (callees, rules)
 
-pub overflow_add-j : goal.overflow_add-j
-overflow_add-j c = search (callees, rules)
-
 pub loop-j-smaller : goal.loop-j-smaller
 loop-j-smaller c = search (callees, rules)
 

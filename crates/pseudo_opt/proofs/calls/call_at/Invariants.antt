@@ -8,7 +8,4 @@ use Rattle.pseudo_opt.proofs.Callees.{callee_from}
 use Rattle.pseudo_opt.proofs.calls.call_at.Given as goal
 
 abbrev pub invariant-loop-j : goal.invariant-loop-j
-invariant-loop-j l = (0 < l.j) × (callee (line (listing l.lines l.tokens l.text) l.i).tokens ≡ callee_from (line (listing l.lines l.tokens l.text) l.i).tokens l.j)
-
-abbrev pub decreases-loop-j : goal.decreases-loop-j
-decreases-loop-j l = l.n - l.j
+invariant-loop-j l = (0 < l.j) × (callee (line (listing l.code.lines.now l.code.tokens.now l.code.text.now) l.i).tokens ≡ callee_from (line (listing l.code.lines.now l.code.tokens.now l.code.text.now) l.i).tokens l.j)

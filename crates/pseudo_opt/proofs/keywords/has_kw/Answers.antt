@@ -24,10 +24,6 @@ pub returns-then-kw_at : goal.returns-then-kw_at
 unfolding has_kw
 returns-then-kw_at c = search (passes, rules)
 
-pub overflow_add-k : goal.overflow_add-k
-unfolding has_kw
-overflow_add-k c = search (passes, rules)
-
 pub loop-k-smaller : goal.loop-k-smaller
 unfolding has_kw
 loop-k-smaller c = search (passes, rules)

@@ -18,9 +18,6 @@ kw_at-requires c = search (seeks, rules)
 pub returns-then-kw_at : goal.returns-then-kw_at
 returns-then-kw_at c = search (seeks, rules)
 
-pub overflow_add-k : goal.overflow_add-k
-overflow_add-k c = search (seeks, rules)
-
 pub loop-k-smaller : goal.loop-k-smaller
 loop-k-smaller c = search (seeks, rules)
 

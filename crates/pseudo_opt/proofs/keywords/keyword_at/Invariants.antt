@@ -10,7 +10,4 @@ use Rattle.pseudo_opt.proofs.Passes.{placed}
 use Rattle.pseudo_opt.proofs.keywords.keyword_at.Given as goal
 
 abbrev pub invariant-loop-k : goal.invariant-loop-k
-invariant-loop-k l = (l.s ≤ l.k) × (position (is_kw l.kw) (line (listing l.lines l.tokens l.text) l.i).tokens ≡ placed (is_kw l.kw) l.lines l.tokens l.text l.i l.s l.k)
-
-abbrev pub decreases-loop-k : goal.decreases-loop-k
-decreases-loop-k l = l.e - l.k
+invariant-loop-k l = (l.s ≤ l.k) × (position (is_kw l.kw) (line (listing l.code.lines.now l.code.tokens.now l.code.text.now) l.i).tokens ≡ placed (is_kw l.kw) l.code.lines.now l.code.tokens.now l.code.text.now l.i l.s l.k)

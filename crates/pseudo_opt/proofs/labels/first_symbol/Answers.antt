@@ -9,9 +9,6 @@ token_count-n-requires c = search (symbols, rules)
 pub returns-then-n-k : goal.returns-then-n-k
 returns-then-n-k c = search (symbols, rules)
 
-pub overflow_add-j : goal.overflow_add-j
-overflow_add-j c = search (symbols, rules)
-
 pub loop-j-init : goal.loop-j-init
 loop-j-init c = search (symbols, rules)
 
@@ -20,9 +17,6 @@ is_symbol-requires c = search (symbols, rules)
 
 pub returns-then-is_symbol : goal.returns-then-is_symbol
 returns-then-is_symbol c = search (symbols, rules)
-
-pub overflow_add-j-in-loop-j : goal.overflow_add-j-in-loop-j
-overflow_add-j-in-loop-j c = search (symbols, rules)
 
 pub loop-j-smaller : goal.loop-j-smaller
 loop-j-smaller c = search (symbols, rules)

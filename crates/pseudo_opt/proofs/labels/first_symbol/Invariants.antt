@@ -8,7 +8,4 @@ use Rattle.definitions.specs.Statements.{first_symbol}
 use Rattle.pseudo_opt.proofs.labels.first_symbol.Given as goal
 
 abbrev pub invariant-loop-j : goal.invariant-loop-j
-invariant-loop-j l = (l.j ≤ l.n) × (first_symbol (drop (l.k + 1) (line (listing l.lines l.tokens l.text) l.i).tokens) ≡ first_symbol (drop l.j (line (listing l.lines l.tokens l.text) l.i).tokens))
-
-abbrev pub decreases-loop-j : goal.decreases-loop-j
-decreases-loop-j l = l.n - l.j
+invariant-loop-j l = (l.j ≤ l.n) × (first_symbol (drop (l.k + 1) (line (listing l.code.lines.now l.code.tokens.now l.code.text.now) l.i).tokens) ≡ first_symbol (drop l.j (line (listing l.code.lines.now l.code.tokens.now l.code.text.now) l.i).tokens))

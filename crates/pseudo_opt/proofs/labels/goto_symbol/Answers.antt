@@ -3,8 +3,8 @@ use borrow.Author.Rules.{rules}
 use Rattle.pseudo_opt.proofs.Symbols.{symbols}
 use Rattle.pseudo_opt.proofs.labels.goto_symbol.Goals as goal
 
-pub returns-in_default : goal.returns-in_default
-returns-in_default c = search (symbols, rules)
-
 pub returns : goal.returns
 returns c = search (symbols, rules)
+
+pub returns-in_err-g : goal.returns-in_err-g
+returns-in_err-g c = search (symbols, rules)

@@ -15,9 +15,6 @@ token_names-requires c = search (loops, rules)
 pub returns-then-token_names : goal.returns-then-token_names
 returns-then-token_names c = search (loops, rules)
 
-pub overflow_add-j : goal.overflow_add-j
-overflow_add-j c = search (loops, rules)
-
 pub loop-j-smaller : goal.loop-j-smaller
 loop-j-smaller c = search (loops, rules)
 

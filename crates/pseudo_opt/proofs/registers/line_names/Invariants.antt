@@ -9,7 +9,4 @@ use Rattle.family.specs.Register.{family_of, names_family}
 use Rattle.pseudo_opt.proofs.registers.line_names.Given as goal
 
 abbrev pub invariant-loop-j : goal.invariant-loop-j
-invariant-loop-j l = (l.j ≤ l.n) × (any (names_family (family_of l.s l.r)) (line (listing l.lines l.tokens l.text) l.i).tokens ≡ any (names_family (family_of l.s l.r)) (drop l.j (line (listing l.lines l.tokens l.text) l.i).tokens))
-
-abbrev pub decreases-loop-j : goal.decreases-loop-j
-decreases-loop-j l = l.n - l.j
+invariant-loop-j l = (l.j ≤ l.n) × (any (names_family (family_of l.s l.r)) (line (listing l.code.lines.now l.code.tokens.now l.code.text.now) l.i).tokens ≡ any (names_family (family_of l.s l.r)) (drop l.j (line (listing l.code.lines.now l.code.tokens.now l.code.text.now) l.i).tokens))

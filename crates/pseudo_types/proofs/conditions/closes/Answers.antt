@@ -5,9 +5,6 @@ use Rattle.pseudo_types.proofs.Opened.{opened}
 use borrow.Author.Rules.{rules}
 use Rattle.pseudo_types.proofs.conditions.closes.Goals as goal
 
-pub before-requires : goal.before-requires
-before-requires c = search (conditions, opened, rules)
-
 pub text_at-requires : goal.text_at-requires
 text_at-requires c = search (conditions, opened, rules)
 

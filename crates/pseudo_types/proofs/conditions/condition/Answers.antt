@@ -11,17 +11,8 @@ keyword_at-requires c = search (conditions, opened, rules)
 pub enum_known-k : goal.enum_known-k
 enum_known-k c = search (conditions, opened, rules)
 
-pub returns-in_default : goal.returns-in_default
-returns-in_default c = search (conditions, opened, rules)
-
 pub token_count-n-requires : goal.token_count-n-requires
 token_count-n-requires c = search (conditions, opened, rules)
-
-pub before-requires : goal.before-requires
-before-requires c = search (conditions, opened, rules)
-
-pub returns-then-before-k : goal.returns-then-before-k
-returns-then-before-k c = search (conditions, opened, rules)
 
 pub overflow_add-k : goal.overflow_add-k
 overflow_add-k c = search (conditions, opened, rules)
@@ -40,3 +31,9 @@ returns-else-end-ne0 c = search (conditions, opened, rules)
 
 pub returns-else-opens : goal.returns-else-opens
 returns-else-opens c = search (conditions, opened, rules)
+
+pub returns-in_err-k-clause-result_value : goal.returns-in_err-k-clause-result_value
+returns-in_err-k-clause-result_value c = search (conditions, opened, rules)
+
+pub returns-then-saturating_sub-k-clause-result_value : goal.returns-then-saturating_sub-k-clause-result_value
+returns-then-saturating_sub-k-clause-result_value c = search (conditions, opened, rules)

@@ -7,23 +7,14 @@ use Rattle.pseudo_types.proofs.conditions.condition_names.Goals as goal
 pub condition-requires : goal.condition-requires
 condition-requires c = search (names_of, rules)
 
-pub enum_known-k : goal.enum_known-k
-enum_known-k c = search (names_of, rules)
-
 pub returns-in_default : goal.returns-in_default
 returns-in_default c = search (names_of, rules)
 
 pub token_count-requires : goal.token_count-requires
 token_count-requires c = search (names_of, rules)
 
-pub returns-then-token_count-k : goal.returns-then-token_count-k
-returns-then-token_count-k c = search (names_of, rules)
-
-pub overflow_add-k : goal.overflow_add-k
-overflow_add-k c = search (names_of, rules)
-
 pub names_from-requires : goal.names_from-requires
 names_from-requires c = search (names_of, rules)
 
-pub returns : goal.returns
-returns c = search (names_of, rules)
+pub returns-then-cut-token_count : goal.returns-then-cut-token_count
+returns-then-cut-token_count c = search (names_of, rules)

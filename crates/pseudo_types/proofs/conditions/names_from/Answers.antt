@@ -15,9 +15,6 @@ cut_names-requires c = search (cut_names, rules)
 pub returns-then-cut_names : goal.returns-then-cut_names
 returns-then-cut_names c = search (cut_names, rules)
 
-pub overflow_add-j : goal.overflow_add-j
-overflow_add-j c = search (cut_names, rules)
-
 pub loop-j-smaller : goal.loop-j-smaller
 loop-j-smaller c = search (cut_names, rules)
 

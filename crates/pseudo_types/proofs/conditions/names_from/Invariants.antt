@@ -10,7 +10,4 @@ use Rattle.pseudo_types.specs.Cuts.{cut_run}
 use Rattle.pseudo_types.proofs.conditions.names_from.Given as goal
 
 abbrev pub invariant-loop-j : goal.invariant-loop-j
-invariant-loop-j l = any (names_family (family_of l.s l.r)) (cut_run (line (listing l.lines l.tokens l.text) l.i) l.k l.end l.from) ≡ any (names_family (family_of l.s l.r)) (cut_run (line (listing l.lines l.tokens l.text) l.i) l.k l.end l.j)
-
-abbrev pub decreases-loop-j : goal.decreases-loop-j
-decreases-loop-j l = l.m - l.j
+invariant-loop-j l = any (names_family (family_of l.s l.r)) (cut_run (line (listing l.code.lines.now l.code.tokens.now l.code.text.now) l.i) l.k l.end l.from) ≡ any (names_family (family_of l.s l.r)) (cut_run (line (listing l.code.lines.now l.code.tokens.now l.code.text.now) l.i) l.k l.end l.j)

@@ -7,17 +7,11 @@ use Rattle.pseudo_types.proofs.conditions.same_condition.Goals as goal
 pub condition-requires : goal.condition-requires
 condition-requires c = search (same_conditions, rules)
 
-pub enum_known-j : goal.enum_known-j
-enum_known-j c = search (same_conditions, rules)
-
 pub returns-in_default : goal.returns-in_default
 returns-in_default c = search (same_conditions, rules)
 
 pub condition-requires-2 : goal.condition-requires-2
 condition-requires-2 c = search (same_conditions, rules)
-
-pub enum_known-k : goal.enum_known-k
-enum_known-k c = search (same_conditions, rules)
 
 pub returns-in_default-condition : goal.returns-in_default-condition
 returns-in_default-condition c = search (same_conditions, rules)

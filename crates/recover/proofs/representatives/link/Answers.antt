@@ -12,8 +12,8 @@ are_same-requires c = search (representative_rules, rules)
 pub returns-then-are_same : goal.returns-then-are_same
 returns-then-are_same c = search (representative_rules, rules)
 
-pub zero_bytes-requires : goal.zero_bytes-requires
-zero_bytes-requires c = search (representative_rules, rules)
+pub zero-requires : goal.zero-requires
+zero-requires c = search (representative_rules, rules)
 
 pub mark_all-requires : goal.mark_all-requires
 mark_all-requires c = search (representative_rules, rules)

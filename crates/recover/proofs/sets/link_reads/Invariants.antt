@@ -1,13 +1,9 @@
 -- `recover::sets::link_reads` meets its contract. The first j reads are done.
 -- Assumes nothing.
 use mathlib.Core.Path.{◌≡◌}
-use Prim.Native.Nat.{◌-◌}
 use lib.ListN.{length, take}
 use Rattle.recover.specs.Reaching.{Slices, Links}
 use Rattle.recover.proofs.sets.link_reads.Given as goal
 
-abbrev pub invariant-loop-j : goal.invariant-loop-j
-invariant-loop-j l = (length l.space ≡ length l.initial.space) × (length l.rep ≡ length l.initial.rep) × (length l.set ≡ length l.initial.set) × (length l.marks ≡ length l.initial.marks) × Slices l.n l.nums l.rep l.set l.marks × Links l.n l.r l.w l.nums l.initial.space l.space l.initial.rep l.rep (take l.j l.reads)
-
-abbrev pub decreases-loop-j : goal.decreases-loop-j
-decreases-loop-j l = length l.reads - l.j
+abbrev pub invariant-loop-i : goal.invariant-loop-i
+invariant-loop-i l = (length l.space ≡ length l.initial.space) × (length l.rep ≡ length l.initial.rep) × (length l.set ≡ length l.initial.set) × (length l.marks ≡ length l.initial.marks) × Slices l.n l.nums l.rep l.set l.marks × Links l.n l.r l.w l.nums l.initial.space l.space l.initial.rep l.rep (take l.i-index l.reads)

@@ -1,4 +1,3 @@
-use Prim.Native.Nat.{◌-◌}
 use Rattle.recover.proofs.SetRules.{members_start, members_next, members_few, members_end}
 use borrow.Author.Rules.{rules}
 use Rattle.recover.proofs.sets.members.Goals as goal

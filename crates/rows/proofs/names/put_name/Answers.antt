@@ -15,6 +15,3 @@ returns-in-Numbered c = search (name_legacy, name_behind, name_numbered, name_va
 
 pub returns-in-Var : goal.returns-in-Var
 returns-in-Var c = search (name_legacy, name_behind, name_numbered, name_var, name_nothing, rules)
-
-pub returns-in-Nothing : goal.returns-in-Nothing
-returns-in-Nothing c = search (name_legacy, name_behind, name_numbered, name_var, name_nothing, rules)

@@ -6,4 +6,4 @@ use Rattle.splits.proofs.call.split_call.Goals as goal
 
 pub returns : goal.returns
 returns c = let a = c.args in
-    c.split_call_within.ensures ∙ within_limits a.lines.now a.tokens.now a.text.now (lent a.numbers.now a.marks.now)
+    c.split_call_within.ensures ∙ within_limits a.code.now.lines.now a.code.now.tokens.now a.code.now.text.now (lent a.numbers.now a.marks.now)

@@ -11,9 +11,9 @@ use Rattle.splits.proofs.call.write.Goals as goal
 pub write_lines-requires : goal.write_lines-requires
 write_lines-requires c = let a = c.args in
     let p = c.requires in
-    let f = c.find_starts-count.ensures in record { finds = (f.finds, memo_empty (defined_families (listing a.lines.now a.tokens.now a.text.now)) _ (zeros 128), omega arith); tokens_value = (p.tokens_value.0, p.lines_nonzero.1, p.tokens_value.1, p.tokens_value.2); by_index = (starts_few a.lines.now a.tokens.now a.text.now _ f.starts p.lines_nonzero.1, omega arith, zeros 1024) }
+    let f = c.find_starts-count.ensures in record { finds = (f.finds, memo_empty (defined_families (listing a.code.now.lines.now a.code.now.tokens.now a.code.now.text.now)) _ (zeros 128), omega arith); tokens_value = (p.tokens_value.0, p.lines_nonzero.1, p.tokens_value.1, p.tokens_value.2); by_index = (starts_few a.code.now.lines.now a.code.now.tokens.now a.code.now.text.now _ f.starts p.lines_nonzero.1, omega arith, zeros 1024) }
 
 pub returns : goal.returns
 returns c = let a = c.args in
     let p = c.requires in
-    let f = c.find_starts-count.ensures in record { numbers_after = numbers_are a.lines.now a.tokens.now a.text.now _ f.starts p.lines_nonzero.1 p.tokens_value.0 _ c.write_lines.ensures.numbers_after; marks_after = marks_are a.lines.now a.tokens.now a.text.now _ f.starts p.lines_nonzero.1 p.tokens_value.0 _ c.write_lines.ensures.marks_after }
+    let f = c.find_starts-count.ensures in record { numbers_after = numbers_are a.code.now.lines.now a.code.now.tokens.now a.code.now.text.now _ f.starts p.lines_nonzero.1 p.tokens_value.0 _ c.write_lines.ensures.numbers_after; marks_after = marks_are a.code.now.lines.now a.code.now.tokens.now a.code.now.text.now _ f.starts p.lines_nonzero.1 p.tokens_value.0 _ c.write_lines.ensures.marks_after }

@@ -19,11 +19,8 @@ bounds-defs-i c = search (start_rules, rules)
 pub number-requires : goal.number-requires
 number-requires c = search (start_rules, rules)
 
-pub greater-reach-requires : goal.greater-reach-requires
-greater-reach-requires c = search (start_rules, rules)
-
-pub overflow_add-i : goal.overflow_add-i
-overflow_add-i c = search (start_rules, rules)
+pub max-reach-requires : goal.max-reach-requires
+max-reach-requires c = search (start_rules, rules)
 
 pub loop-i-smaller : goal.loop-i-smaller
 loop-i-smaller c = search (start_rules, rules)
@@ -31,7 +28,7 @@ loop-i-smaller c = search (start_rules, rules)
 pub loop-i-preserved : goal.loop-i-preserved
 loop-i-preserved c = (
   simp length-set c.loop-i.invariant.0,
-  starting_next _ _ _ _ _ _ _ c.loop-i.invariant.1 c.requires.0.1 c.loop-i-test.true (omega (arith, c.loop-i.invariant.0, c.requires.1, c.loop-i-test.true)) _ _ _ c.start_of-v.ensures c.number.ensures c.greater-reach.ensures,
+  starting_next _ _ _ _ _ _ _ c.loop-i.invariant.1 c.requires.0.1 c.loop-i-test.true (omega (arith, c.loop-i.invariant.0, c.requires.1, c.loop-i-test.true)) _ _ _ c.start_of-v.ensures c.number.ensures c.max-reach.ensures,
 )
 
 pub returns : goal.returns

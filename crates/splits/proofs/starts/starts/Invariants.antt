@@ -7,7 +7,4 @@ use Rattle.splits.specs.Starts.{Starting}
 use Rattle.splits.proofs.starts.starts.Given as goal
 
 abbrev pub invariant-loop-i : goal.invariant-loop-i
-invariant-loop-i l = (length l.defs ≡ length l.initial.defs) × Starting (listing l.lines l.tokens l.text) l.far l.i l.reach l.defs
-
-abbrev pub decreases-loop-i : goal.decreases-loop-i
-decreases-loop-i l = length l.lines - l.i
+invariant-loop-i l = (length l.defs ≡ length l.initial.defs) × Starting (listing l.code.lines.now l.code.tokens.now l.code.text.now) l.far l.i l.reach l.defs

@@ -3,8 +3,8 @@ use borrow.Author.Rules.{rules}
 use Rattle.splits.proofs.WriteRules.{writes}
 use Rattle.splits.proofs.tokens.count_before.Goals as goal
 
-pub before-requires : goal.before-requires
-before-requires c = search (writes, rules)
+pub saturating_sub-requires : goal.saturating_sub-requires
+saturating_sub-requires c = search (writes, rules)
 
 pub number-c-requires : goal.number-c-requires
 number-c-requires c = search (writes, rules)

@@ -13,8 +13,8 @@ use Rattle.splits.proofs.tokens.write_known.Goals as goal
 
 pub loop-k-init : goal.loop-k-init
 loop-k-init c = let a = c.args in
-    let fs = defined_families (listing a.lines.now a.tokens.now a.text.now) in
-    let us = token_list a.tokens.now a.text.now in (
+    let fs = defined_families (listing a.code.now.lines.now a.code.now.tokens.now a.code.now.text.now) in
+    let us = token_list a.code.now.tokens.now a.code.now.text.now in (
       refl,
       refl,
       omega arith,
@@ -33,9 +33,9 @@ pub loop-k-preserved : goal.loop-k-preserved
 loop-k-preserved c = let a = c.args in
     let p = c.requires in
     let l = c.loop-k in
-    let fs = defined_families (listing a.lines.now a.tokens.now a.text.now) in
-    let us = token_list a.tokens.now a.text.now in
-    let n : a.to ≤ length us = omega (arith, length_tokens a.tokens.now a.text.now, p.from_le_to.1) in
+    let fs = defined_families (listing a.code.now.lines.now a.code.now.tokens.now a.code.now.text.now) in
+    let us = token_list a.code.now.tokens.now a.code.now.text.now in
+    let n : a.to ≤ length us = omega (arith, length_tokens a.code.now.tokens.now a.code.now.text.now, p.from_le_to.1) in
     let e = c.known_place-c.ensures c.if-c-eq65535.false in (
       simp length-set l.invariant.0,
       simp length-set l.invariant.1,

@@ -15,10 +15,10 @@ loop-k-init c = let a = c.args in
     let p = c.requires in
     let s = c.line_start-k in
     let e = c.line_end-e in
-    let fs = defined_families (listing a.lines.now a.tokens.now a.text.now) in
-    let us = token_list a.tokens.now a.text.now in (
+    let fs = defined_families (listing a.code.now.lines.now a.code.now.tokens.now a.code.now.text.now) in
+    let us = token_list a.code.now.tokens.now a.code.now.text.now in (
       omega arith,
-      line_order_by a.lines.now a.tokens.now a.i _ _ s.ensures e.ensures p.tokens_value.0 p.tokens_value.1,
+      line_order_by a.code.now.lines.now a.code.now.tokens.now a.i _ _ s.ensures e.ensures p.tokens_value.0 p.tokens_value.1,
       refl,
       refl,
       refl,
@@ -43,17 +43,17 @@ loop-k-preserved c = let a = c.args in
     let s = c.line_start-k in
     let e = c.line_end-e in
     let w = c.write_some-k in
-    let fs = defined_families (listing a.lines.now a.tokens.now a.text.now) in
-    let us = token_list a.tokens.now a.text.now in
-    let n : w.result ≤ length us = omega (arith, length_tokens a.tokens.now a.text.now, e.ensures, w.ensures.lower_bound.1) in (
+    let fs = defined_families (listing a.code.now.lines.now a.code.now.tokens.now a.code.now.text.now) in
+    let us = token_list a.code.now.tokens.now a.code.now.text.now in
+    let n : w.result ≤ length us = omega (arith, length_tokens a.code.now.tokens.now a.code.now.text.now, e.ensures, w.ensures.lower_bound.1) in (
       omega (arith, l.invariant.0, w.ensures.lower_bound.0),
       w.ensures.lower_bound.1,
       w.auto.memo ∙ l.invariant.2,
       w.auto.numbers ∙ l.invariant.3,
       w.auto.marks ∙ l.invariant.4,
       w.ensures.memo,
-      over_join no_token (token_number fs (λ p. get_or a.counts.now p 0)) s.result us a.numbers.now l.k l.numbers l.invariant.6 l.invariant.0 w.result _ (omega (arith, w.ensures.lower_bound.0)) n (omega (arith, n, length_tokens a.tokens.now a.text.now, p.tokens_value.2, p.tokens_value.3)) w.ensures.numbers_after,
-      over_join no_token (token_mark fs a.d) s.result us a.marks.now l.k l.marks l.invariant.7 l.invariant.0 w.result _ (omega (arith, w.ensures.lower_bound.0)) n (omega (arith, n, length_tokens a.tokens.now a.text.now, p.tokens_value.2, p.tokens_value.3)) w.ensures.marks_after,
+      over_join no_token (token_number fs (λ p. get_or a.counts.now p 0)) s.result us a.numbers.now l.k l.numbers l.invariant.6 l.invariant.0 w.result _ (omega (arith, w.ensures.lower_bound.0)) n (omega (arith, n, length_tokens a.code.now.tokens.now a.code.now.text.now, p.tokens_value.2, p.tokens_value.3)) w.ensures.numbers_after,
+      over_join no_token (token_mark fs a.d) s.result us a.marks.now l.k l.marks l.invariant.7 l.invariant.0 w.result _ (omega (arith, w.ensures.lower_bound.0)) n (omega (arith, n, length_tokens a.code.now.tokens.now a.code.now.text.now, p.tokens_value.2, p.tokens_value.3)) w.ensures.marks_after,
     )
 
 pub returns : goal.returns
@@ -61,5 +61,5 @@ returns c = let a = c.args in
     let l = c.loop-k in
     let s = c.line_start-k in
     let e = c.line_end-e in
-    let fs = defined_families (listing a.lines.now a.tokens.now a.text.now) in
-    let us = token_list a.tokens.now a.text.now in record { numbers_after = line_by a.lines.now a.tokens.now a.i s.result e.result s.ensures e.ensures (token_number fs (λ p. get_or a.counts.now p 0)) us a.numbers.now _ (over_done no_token (token_number fs (λ p. get_or a.counts.now p 0)) s.result us a.numbers.now l.k l.numbers l.invariant.6 l.invariant.0 e.result l.invariant.1 c.loop-k-test.false); marks_after = line_by a.lines.now a.tokens.now a.i s.result e.result s.ensures e.ensures (token_mark fs a.d) us a.marks.now _ (over_done no_token (token_mark fs a.d) s.result us a.marks.now l.k l.marks l.invariant.7 l.invariant.0 e.result l.invariant.1 c.loop-k-test.false); memo = l.invariant.5 }
+    let fs = defined_families (listing a.code.now.lines.now a.code.now.tokens.now a.code.now.text.now) in
+    let us = token_list a.code.now.tokens.now a.code.now.text.now in record { numbers_after = line_by a.code.now.lines.now a.code.now.tokens.now a.i s.result e.result s.ensures e.ensures (token_number fs (λ p. get_or a.counts.now p 0)) us a.numbers.now _ (over_done no_token (token_number fs (λ p. get_or a.counts.now p 0)) s.result us a.numbers.now l.k l.numbers l.invariant.6 l.invariant.0 e.result l.invariant.1 c.loop-k-test.false); marks_after = line_by a.code.now.lines.now a.code.now.tokens.now a.i s.result e.result s.ensures e.ensures (token_mark fs a.d) us a.marks.now _ (over_done no_token (token_mark fs a.d) s.result us a.marks.now l.k l.marks l.invariant.7 l.invariant.0 e.result l.invariant.1 c.loop-k-test.false); memo = l.invariant.5 }

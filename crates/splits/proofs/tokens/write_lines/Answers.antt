@@ -13,8 +13,8 @@ use Rattle.splits.proofs.tokens.write_lines.Goals as goal
 pub loop-i-init : goal.loop-i-init
 loop-i-init c = let a = c.args in
     let p = c.requires in
-    let fs = defined_families (listing a.lines.now a.tokens.now a.text.now) in
-    let us = token_list a.tokens.now a.text.now in (
+    let fs = defined_families (listing a.code.now.lines.now a.code.now.tokens.now a.code.now.text.now) in
+    let us = token_list a.code.now.tokens.now a.code.now.text.now in (
       refl,
       p.finds.1,
       search rules,
@@ -22,15 +22,15 @@ loop-i-init c = let a = c.args in
       refl,
       refl,
       tallied_start a.starts.now a.counts.now p.by_index.2,
-      written_start a.lines.now a.tokens.now p.tokens_value.0 (number_at fs a.starts.now) us a.numbers.now,
-      written_start a.lines.now a.tokens.now p.tokens_value.0 (mark_at fs a.starts.now) us a.marks.now,
+      written_start a.code.now.lines.now a.code.now.tokens.now p.tokens_value.0 (number_at fs a.starts.now) us a.numbers.now,
+      written_start a.code.now.lines.now a.code.now.tokens.now p.tokens_value.0 (mark_at fs a.starts.now) us a.marks.now,
     )
 
 pub count_before-requires : goal.count_before-requires
 count_before-requires c = let a = c.args in
     let p = c.requires in
     let l = c.loop-i in (
-      start_low a.starts.now (length a.lines.now) p.by_index.0 _ (omega arith) (length l.counts) (omega (arith, p.by_index.1, l.invariant.3)),
+      start_low a.starts.now (length a.code.now.lines.now) p.by_index.0 _ (omega arith) (length l.counts) (omega (arith, p.by_index.1, l.invariant.3)),
       tallied_few a.starts.now l.i l.counts l.invariant.6 _ (omega (arith, c.loop-i-test.true, p.tokens_value.1)),
     )
 
@@ -42,9 +42,9 @@ pub loop-i-preserved : goal.loop-i-preserved
 loop-i-preserved c = let a = c.args in
     let p = c.requires in
     let l = c.loop-i in
-    let fs = defined_families (listing a.lines.now a.tokens.now a.text.now) in
-    let us = token_list a.tokens.now a.text.now in
-    let n = length_tokens a.tokens.now a.text.now in
+    let fs = defined_families (listing a.code.now.lines.now a.code.now.tokens.now a.code.now.text.now) in
+    let us = token_list a.code.now.tokens.now a.code.now.text.now in
+    let n = length_tokens a.code.now.tokens.now a.code.now.text.now in
     let T = tallied_next a.starts.now l.i l.counts l.invariant.6 _ (omega arith) _ (omega (arith, p.by_index.0 l.i c.loop-i-test.true, p.by_index.1, l.invariant.3)) c.count_before.ensures in (
       c.write_line.auto.memo ∙ l.invariant.0,
       c.write_line.ensures.memo,
@@ -53,13 +53,13 @@ loop-i-preserved c = let a = c.args in
       c.write_line.auto.numbers ∙ l.invariant.4,
       c.write_line.auto.marks ∙ l.invariant.5,
       T,
-      written_next a.lines.now a.tokens.now p.tokens_value.0 (number_at fs a.starts.now) us a.numbers.now l.i l.numbers l.invariant.7 c.loop-i-test.true n _ (c.write_line.ensures.numbers_after ∙ ap (λ f. over (line_start a.lines.now l.i) (line_end a.lines.now a.tokens.now l.i) f us l.numbers) (number_tallied fs a.starts.now l.i _ T)),
-      written_next a.lines.now a.tokens.now p.tokens_value.0 (mark_at fs a.starts.now) us a.marks.now l.i l.marks l.invariant.8 c.loop-i-test.true n _ (c.write_line.ensures.marks_after ∙ ap (λ d. over (line_start a.lines.now l.i) (line_end a.lines.now a.tokens.now l.i) (token_mark fs d) us l.marks) c.number-d.ensures),
+      written_next a.code.now.lines.now a.code.now.tokens.now p.tokens_value.0 (number_at fs a.starts.now) us a.numbers.now l.i l.numbers l.invariant.7 c.loop-i-test.true n _ (c.write_line.ensures.numbers_after ∙ ap (λ f. over (line_start a.code.now.lines.now l.i) (line_end a.code.now.lines.now a.code.now.tokens.now l.i) f us l.numbers) (number_tallied fs a.starts.now l.i _ T)),
+      written_next a.code.now.lines.now a.code.now.tokens.now p.tokens_value.0 (mark_at fs a.starts.now) us a.marks.now l.i l.marks l.invariant.8 c.loop-i-test.true n _ (c.write_line.ensures.marks_after ∙ ap (λ d. over (line_start a.code.now.lines.now l.i) (line_end a.code.now.lines.now a.code.now.tokens.now l.i) (token_mark fs d) us l.marks) c.number-d.ensures),
     )
 
 pub returns : goal.returns
 returns c = let a = c.args in
     let p = c.requires in
     let l = c.loop-i in
-    let fs = defined_families (listing a.lines.now a.tokens.now a.text.now) in
-    let us = token_list a.tokens.now a.text.now in record { numbers_after = written_end a.lines.now a.tokens.now p.tokens_value.0 (number_at fs a.starts.now) us a.numbers.now l.i l.numbers l.invariant.7 l.invariant.2 c.loop-i-test.false p.tokens_value.2; marks_after = written_end a.lines.now a.tokens.now p.tokens_value.0 (mark_at fs a.starts.now) us a.marks.now l.i l.marks l.invariant.8 l.invariant.2 c.loop-i-test.false p.tokens_value.3 }
+    let fs = defined_families (listing a.code.now.lines.now a.code.now.tokens.now a.code.now.text.now) in
+    let us = token_list a.code.now.tokens.now a.code.now.text.now in record { numbers_after = written_end a.code.now.lines.now a.code.now.tokens.now p.tokens_value.0 (number_at fs a.starts.now) us a.numbers.now l.i l.numbers l.invariant.7 l.invariant.2 c.loop-i-test.false p.tokens_value.2; marks_after = written_end a.code.now.lines.now a.code.now.tokens.now p.tokens_value.0 (mark_at fs a.starts.now) us a.marks.now l.i l.marks l.invariant.8 l.invariant.2 c.loop-i-test.false p.tokens_value.3 }

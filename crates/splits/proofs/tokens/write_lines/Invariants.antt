@@ -9,7 +9,7 @@ use Rattle.splits.proofs.WriteRules.{Tallied, Written, number_at, mark_at}
 use Rattle.splits.proofs.tokens.write_lines.Given as goal
 
 abbrev pub invariant-loop-i : goal.invariant-loop-i
-invariant-loop-i l = (length l.memo ≡ length l.initial.memo) × Memo (defined_families (listing l.lines l.tokens l.text)) l.memo × (l.i ≤ l.n) × (length l.counts ≡ length l.initial.counts) × (length l.numbers ≡ length l.initial.numbers) × (length l.marks ≡ length l.initial.marks) × Tallied l.starts l.i l.counts × Written l.lines l.tokens (number_at (defined_families (listing l.lines l.tokens l.text)) l.starts) (token_list l.tokens l.text) l.initial.numbers l.i l.numbers × Written l.lines l.tokens (mark_at (defined_families (listing l.lines l.tokens l.text)) l.starts) (token_list l.tokens l.text) l.initial.marks l.i l.marks
+invariant-loop-i l = (length l.memo ≡ length l.initial.memo) × Memo (defined_families (listing l.code.lines.now l.code.tokens.now l.code.text.now)) l.memo × (l.i ≤ l.n) × (length l.counts ≡ length l.initial.counts) × (length l.numbers ≡ length l.initial.numbers) × (length l.marks ≡ length l.initial.marks) × Tallied l.starts l.i l.counts × Written l.code.lines.now l.code.tokens.now (number_at (defined_families (listing l.code.lines.now l.code.tokens.now l.code.text.now)) l.starts) (token_list l.code.tokens.now l.code.text.now) l.initial.numbers l.i l.numbers × Written l.code.lines.now l.code.tokens.now (mark_at (defined_families (listing l.code.lines.now l.code.tokens.now l.code.text.now)) l.starts) (token_list l.code.tokens.now l.code.text.now) l.initial.marks l.i l.marks
 
 abbrev pub decreases-loop-i : goal.decreases-loop-i
 decreases-loop-i l = l.n - l.i

@@ -13,8 +13,8 @@ use Rattle.splits.proofs.tokens.write_part.Goals as goal
 
 pub loop-k-init : goal.loop-k-init
 loop-k-init c = let a = c.args in
-    let fs = defined_families (listing a.lines.now a.tokens.now a.text.now) in
-    let us = token_list a.tokens.now a.text.now in (
+    let fs = defined_families (listing a.code.now.lines.now a.code.now.tokens.now a.code.now.text.now) in
+    let us = token_list a.code.now.tokens.now a.code.now.text.now in (
       refl,
       c.requires.finds.1,
       refl,
@@ -44,9 +44,6 @@ mark_of-m-requires c = search (writes, rules)
 pub bounds-marks-k : goal.bounds-marks-k
 bounds-marks-k c = search (writes, rules)
 
-pub overflow_add-k : goal.overflow_add-k
-overflow_add-k c = search (writes, rules)
-
 pub loop-k-smaller : goal.loop-k-smaller
 loop-k-smaller c = search (writes, rules)
 
@@ -54,9 +51,9 @@ pub loop-k-preserved : goal.loop-k-preserved
 loop-k-preserved c = let a = c.args in
     let p = c.requires in
     let l = c.loop-k in
-    let fs = defined_families (listing a.lines.now a.tokens.now a.text.now) in
-    let us = token_list a.tokens.now a.text.now in
-    let n : a.to ≤ length us = omega (arith, length_tokens a.tokens.now a.text.now, p.from_le_to.1) in (
+    let fs = defined_families (listing a.code.now.lines.now a.code.now.tokens.now a.code.now.text.now) in
+    let us = token_list a.code.now.tokens.now a.code.now.text.now in
+    let n : a.to ≤ length us = omega (arith, length_tokens a.code.now.tokens.now a.code.now.text.now, p.from_le_to.1) in (
       c.token_place-c.auto.memo ∙ l.invariant.0,
       c.token_place-c.ensures.memo_2,
       simp length-set l.invariant.2,
@@ -69,6 +66,6 @@ loop-k-preserved c = let a = c.args in
 
 pub returns : goal.returns
 returns c = let a = c.args in
-    let fs = defined_families (listing a.lines.now a.tokens.now a.text.now) in
-    let us = token_list a.tokens.now a.text.now in
+    let fs = defined_families (listing a.code.now.lines.now a.code.now.tokens.now a.code.now.text.now) in
+    let us = token_list a.code.now.tokens.now a.code.now.text.now in
     let l = c.loop-k in record { numbers_after = over_done no_token (token_number fs (λ p. get_or a.counts.now p 0)) a.from us a.numbers.now l.k l.numbers l.invariant.6 l.invariant.4 a.to l.invariant.5 c.loop-k-test.false; marks_after = over_done no_token (token_mark fs a.d) a.from us a.marks.now l.k l.marks l.invariant.7 l.invariant.4 a.to l.invariant.5 c.loop-k-test.false; memo = l.invariant.1 }

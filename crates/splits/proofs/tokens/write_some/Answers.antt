@@ -22,9 +22,9 @@ pub returns-then-k-to : goal.returns-then-k-to
 returns-then-k-to c = let a = c.args in
     let p = c.requires in
     let w = c.write_known-k in
-    let fs = defined_families (listing a.lines.now a.tokens.now a.text.now) in
-    let us = token_list a.tokens.now a.text.now in
-    let n : w.result + 1 ≤ length us = omega (arith, length_tokens a.tokens.now a.text.now, p.from_lt_to.1, c.if-k-to.true) in record { lower_bound = (omega (arith, w.ensures.lower_bound.0), omega (arith, c.if-k-to.true)); numbers_after = over_join no_token (token_number fs (λ p. get_or a.counts.now p 0)) a.from us a.numbers.now w.result _ w.ensures.numbers_after w.ensures.lower_bound.0 (w.result + 1) _ (omega arith) n (omega (arith, n, length_tokens a.tokens.now a.text.now, p.from_lt_to.2, p.from_lt_to.3)) c.write_part.ensures.numbers_after; marks_after = over_join no_token (token_mark fs a.d) a.from us a.marks.now w.result _ w.ensures.marks_after w.ensures.lower_bound.0 (w.result + 1) _ (omega arith) n (omega (arith, n, length_tokens a.tokens.now a.text.now, p.from_lt_to.2, p.from_lt_to.3)) c.write_part.ensures.marks_after; memo = c.write_part.ensures.memo }
+    let fs = defined_families (listing a.code.now.lines.now a.code.now.tokens.now a.code.now.text.now) in
+    let us = token_list a.code.now.tokens.now a.code.now.text.now in
+    let n : w.result + 1 ≤ length us = omega (arith, length_tokens a.code.now.tokens.now a.code.now.text.now, p.from_lt_to.1, c.if-k-to.true) in record { lower_bound = (omega (arith, w.ensures.lower_bound.0), omega (arith, c.if-k-to.true)); numbers_after = over_join no_token (token_number fs (λ p. get_or a.counts.now p 0)) a.from us a.numbers.now w.result _ w.ensures.numbers_after w.ensures.lower_bound.0 (w.result + 1) _ (omega arith) n (omega (arith, n, length_tokens a.code.now.tokens.now a.code.now.text.now, p.from_lt_to.2, p.from_lt_to.3)) c.write_part.ensures.numbers_after; marks_after = over_join no_token (token_mark fs a.d) a.from us a.marks.now w.result _ w.ensures.marks_after w.ensures.lower_bound.0 (w.result + 1) _ (omega arith) n (omega (arith, n, length_tokens a.code.now.tokens.now a.code.now.text.now, p.from_lt_to.2, p.from_lt_to.3)) c.write_part.ensures.marks_after; memo = c.write_part.ensures.memo }
 
 pub returns : goal.returns
 returns c = let p = c.requires in

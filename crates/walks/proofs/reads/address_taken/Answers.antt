@@ -13,5 +13,5 @@ is_rsp-requires c = search (taken_rules, rules)
 pub returns-then-lines_take : goal.returns-then-lines_take
 returns-then-lines_take c = search (taken_rules, rules)
 
-pub returns : goal.returns
-returns c = search (taken_rules, rules)
+pub returns-else-lines_take : goal.returns-else-lines_take
+returns-else-lines_take c = search (taken_rules, rules)

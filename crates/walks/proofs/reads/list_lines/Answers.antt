@@ -13,9 +13,6 @@ is_seen-requires c = search (seen_rules, rules)
 pub put-m-requires : goal.put-m-requires
 put-m-requires c = search (seen_rules, rules)
 
-pub overflow_add-i : goal.overflow_add-i
-overflow_add-i c = search (seen_rules, rules)
-
 pub loop-i-smaller : goal.loop-i-smaller
 loop-i-smaller c = search (seen_rules, rules)
 

@@ -13,7 +13,4 @@ use Rattle.walks.proofs.Seen.{passing}
 use Rattle.walks.proofs.reads.list_lines.Given as goal
 
 abbrev pub invariant-loop-i : goal.invariant-loop-i
-invariant-loop-i l = (1 ≤ l.i) × (l.i ≤ length l.lines) × (l.m < l.i) × (length l.reads ≡ length l.initial.reads) × (take l.m l.reads ≡ passing (λ q. any (names (family_name (listing l.lines l.tokens l.text) l.k)) (read_tokens (line (listing l.lines l.tokens l.text) q))) l.i)
-
-abbrev pub decreases-loop-i : goal.decreases-loop-i
-decreases-loop-i l = length l.lines - l.i
+invariant-loop-i l = (1 ≤ l.i) × (l.i ≤ length l.code.lines.now) × (l.m < l.i) × (length l.reads ≡ length l.initial.reads) × (take l.m l.reads ≡ passing (λ q. any (names (family_name (listing l.code.lines.now l.code.tokens.now l.code.text.now) l.k)) (read_tokens (line (listing l.code.lines.now l.code.tokens.now l.code.text.now) q))) l.i)

@@ -13,5 +13,5 @@ returns-then-word-eq0 c = search (seen_rules, rules)
 pub line_start-requires : goal.line_start-requires
 line_start-requires c = search (seen_rules, rules)
 
-pub returns : goal.returns
-returns c = search (seen_rules, rules)
+pub returns-else-word-eq0 : goal.returns-else-word-eq0
+returns-else-word-eq0 c = search (seen_rules, rules)

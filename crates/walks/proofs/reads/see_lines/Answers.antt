@@ -4,8 +4,8 @@ use native.Mathlib.Omega.{arith}
 use borrow.Author.Rules.{rules}
 use Rattle.walks.proofs.reads.see_lines.Goals as goal
 
-pub zero_bytes-requires : goal.zero_bytes-requires
-zero_bytes-requires c = search (seen_rules, rules)
+pub zero-requires : goal.zero-requires
+zero-requires c = search (seen_rules, rules)
 
 pub number-p-requires : goal.number-p-requires
 number-p-requires c = search (seen_rules, rules)

@@ -13,5 +13,5 @@ line_start-requires c = search (write_rules, rules)
 pub returns-then-is_place : goal.returns-then-is_place
 returns-then-is_place c = search (write_rules, rules)
 
-pub returns : goal.returns
-returns c = search (write_rules, rules)
+pub returns-else-is_place : goal.returns-else-is_place
+returns-else-is_place c = search (write_rules, rules)

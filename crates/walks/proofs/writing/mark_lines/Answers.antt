@@ -8,9 +8,6 @@ loop-i-init c = search (write_rules, rules)
 pub mark_line-requires : goal.mark_line-requires
 mark_line-requires c = search (write_rules, rules)
 
-pub overflow_add-i : goal.overflow_add-i
-overflow_add-i c = search (write_rules, rules)
-
 pub loop-i-smaller : goal.loop-i-smaller
 loop-i-smaller c = search (write_rules, rules)
 

@@ -8,7 +8,4 @@ use Rattle.walks.specs.Lines.{lines_marked}
 use Rattle.walks.proofs.writing.mark_lines.Given as goal
 
 abbrev pub invariant-loop-i : goal.invariant-loop-i
-invariant-loop-i l = (l.i ≤ l.n) × (length l.marks ≡ length l.initial.marks) × (l.marks ≡ lines_marked l.lines l.k l.defs l.initial.marks (up_to l.i))
-
-abbrev pub decreases-loop-i : goal.decreases-loop-i
-decreases-loop-i l = l.n - l.i
+invariant-loop-i l = (l.i ≤ l.n) × (length l.marks ≡ length l.initial.marks) × (l.marks ≡ lines_marked l.code.lines.now l.k l.defs l.initial.marks (up_to l.i))

@@ -7,7 +7,7 @@ use Rattle.walks.specs.Lines.{WroteTo}
 use Rattle.walks.proofs.writing.write_tokens.Given as goal
 
 abbrev pub invariant-loop-p : goal.invariant-loop-p
-invariant-loop-p l = WroteTo l.lines l.tokens l.text l.k l.defs l.own l.read l.initial.numbers l.p l.numbers × (length l.numbers ≡ length l.initial.numbers)
+invariant-loop-p l = WroteTo l.code.lines.now l.code.tokens.now l.code.text.now l.k l.defs l.own l.read l.initial.numbers l.p l.numbers × (length l.numbers ≡ length l.initial.numbers)
 
 abbrev pub decreases-loop-p : goal.decreases-loop-p
-decreases-loop-p l = length l.tokens - l.p
+decreases-loop-p l = length l.code.tokens.now - l.p

@@ -7,7 +7,4 @@ use Rattle.webs.specs.Steps.{Going}
 use Rattle.webs.proofs.steps.all_families.Given as goal
 
 abbrev pub invariant-loop-k : goal.invariant-loop-k
-invariant-loop-k l = (l.k ≤ l.count) × Going l.lines l.tokens l.text l.r l.k l.total l.budget l.initial.space l.space l.numbers l.marks × (length l.space ≡ length l.initial.space) × (length l.numbers ≡ length l.initial.numbers) × (length l.marks ≡ length l.initial.marks) × (length l.reads ≡ length l.initial.reads) × (length l.nums ≡ length l.initial.nums) × (length l.rep ≡ length l.initial.rep) × (length l.rank ≡ length l.initial.rank) × (length l.set ≡ length l.initial.set) × (length l.seen ≡ length l.initial.seen) × (length l.own ≡ length l.initial.own) × (length l.read ≡ length l.initial.read)
-
-abbrev pub decreases-loop-k : goal.decreases-loop-k
-decreases-loop-k l = l.count - l.k
+invariant-loop-k l = (l.k ≤ l.count) × Going l.code.lines.now l.code.tokens.now l.code.text.now l.r l.k l.total l.budget l.initial.space l.space l.numbers l.marks × (length l.space ≡ length l.initial.space) × (length l.numbers ≡ length l.initial.numbers) × (length l.marks ≡ length l.initial.marks) × (length l.reads ≡ length l.initial.reads) × (length l.nums ≡ length l.initial.nums) × (length l.rep ≡ length l.initial.rep) × (length l.rank ≡ length l.initial.rank) × (length l.set ≡ length l.initial.set) × (length l.seen ≡ length l.initial.seen) × (length l.own ≡ length l.initial.own) × (length l.read ≡ length l.initial.read)

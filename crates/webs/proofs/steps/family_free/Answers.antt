@@ -18,11 +18,11 @@ slice_bounds-family_lines-end-2 c = sym (length-take c.family_reads-m.result _ â
 pub family_lines-requires : goal.family_lines-requires
 family_lines-requires c = record { n_nonzero = (c.requires.known.0.some, c.requires.known.0.bounds.lines, c.requires.known.0.words, c.requires.k_value.1, c.requires.known.2.agree, reads_below _ _ _ _ _ _ _ _ _ c.requires.known.0 c.requires.known.1 _ _ _ c.requires.known.2 _ c.family_reads-m.ensures.1); k_bound = (omega (arith, c.requires.known.1, c.requires.known.0.finds.few), c.requires.known.0.room, scratch_seen _ _ _ _ _ _ _ _ _ c.requires.lines_in_bounds.1 c.family_reads-m.auto.seen) }
 
-pub returns-in_default : goal.returns-in_default
-returns-in_default c = free_over _ _ _ _ _ _ _ _ _ c.requires.known.0 c.requires.known.1 _ _ _ c.requires.known.2 c.requires.k_value.0 _ _ _ _ _ _ c.family_reads-m.ensures.1 c.family_lines.ensures _ _ c.in_default.is
+pub returns-in_err-s : goal.returns-in_err-s
+returns-in_err-s c = rw c.from_residual.ensures (free_over _ _ _ _ _ _ _ _ _ c.requires.known.0 c.requires.known.1 _ _ _ c.requires.known.2 c.requires.k_value.0 _ _ _ _ _ _ c.family_reads-m.ensures.1 c.family_lines.ensures _ _ c.in_err-s.was)
 
 pub write_family-requires : goal.write_family-requires
 write_family-requires c = (known_chain _ _ _ _ _ _ _ _ _ c.requires.known.0 c.requires.known.1 _ _ _ c.requires.known.2, omega (arith, c.requires.known.1, c.requires.known.0.finds.few))
 
 pub returns : goal.returns
-returns c = free_done _ _ _ _ _ _ _ _ _ c.requires.known.0 c.requires.known.1 _ _ _ c.requires.known.2 c.requires.k_value.0 _ _ _ _ _ _ c.family_reads-m.ensures.1 c.family_lines.ensures _ _ _ c.in-Done.is c.write_family.ensures
+returns c = free_done _ _ _ _ _ _ _ _ _ c.requires.known.0 c.requires.known.1 _ _ _ c.requires.known.2 c.requires.k_value.0 _ _ _ _ _ _ c.family_reads-m.ensures.1 c.family_lines.ensures _ _ _ c.in_ok-s.was c.write_family.ensures

@@ -4,8 +4,8 @@ use borrow.Author.Rules.{rules}
 use Rattle.webs_main.proofs.AnswerRules.{refused_printed, webs_accepted, webs_refused}
 use Rattle.webs_main.proofs.answer.put_webs.Goals as goal
 
-pub returns-in-Accepted : goal.returns-in-Accepted
-returns-in-Accepted c = search (webs_accepted, webs_refused, rules)
+pub returns-in-Ok : goal.returns-in-Ok
+returns-in-Ok c = search (webs_accepted, webs_refused, rules)
 
-pub returns-in-Refused : goal.returns-in-Refused
-returns-in-Refused c = search (refused_printed, webs_accepted, webs_refused, rules)
+pub returns-in-Err : goal.returns-in-Err
+returns-in-Err c = search (refused_printed, webs_accepted, webs_refused, rules)
