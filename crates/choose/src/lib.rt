@@ -34,7 +34,8 @@ pub fn choose_within(
     match pseudo_ssa::recover_within(code, numbers, marks, space, most, 4294967295) {
         Ok(sweeps) => Ok(Choice::ByWebs(sweeps)),
         Err(refusal) => {
-            if refusal.number() < 7 {
+            let early = refusal.number() < 7;
+            if early {
                 return Err(refusal);
             }
             splits::call::split_numbers(code, numbers, marks);

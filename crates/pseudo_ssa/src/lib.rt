@@ -112,7 +112,8 @@ fn answered(
     ensures { called result numbers.new marks.new space.new ≡ webs_written (within_budget budget (webs (listing_of code.now))) (lent numbers.old marks.old space.old) }
 {
     let n = code.lines.len();
-    if n < 2 {
+    let too_short = n < 2;
+    if too_short {
         zero(numbers, marks, space, 0);
         return Err(Refusal::TooShort);
     }

@@ -5,8 +5,8 @@ use Rattle.questions.specs.Refusals.{at_most}
 use Rattle.choose.proofs.Choosing.{early, late, chosen_webs, chosen_early, chosen_splits, equation_of, passed}
 use Rattle.choose.proofs.choose_within.Goals as goal
 
-pub returns-then-number-lt7 : goal.returns-then-number-lt7
-returns-then-number-lt7 c = let a = c.args in
+pub returns-then-early : goal.returns-then-early
+returns-then-early c = let a = c.args in
     let few = c.requires in
     let R = c.recover_within in
     let ns = R.new.numbers in
@@ -32,8 +32,8 @@ returns-in-Ok c = let a = c.args in
     let ws = R.new.space in
     chosen_webs (at_most a.most) a.code.now.lines.now a.code.now.tokens.now a.code.now.text.now a.numbers.now a.marks.now a.space.now _ ns ms ws (equation_of (at_most a.most) few.0 a.code.now.lines.now a.code.now.tokens.now a.code.now.text.now a.numbers.now a.marks.now a.space.now ns ms ws (Ok c.in-Ok.sweeps) c.in-Ok.ensures)
 
-pub returns-else-number-lt7 : goal.returns-else-number-lt7
-returns-else-number-lt7 c = let a = c.args in
+pub returns-else-early : goal.returns-else-early
+returns-else-early c = let a = c.args in
     let few = c.requires in
     let R = c.recover_within in
     let ns = R.new.numbers in

@@ -6,8 +6,8 @@ use Rattle.bits.proofs.EdgeLaws.{matrices_room}
 use Rattle.pseudo_ssa.proofs.Written.{answered_7, answered_flow, ready, space_swapped}
 use Rattle.pseudo_ssa.proofs.answered.Goals as goal
 
-pub returns-then-n-lt2 : goal.returns-then-n-lt2
-returns-then-n-lt2 c = let a = c.args in
+pub returns-then-too_short : goal.returns-then-too_short
+returns-then-too_short c = let a = c.args in
     let Z = c.zero in
     answered_7 a.code.now.lines.now a.code.now.tokens.now a.code.now.text.now a.numbers.now a.marks.now a.space.now a.space.now _ _ _ a.budget refl Z.ensures.numbers_after Z.ensures.marks_after Z.ensures.space_after (search rules)
 
