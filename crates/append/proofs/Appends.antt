@@ -14,12 +14,12 @@ use lib.ListN.{length}
 use Rattle.definitions.specs.Lists.{filter, ◌≟◌}
 use Rattle.definitions.specs.Model.{Token, tok}
 use Rattle.definitions.specs.Statements.{is_empty, joins, glue, merge}
-use Rattle.definitions.specs.Calls.{Columns}
 use Rattle.write.specs.State.{add_token, add_merged}
 use Rattle.write.specs.Holds.{Writes}
-use Rattle.write.specs.declared.Cursor.{Cursor}
+use Rattle.write.specs.declared.Writer.{Writer}
+use Rattle.write.proofs.Steps.{same_self, same_more}
 use Rattle.write.proofs.Merging.{merge_snoc, glue_joins, glue_apart, joins_kind}
-use Rattle.append.specs.Adds.{opened, Adds, whole}
+use Rattle.append.specs.Adds.{opened, Adding, whole}
 
 -- Merging what is merged
 
@@ -58,30 +58,33 @@ merge_behind (t ∷ ts) us = ap (glue t) (merge_behind ts us)
 
 -- Appending
 
-pub adds_none : {m : Bool} {o : Columns} {c : Cursor} → Adds m [] o c o c
-adds_none = record { adds = λ M ts h. rw (append-nil ts) h }
+pub adds_none : {m : Bool} {w : Writer} → Adding m [] w w
+adds_none {w = w} = record { same = same_self w; adds = λ M ts h. rw (append-nil ts) h }
 
-module _ {m : Bool} {o o1 : Columns} {c c1 : Cursor} where
-  pub adds_as : {us vs : List Token} → us ≡ vs → Adds m us o c o1 c1 → Adds m vs o c o1 c1
+module _ {m : Bool} {w w₁ : Writer} where
+  pub adds_as : {us vs : List Token} → us ≡ vs → Adding m us w w₁ → Adding m vs w w₁
   adds_as e h = rw e at h
 
-  pub adds_more : {o2 : Columns} {c2 : Cursor} (us vs : List Token) → Adds m us o c o1 c1 → Adds m vs o1 c1 o2 c2 → Adds m (us ++ vs) o c o2 c2
-  adds_more us vs a b = record { adds = λ M ts h. rw (← append_assoc ts us vs) (b.adds M (ts ++ us) (a.adds M ts h)) }
+  pub adds_more : {w₂ : Writer} (us vs : List Token) → Adding m us w w₁ → Adding m vs w₁ w₂ → Adding m (us ++ vs) w w₂
+  adds_more us vs a b = record {
+    same = same_more a.same b.same;
+    adds = λ M ts h. rw (← append_assoc ts us vs) (b.adds M (ts ++ us) (a.adds M ts h));
+  }
 
-module _ {m : Bool} {o o1 o2 o3 o4 : Columns} {c c1 c2 c3 c4 : Cursor} (us vs ws xs : List Token) where
-  pub adds_four : Adds m us o c o1 c1 → Adds m vs o1 c1 o2 c2 → Adds m ws o2 c2 o3 c3 → Adds m xs o3 c3 o4 c4 → Adds m (us ++ (vs ++ (ws ++ xs))) o c o4 c4
+module _ {m : Bool} {w w₁ w₂ w₃ w₄ : Writer} (us vs ws xs : List Token) where
+  pub adds_four : Adding m us w w₁ → Adding m vs w₁ w₂ → Adding m ws w₂ w₃ → Adding m xs w₃ w₄ → Adding m (us ++ (vs ++ (ws ++ xs))) w w₄
   adds_four a b d e = adds_more us (vs ++ (ws ++ xs)) a (adds_more vs (ws ++ xs) b (adds_more ws xs d e))
 
-module _ {o o1 : Columns} {c c1 : Cursor} where
-  pub adds_merge : (us : List Token) → Adds true us o c o1 c1 → Adds true (merge us) o c o1 c1
-  adds_merge us a = record { adds = λ M ts h. rw (merge_behind ts us) (a.adds M ts h) }
+module _ {w w₁ : Writer} where
+  pub adds_merge : (us : List Token) → Adding true us w w₁ → Adding true (merge us) w w₁
+  adds_merge us a = record { same = a.same; adds = λ M ts h. rw (merge_behind ts us) (a.adds M ts h) }
 
   module _ (s : List ℕ) (k : ℕ) where
-    pub adds_token : {m : Bool} → m ≡ false → Writes (add_token s k) o c o1 c1 → Adds m (tok s k ∷ []) o c o1 c1
-    adds_token e w = rw e (record { adds = λ M ts h. w (opened M ts) h })
+    pub adds_token : {m : Bool} → m ≡ false → Writes (add_token s k) w w₁ → Adding m (tok s k ∷ []) w w₁
+    adds_token e h = rw e (record { same = h.same; adds = λ M ts z. h.holds (opened M ts) z })
 
-    pub adds_merged : {m : Bool} → m ≡ true → Writes (add_merged s k) o c o1 c1 → Adds m (tok s k ∷ []) o c o1 c1
-    adds_merged e w = rw e (record { adds = λ M ts h. rw (merge_snoc ts (tok s k)) (w (opened M (merge ts)) h) })
+    pub adds_merged : {m : Bool} → m ≡ true → Writes (add_merged s k) w w₁ → Adding m (tok s k ∷ []) w w₁
+    adds_merged e h = rw e (record { same = h.same; adds = λ M ts z. rw (merge_snoc ts (tok s k)) (h.holds (opened M (merge ts)) z) })
 
 -- Empty tokens
 
@@ -103,7 +106,7 @@ module _ (s : List ℕ) (k : ℕ) where
       go [] n = absurd (n refl)
       go (b ∷ s) n = refl
 
-  pub adds_empty : {m : Bool} {o : Columns} {c : Cursor} → length s ≡ 0 → Adds m (whole (tok s k ∷ [])) o c o c
+  pub adds_empty : {m : Bool} {w : Writer} → length s ≡ 0 → Adding m (whole (tok s k ∷ [])) w w
   unfolding filter ◌≟◌
   adds_empty h = adds_as (go s h) adds_none
     where
@@ -111,5 +114,5 @@ module _ (s : List ℕ) (k : ℕ) where
       go [] e = refl
       go (b ∷ u) e = absurd (omega arith)
 
-  pub adds_filled : {m : Bool} {o o1 : Columns} {c c1 : Cursor} → (length s ≡ 0 → ⊥) → Adds m (tok s k ∷ []) o c o1 c1 → Adds m (whole (tok s k ∷ [])) o c o1 c1
+  pub adds_filled : {m : Bool} {w w₁ : Writer} → (length s ≡ 0 → ⊥) → Adding m (tok s k ∷ []) w w₁ → Adding m (whole (tok s k ∷ [])) w w₁
   adds_filled h a = adds_as (sym (whole_some h)) a

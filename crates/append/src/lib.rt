@@ -8,41 +8,26 @@ ghost use Rattle.std.specs.Prelude.{[], ◌∷◌, ◌<◌};
 ghost use Rattle.definitions.specs.Model.{tok};
 ghost use Rattle.append.specs.Adds.{Adding, whole};
 
-use write::Cursor;
+use write::Writer;
 
 // Appends a token, which joins the last one where it is to be merged.
-pub fn add(
-    words: &mut [u32],
-    bytes: &mut [u8],
-    c: Cursor,
-    s: &[u8],
-    kind: usize,
-    merged: bool,
-) -> Cursor
+pub fn add(out: &mut Writer, s: &[u8], kind: usize, merged: bool)
     requires { kind < 256 }
-    ensures { Adding merged (tok s.now kind ∷ []) words.old bytes.old c words.new bytes.new result }
+    ensures { Adding merged (tok s.now kind ∷ []) out.old out.new }
 {
     if merged {
-        write::add_merged(words, bytes, c, s, kind)
+        out.add_merged(s, kind);
     } else {
-        write::add_token(words, bytes, c, s, kind)
+        out.add_token(s, kind);
     }
 }
 
 // The same, unless it is empty.
-pub fn add_unless_empty(
-    words: &mut [u32],
-    bytes: &mut [u8],
-    c: Cursor,
-    s: &[u8],
-    kind: usize,
-    merged: bool,
-) -> Cursor
+pub fn add_unless_empty(out: &mut Writer, s: &[u8], kind: usize, merged: bool)
     requires { kind < 256 }
-    ensures { Adding merged (whole (tok s.now kind ∷ [])) words.old bytes.old c words.new bytes.new result }
+    ensures { Adding merged (whole (tok s.now kind ∷ [])) out.old out.new }
 {
-    if s.len() == 0 {
-        return c;
+    if !s.is_empty() {
+        add(out, s, kind, merged);
     }
-    add(words, bytes, c, s, kind, merged)
 }

@@ -5,7 +5,7 @@
 use mathlib.Core.Path.{◌≡◌, refl, sym, ◌∙◌}
 use mathlib.Core.Bool.{false}
 use mathlib.Core.List.{List}
-use Prim.Native.Nat.{ℕ, ◌/◌, ◌%◌, ◌≤◌}
+use Prim.Native.Nat.{ℕ, ◌/◌, ◌≤◌}
 use native.Mathlib.Omega.{arith}
 use native.Mathlib.Decide.{dec_le}
 use lib.ListN.{length, get_or}
@@ -15,10 +15,10 @@ use Rattle.definitions.specs.Columns.{listing, token_list}
 use Rattle.text.proofs.Parts.{part_none, part_clamp}
 use Rattle.model.specs.Places.{line_start, line_end}
 use Rattle.model.proofs.Decode.{line_at, length_tokens}
-use Rattle.write.specs.Holds.{columns}
-use Rattle.write.specs.declared.Cursor.{Cursor}
+use Rattle.write.specs.declared.Writer.{Writer}
 use Rattle.write_run.specs.Runs.{Runs}
-use Rattle.pieces.specs.Pieces.{piece}
+use Rattle.pieces.specs.Pieces.{piece, Says}
+use Rattle.pieces.specs.declared.piece.Piece.TheVariants.{Kept}
 use Rattle.pieces.proofs.Forms.{kept_piece}
 use Rattle.append.specs.Adds.{Adding}
 use Rattle.append.proofs.Appends.{adds_none, adds_as}
@@ -35,14 +35,13 @@ module _ (l t x : List ℕ) (i s e : ℕ) (p : s ≡ line_start l i) (q : e ≡ 
           let z : line_end l t i ≡ length (token_list t x) = omega (arith, length_tokens t x) in
           rw z (sym (part_clamp (token_list t x) (line_start l i) (get_or l i 0 / 512) (omega (arith, length_tokens t x))))
 
-  module _ (w b : List ℕ) (c : Cursor) where
-    pub kept_none : e ≤ s → Adding false (line (listing l t x) i).tokens w b c w b c
-    kept_none h = λ k a. adds_as (sym (tokens_part ∙ part_none (token_list t x) s e h)) adds_none
+  module _ (w : Writer) where
+    pub kept_none : e ≤ s → Adding false (line (listing l t x) i).tokens w w
+    kept_none h = adds_as (sym (tokens_part ∙ part_none (token_list t x) s e h)) adds_none
 
-    pub kept_run : (w' b' : List ℕ) (c' : Cursor) → ((k a : List ℕ) → Runs (part s e (token_list t x)) (columns k a w b) c (columns k a w' b') c')
-        → Adding false (line (listing l t x) i).tokens w b c w' b' c'
-    kept_run w' b' c' r = λ k a. adds_as (sym tokens_part) (record { adds = λ M ts h. (r k a).runs _ refl h })
+    pub kept_run : (w' : Writer) → Runs (part s e (token_list t x)) w w' → Adding false (line (listing l t x) i).tokens w w'
+    kept_run w' r = adds_as (sym tokens_part) (record { same = r.same; adds = λ M ts h. r.runs _ refl h })
 
-pub kept_as_piece : (l t x : List ℕ) (p : ℕ) (w b : List ℕ) (c : Cursor) (w' b' : List ℕ) (c' : Cursor) → p % 4 ≡ 0
-    → Adding false (line (listing l t x) (p / 4)).tokens w b c w' b' c' → Adding false (piece (listing l t x) p).tokens w b c w' b' c'
-kept_as_piece l t x p w b c w' b' c' e r = λ k a. adds_as (sym (kept_piece (listing l t x) p e)) (r k a)
+pub kept_as_piece : (l t x : List ℕ) (p i : ℕ) (w w' : Writer) → Says p (Kept i)
+    → Adding false (line (listing l t x) i).tokens w w' → Adding false (piece (listing l t x) p).tokens w w'
+kept_as_piece l t x p i w w' s r = adds_as (sym (rw (kept_piece (listing l t x) p s.form, ← s.line))) r

@@ -1,5 +1,5 @@
 -- The first tokens of a line, the last of them without its last code point where a flag says so.
---   dressed_plain, dressed_inner, dressed_last    one of them
+--   dressed_plain, dressed_at                     one of them
 --   line_goes, line_ends                          the loop over them
 --   kind_of                                       a kind of the columns fits a byte
 -- Assumes nothing.
@@ -7,24 +7,22 @@ use mathlib.Core.Path.{◌≡◌, refl, sym, ap, ◌∙◌}
 use mathlib.Core.Bool.{Bool, true, false, cond}
 use mathlib.Core.List.{List, [], ◌∷◌, ◌++◌}
 use Prim.Native.Nat.{ℕ, zero, suc, ◌+◌, ◌-◌, ◌≤◌, ◌<◌}
-use native.Mathlib.Nat.{sub-zero}
 use native.Mathlib.Decide.{dec_lt}
 use native.Mathlib.Omega.{arith}
-use borrow.Author.Tests.{eq-eqb, ne_eqb}
+use borrow.Author.Tests.{ne_eqb}
 use lib.Dec.{eqb}
 use lib.ListN.{length, take, drop, get_or, get_or-eq_default}
 use lib.Seq.{get_or-take, length-take-le}
-use Rattle.definitions.specs.Lists.{part, on_last}
+use Rattle.definitions.specs.Lists.{on_last}
 use Rattle.definitions.specs.Model.{Token, tok, no_token, token, line}
 use Rattle.definitions.specs.Columns.{listing}
 use Rattle.definitions.specs.ToFor.{pop}
-use Rattle.definitions.specs.Calls.{Columns}
 use Rattle.text.proofs.Parts.{drop_step, drop_end}
 use Rattle.model.specs.Places.{line_start, line_end}
 use Rattle.model.proofs.Decode.{line_token, line_length, token_at}
-use Rattle.write.specs.declared.Cursor.{Cursor}
-use Rattle.append.specs.Adds.{Adds}
-use Rattle.append_pieces.specs.Dressed.{dressed}
+use Rattle.write.specs.declared.Writer.{Writer}
+use Rattle.append.specs.Adds.{Adding}
+use Rattle.append_pieces.specs.Dressed.{dressed, trimmed}
 use Rattle.append_pieces.proofs.Runs.{Left, left_next, left_end}
 
 -- The tokens
@@ -69,23 +67,24 @@ module _ (T : List Token) (n j : ℕ) (h : j < n) (le : n ≤ length T) (p : Boo
     at : s ≡ (get_or (take n T) j no_token).text
     at = q ∙ ap (λ (t : Token). t.text) (sym same)
 
-    pub dressed_plain : p ≡ false → s ≡ (get_or (dressed p (take n T)) j no_token).text
-    dressed_plain f = at ∙ rw f
+    module _ (y : Bool) (r : List ℕ) (u : r ≡ trimmed y s) where
+      pub dressed_plain : p ≡ false → y ≡ p → r ≡ (get_or (dressed p (take n T)) j no_token).text
+      dressed_plain f g = let z : y ≡ false = g ∙ f in u ∙ rw (f, z) at
 
-    module _ (f : p ≡ true) where
-      last_is : get_or (dressed p (take n T)) j no_token
-          ≡ cond (eqb (n - j) 1) (tok (pop (get_or (take n T) j no_token).text) (get_or (take n T) j no_token).kind) (get_or (take n T) j no_token)
-      last_is =
-          let t = get_or (take n T) j no_token in
-          rw f
-          (get_on_last (λ t. tok (pop t.text) t.kind) (take n T) j (omega (arith, size)) ∙ ap (λ m. cond (eqb (m - j) 1) (tok (pop t.text) t.kind) t) size)
+      module _ (f : p ≡ true) where
+        last_is : get_or (dressed p (take n T)) j no_token
+            ≡ cond (eqb (n - j) 1) (tok (pop (get_or (take n T) j no_token).text) (get_or (take n T) j no_token).kind) (get_or (take n T) j no_token)
+        last_is =
+            let t = get_or (take n T) j no_token in
+            rw f
+            (get_on_last (λ t. tok (pop t.text) t.kind) (take n T) j (omega (arith, size)) ∙ ap (λ m. cond (eqb (m - j) 1) (tok (pop t.text) t.kind) t) size)
 
-      pub dressed_inner : (n - j ≡ 1 → ⊥) → s ≡ (get_or (dressed p (take n T)) j no_token).text
-      dressed_inner e = at ∙ sym (ap (λ (t : Token). t.text) last_is ∙ rw (ne_eqb (n - j) 1 e))
-
-      pub dressed_last : n - j ≡ 1 → (r : List ℕ) (e : ℕ) → r ≡ part 0 e s → (take e s ≡ pop s) → r ≡ (get_or (dressed p (take n T)) j no_token).text
-      dressed_last e r d u v =
-          u ∙ (ap (λ m. take m s) (sub-zero d) ∙ (v ∙ (ap pop at ∙ sym (ap (λ (t : Token). t.text) last_is ∙ rw (eq-eqb (n - j) 1 e)))))
+        pub dressed_at : y ≡ eqb (n - j) 1 → r ≡ (get_or (dressed p (take n T)) j no_token).text
+        dressed_at e = u ∙ go (eqb (n - j) 1) e refl
+          where
+            go : (b : Bool) → y ≡ b → eqb (n - j) 1 ≡ b → trimmed y s ≡ (get_or (dressed p (take n T)) j no_token).text
+            go true g h = rw g (ap pop at ∙ sym (ap (λ (t : Token). t.text) last_is ∙ rw h))
+            go false g h = rw g (at ∙ sym (ap (λ (t : Token). t.text) last_is ∙ rw h))
 
   -- one token more of it
   split : (s : List ℕ) (k : ℕ) → s ≡ (get_or (dressed p (take n T)) j no_token).text → k ≡ (get_or T j no_token).kind
@@ -99,13 +98,13 @@ module _ (T : List Token) (n j : ℕ) (h : j < n) (le : n ≤ length T) (p : Boo
 
 -- The loop over them
 
-module _ {m : Bool} (p : Bool) (T : List Token) (n : ℕ) (le : n ≤ length T) {out out' : Columns} {c c' : Cursor} (j : ℕ)
-    (r : Left m (dressed p (take n T)) out c (drop j (dressed p (take n T))) out' c') where
-  pub line_goes : {out'' : Columns} {c'' : Cursor} → j < n → (s : List ℕ) (k : ℕ) → s ≡ (get_or (dressed p (take n T)) j no_token).text → k ≡ (get_or T j no_token).kind
-      → Adds m (tok s k ∷ []) out' c' out'' c'' → Left m (dressed p (take n T)) out c (drop (j + 1) (dressed p (take n T))) out'' c''
+module _ {m : Bool} (p : Bool) (T : List Token) (n : ℕ) (le : n ≤ length T) {out out' : Writer} (j : ℕ)
+    (r : Left m (dressed p (take n T)) out (drop j (dressed p (take n T))) out') where
+  pub line_goes : {out'' : Writer} → j < n → (s : List ℕ) (k : ℕ) → s ≡ (get_or (dressed p (take n T)) j no_token).text → k ≡ (get_or T j no_token).kind
+      → Adding m (tok s k ∷ []) out' out'' → Left m (dressed p (take n T)) out (drop (j + 1) (dressed p (take n T))) out''
   line_goes h s k u v a = left_next r _ _ (split T n j h le p s k u v) a
 
-  pub line_ends : n ≤ j → Adds m (dressed p (take n T)) out c out' c'
+  pub line_ends : n ≤ j → Adding m (dressed p (take n T)) out out'
   line_ends h = left_end r (drop_end (dressed p (take n T)) j (omega (arith, length_dressed p (take n T), length-take-le n T le)))
 
 -- Kinds

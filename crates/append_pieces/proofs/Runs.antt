@@ -14,28 +14,27 @@ use lib.ListN.{length}
 use Rattle.definitions.specs.Lists.{filter, or_else, ascii}
 use Rattle.definitions.specs.Model.{Token, Line, tok, token}
 use Rattle.definitions.specs.Condition.{condition}
-use Rattle.definitions.specs.Calls.{Columns}
-use Rattle.condition.specs.Conditions.{conditional}
+use Rattle.condition.specs.Conditions.{conditional, Bounds, Within}
 use Rattle.condition.specs.declared.Cut.{Cut}
-use Rattle.pseudo_types.specs.Cuts.{cut_token, cut_run, Bounds, Within}
+use Rattle.pseudo_types.specs.Cuts.{cut_token, cut_run}
 use Rattle.pseudo_types.proofs.CutRuns.{cut_is_run, run_first, run_end}
-use Rattle.write.specs.declared.Cursor.{Cursor}
-use Rattle.append.specs.Adds.{Adds, whole}
+use Rattle.write.specs.declared.Writer.{Writer}
+use Rattle.append.specs.Adds.{Adding, whole}
 use Rattle.append.proofs.Appends.{adds_none, adds_more, adds_as, whole_append}
 
-pub record Left (m : Bool) (all : List Token) (out : Columns) (c : Cursor) (us : List Token) (out' : Columns) (c' : Cursor) : Type 0 where
-  pub left : (out'' : Columns) (c'' : Cursor) → Adds m us out' c' out'' c'' → Adds m all out c out'' c''
+pub record Left (m : Bool) (all : List Token) (out : Writer) (us : List Token) (out' : Writer) : Type 0 where
+  pub left : (out'' : Writer) → Adding m us out' out'' → Adding m all out out''
 
-module _ {m : Bool} {all : List Token} {out : Columns} {c : Cursor} where
-  pub left_start : Left m all out c all out c
-  left_start = record { left = λ out'' c'' a. a }
+module _ {m : Bool} {all : List Token} {out : Writer} where
+  pub left_start : Left m all out all out
+  left_start = record { left = λ out'' a. a }
 
-  module _ {us : List Token} {out' : Columns} {c' : Cursor} (r : Left m all out c us out' c') where
-    pub left_next : {out'' : Columns} {c'' : Cursor} (vs ws : List Token) → us ≡ vs ++ ws → Adds m vs out' c' out'' c'' → Left m all out c ws out'' c''
-    left_next vs ws e a = record { left = λ o d b. r.left o d (adds_as (sym e) (adds_more vs ws a b)) }
+  module _ {us : List Token} {out' : Writer} (r : Left m all out us out') where
+    pub left_next : {out'' : Writer} (vs ws : List Token) → us ≡ vs ++ ws → Adding m vs out' out'' → Left m all out ws out''
+    left_next vs ws e a = record { left = λ o b. r.left o (adds_as (sym e) (adds_more vs ws a b)) }
 
-    pub left_end : us ≡ [] → Adds m all out c out' c'
-    left_end e = r.left out' c' (adds_as (sym e) adds_none)
+    pub left_end : us ≡ [] → Adding m all out out'
+    left_end e = r.left out' (adds_as (sym e) adds_none)
 
 -- The tokens of a condition
 
@@ -59,18 +58,18 @@ module _ (l : Line) (a : Option Cut) (p : conditional l a ≡ condition l (ascii
     pub condition_run : whole (cut_run l u.keyword u.end (u.keyword + 1)) ≡ or_else (condition l (ascii "if")) []
     condition_run = sym (cut_is_run l u.keyword u.end bounds.opened) ∙ rw (← p, e)
 
-    pub condition_inside : (m : ℕ) → m ≡ length l.tokens → m ≤ u.keyword → ⊥
-    condition_inside m c h = let b = bounds.opened in omega arith
+    pub condition_inside : u.keyword < length l.tokens
+    condition_inside = let b = bounds.opened in omega arith
 
 pub cut_added : (l : Line) (k n j z : ℕ) (s : List ℕ) → s ≡ (cut_token l k n j).text → z ≡ (token l j).kind → whole (tok s z ∷ []) ≡ whole (cut_token l k n j ∷ [])
 unfolding cut_token
 cut_added l k n j z s p q = rw (p, q)
 
-module _ {m : Bool} (l : Line) (k n from j : ℕ) {out out' : Columns} {c c' : Cursor}
-    (r : Left m (whole (cut_run l k n from)) out c (whole (cut_run l k n j)) out' c') (z : ℕ) (q : z ≡ length l.tokens) where
-  pub run_goes : {out'' : Columns} {c'' : Cursor} → j < z → Adds m (whole (cut_token l k n j ∷ [])) out' c' out'' c''
-      → Left m (whole (cut_run l k n from)) out c (whole (cut_run l k n (j + 1))) out'' c''
+module _ {m : Bool} (l : Line) (k n from j : ℕ) {out out' : Writer}
+    (r : Left m (whole (cut_run l k n from)) out (whole (cut_run l k n j)) out') (z : ℕ) (q : z ≡ length l.tokens) where
+  pub run_goes : {out'' : Writer} → j < z → Adding m (whole (cut_token l k n j ∷ [])) out' out''
+      → Left m (whole (cut_run l k n from)) out (whole (cut_run l k n (j + 1))) out''
   run_goes h a = left_next r _ _ (run_split l k n j (omega arith)) a
 
-  pub run_ends : z ≤ j → Adds m (whole (cut_run l k n from)) out c out' c'
+  pub run_ends : z ≤ j → Adding m (whole (cut_run l k n from)) out out'
   run_ends h = left_end r (run_none l k n j (omega arith))

@@ -9,38 +9,46 @@ use mathlib.Core.Path.{◌≡◌, refl, sym, ◌∙◌}
 use mathlib.Core.Bool.{Bool, true, false, ◌&&◌, ◌||◌, not, and-false}
 use mathlib.Core.List.{List}
 use Prim.Native.Nat.{ℕ, ◌+◌, ◌≤◌, ◌<◌}
-use borrow.Author.Tests.{ne_eqb}
-use lib.Dec.{leb}
+use borrow.Author.Tests.{eqb-true}
+use lib.Dec.{eqb, leb}
 use lib.ListN.{length}
 use Rattle.definitions.specs.Lists.{◌>>=◌, require, any}
-use Rattle.definitions.specs.Model.{Token, Line, tok, token}
+use Rattle.definitions.specs.Model.{Token, Line, tok, token, Register}
 use Rattle.definitions.specs.Family.{Family, fam_of, names}
 use Rattle.definitions.specs.Statements.{assignment, is_var, defines}
 use Rattle.family.specs.Register.{family_of, names_family}
-use Rattle.family.specs.declared.Register.{Register}
+use Rattle.family.specs.declared.Register.{Register as Reg}
 use Rattle.assignment.specs.Assignments.{expr_token, side, assigns, assigned}
 use Rattle.assignment.specs.Definitions.{may_define}
 use Rattle.assignment.specs.declared.Side.{Side}
 use Rattle.assignment.proofs.Sides.{side_none, side_first, assignment_none}
 
-pub expr_names_at : (l : Line) (n k : ℕ) (s : List ℕ) (o : Option Family) (y : Bool) → n ≡ (token l k).kind → s ≡ (expr_token l k).text
-    → y ≡ names_family o (tok s n) → y ≡ names_family o (expr_token l k)
-unfolding expr_token
-expr_names_at l n k s o y d q e = rw (q, d) at e
-
 -- a token of another kind than a register has no family
-no_family : (u : Token) (n : ℕ) → n ≡ u.kind → (n ≡ 1 → ⊥) → fam_of u ≡ None
+no_family : (u : Token) → eqb u.kind Register ≡ false → fam_of u ≡ None
 unfolding fam_of
-no_family u n d h = rw (← d, ne_eqb n 1 h)
+no_family u h = rw h
 
 expr_kind : (l : Line) (k : ℕ) → (token l k).kind ≡ (expr_token l k).kind
 unfolding expr_token
 expr_kind l k = refl
 
-pub expr_names_other : (l : Line) (n k : ℕ) (o : Option Family) → n ≡ (token l k).kind → (n ≡ 1 → ⊥) → false ≡ names_family o (expr_token l k)
-unfolding names
-expr_names_other l n k None d h = refl
-expr_names_other l n k (Some f) d h = rw (no_family (expr_token l k) n (d ∙ expr_kind l k) h, names)
+-- `b`: the token is a register
+module _ (l : Line) (k : ℕ) (o : Option Family) (b : Bool) (d : b ≡ eqb (token l k).kind Register) where
+  pub expr_names_at : (n : ℕ) (s : List ℕ) (y : Bool) → b ≡ true → n ≡ Register → s ≡ (expr_token l k).text
+      → y ≡ names_family o (tok s n) → y ≡ names_family o (expr_token l k)
+  unfolding expr_token
+  expr_names_at n s y h m q e = let z : n ≡ (token l k).kind = m ∙ sym (eqb-true (token l k).kind Register (sym d ∙ h)) in rw (q, z) at e
+
+  pub expr_names_other : b ≡ false → b ≡ names_family o (expr_token l k)
+  unfolding names
+  expr_names_other h = h ∙ go o
+    where
+      none : fam_of (expr_token l k) ≡ None
+      none = no_family (expr_token l k) (rw (← expr_kind l k) (sym d ∙ h))
+
+      go : (o : Option Family) → false ≡ names_family o (expr_token l k)
+      go None = refl
+      go (Some f) = rw (none, names)
 
 -- The right side
 
@@ -66,16 +74,16 @@ module _ (p : Token → Bool) (l : Line) (a e k : ℕ) (inv : any p (side l a e)
 test : Family → List Token → Option (List ℕ)
 test f ts = require (leb 32 f.width && not (is_var f.name) && not (any (names f.name) ts)) >>= λ _. Some f.name
 
-pub defines_other : (l : Line) (n : ℕ) → n ≡ (token l 0).kind → (n ≡ 1 → ⊥) → None ≡ defines l
+pub defines_other : (l : Line) (b : Bool) → b ≡ eqb (token l 0).kind Register → b ≡ false → None ≡ defines l
 unfolding defines assigns
-defines_other l n d h = rw (← assignment_none l (rw (← d, ne_eqb n 1 h) (and-false (leb 2 (length l.tokens)))))
+defines_other l b d h = rw (← assignment_none l (rw (← d, h) (and-false (leb 2 (length l.tokens)))))
 
 module _ (l : Line) (a : Option Side) (e : assigned l a ≡ assignment l) where
   pub defines_none : a ≡ None → None ≡ defines l
   unfolding defines
   defines_none q = rw (← e, q)
 
-  module _ (u : Side) (q : a ≡ Some u) (r : Register) (d : family_of (token l 0).text r ≡ fam_of (token l 0)) where
+  module _ (u : Side) (q : a ≡ Some u) (r : Option Reg) (d : family_of (token l 0).text r ≡ fam_of (token l 0)) where
     defines_step : defines l ≡ (family_of (token l 0).text r >>= λ f. test f (side l u.from u.to))
     unfolding defines test
     defines_step = rw (← e, q, d)
@@ -113,4 +121,4 @@ module _ (l : Line) (a : Option Side) (e : assigned l a ≡ assignment l) where
             go None m n = refl
             go (Some f) m n = rw (m, n)
 
-pub ruleset defining = (defines_other, side_found, side_next, side_end, defines_none, defines_no, defines_reads, defines_is)
+pub ruleset defining = (expr_names_at, expr_names_other, defines_other, side_found, side_next, side_end, defines_none, defines_no, defines_reads, defines_is)

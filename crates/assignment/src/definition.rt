@@ -2,6 +2,9 @@
 // token of the right side is looked up once.
 //
 // Contracts cite `defines` of Rattle.definitions.specs.Statements; `defined` of this crate's specs/ says which family an answer is.
+
+#![tactic(auto, using(crate::proofs::Defining::defining, text::proofs::Bools::bools))]
+
 ghost use Rattle.std.specs.Prelude.{◌≡◌};
 ghost use Rattle.definitions.specs.Lists.{any};
 ghost use Rattle.definitions.specs.Model.{line};
@@ -13,20 +16,28 @@ ghost use Rattle.assignment.specs.Definitions.{may_define, defined};
 
 use crate::{assignment, expr_text};
 use family::Register;
+use model::kind::Kind;
 use model::listing::Listing;
 use pseudo_opt::registers::register_at;
 
 // Token k of the right side of line i names the family that the answer r of the text s is.
-fn expr_names(code: &Listing, i: usize, k: usize, s: &[u8], r: Register) -> bool
+fn expr_names(code: &Listing, i: usize, k: usize, s: &[u8], r: Option<Register>) -> bool
     ensures { let l = line (listing_of code.now) i in
         result ≡ names_family (family_of s.now r) (expr_token l k) }
 {
-    let kind = code.kind(i, k);
-    kind == 1 && family::names(kind, expr_text(code, i, k), s, r)
+    code.is(i, k, Kind::Register)
+        && family::names(Kind::Register.number(), expr_text(code, i, k), s, r)
 }
 
 // A token of the right side of line i, from place a up to place e, names it.
-pub fn side_names(code: &Listing, i: usize, a: usize, e: usize, s: &[u8], r: Register) -> bool
+pub fn side_names(
+    code: &Listing,
+    i: usize,
+    a: usize,
+    e: usize,
+    s: &[u8],
+    r: Option<Register>,
+) -> bool
     ensures { let l = line (listing_of code.now) i in
         result ≡ any (names_family (family_of s.now r)) (side l a e) }
 {
@@ -39,7 +50,7 @@ pub fn side_names(code: &Listing, i: usize, a: usize, e: usize, s: &[u8], r: Reg
 }
 
 // An assignment to the register defines its family, if the right side lacks it.
-fn may_define(s: &[u8], r: Register) -> bool
+fn may_define(s: &[u8], r: Option<Register>) -> bool
     ensures { result ≡ may_define (family_of s.now r) }
 {
     family::is_wide(s, r) && !family::is_var(s, r)
@@ -50,17 +61,15 @@ pub fn defines(code: &Listing, i: usize) -> Option<Register>
     ensures { let l = line (listing_of code.now) i in
         defined l result ≡ defines l }
 {
-    if code.kind(i, 0) != 1 {
+    if !code.is(i, 0, Kind::Register) {
         return None;
     }
     let side = assignment(code, i)?;
     let r = register_at(code, i, 0);
     let s = code.text_at(i, 0);
-    if may_define(s, r) {
-        if side_names(code, i, side.from, side.to, s, r) {
-            return None;
-        }
-        return Some(r);
+    if may_define(s, r) && !side_names(code, i, side.from, side.to, s, r) {
+        r
+    } else {
+        None
     }
-    None
 }

@@ -3,7 +3,7 @@
 //
 // Contracts cite `assignment` of Rattle.definitions.specs.Statements; `assigned` of this crate's specs/ says which assignment an answer is.
 
-#![tactic(auto)]
+#![tactic(auto, using(crate::proofs::Assigning::sides, text::proofs::Bools::bools))]
 
 ghost use Rattle.std.specs.Prelude.{◌≡◌};
 ghost use Rattle.definitions.specs.Model.{line};
@@ -11,6 +11,7 @@ ghost use Rattle.definitions.specs.Statements.{is_empty, assignment};
 ghost use Rattle.model.specs.Listings.{listing_of};
 ghost use Rattle.assignment.specs.Assignments.{front, back, expr_token, expr_from, expr_to, assigns, is_closed, assigned};
 
+use model::kind::Kind;
 use model::listing::Listing;
 
 pub mod definition;
@@ -31,11 +32,7 @@ fn front(k: usize) -> usize
 fn back(n: usize, k: usize) -> usize
     ensures { result ≡ back n k }
 {
-    if k < n {
-        if n - k == 1 { 1 } else { 0 }
-    } else {
-        0
-    }
+    if k < n && n - k == 1 { 1 } else { 0 }
 }
 
 // The text of token k of the right side of line i, as a part of the lent text.
@@ -56,6 +53,7 @@ fn is_blank(code: &Listing, i: usize, k: usize) -> bool
     s.len().saturating_sub(back(n, k)).saturating_sub(front(k)) == 0
 }
 
+#[tactic(auto, unfolding(crate::specs::Assignments::expr_from))]
 fn expr_from(code: &Listing, i: usize) -> usize
     ensures { result ≡ expr_from (line (listing_of code.now) i) }
 {
@@ -71,12 +69,13 @@ fn expr_to(code: &Listing, i: usize) -> usize
 }
 
 // Line i starts as an assignment does.
+#[tactic(auto, using(model::proofs::Ands::ands), unfolding(crate::specs::Assignments::assigns))]
 fn assigns(code: &Listing, i: usize) -> bool
     ensures { result ≡ assigns (line (listing_of code.now) i) }
 {
     2 <= code.token_count(i)
-        && code.kind(i, 0) == 1
-        && code.kind(i, 1) == 6
+        && code.is(i, 0, Kind::Register)
+        && code.is(i, 1, Kind::Punct)
         && text::starts_with(code.text_at(i, 1), b" = ")
 }
 
@@ -93,13 +92,11 @@ pub fn assignment(code: &Listing, i: usize) -> Option<Side>
     ensures { let l = line (listing_of code.now) i in
         assigned l result ≡ assignment l }
 {
-    if assigns(code, i) {
-        if is_closed(code, i) {
-            let from = expr_from(code, i);
-            let to = expr_to(code, i);
-            if from < to {
-                return Some(Side { from, to });
-            }
+    if assigns(code, i) && is_closed(code, i) {
+        let from = expr_from(code, i);
+        let to = expr_to(code, i);
+        if from < to {
+            return Some(Side { from, to });
         }
     }
     None

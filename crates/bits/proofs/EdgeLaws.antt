@@ -237,3 +237,5 @@ matrices_room n l h room =
     let a : n * r ≤ n * 16 = mul-le-mul_left n (omega arith) in
     let b : n * (r + 1) ≡ n * r + n * 1 = mul-add n r 1 in
     record { wide = omega arith; room = omega arith; small = omega arith }
+
+pub ruleset edge_rules = (line_small, added, no_edges, noted, between, widen_by)

@@ -5,7 +5,7 @@
 --   *-one                      the same of a row of one word
 --   run_words, run_bits        a row of one word over and over
 --   differ-*                   so for the comparison of a row with what is written over it
---   here*, none-*, found       so for the search of a set bit
+--   here, none_next, found     so for the search of a set bit
 --   low_last                   the last word of the low bits of a row
 -- Assumes nothing.
 use Prim.Native.Nat.{ℕ, ◌+◌, ◌-◌, ◌*◌, ◌/◌, ◌%◌, ◌^◌, ◌<◌, ◌≤◌, min}
@@ -26,7 +26,7 @@ use mir.Syntax.{w64}
 use mir.Val.{Fits}
 use borrow.Rule.Slice.PartMut.{put_mid}
 use Rattle.std.proofs.lemmas.List.{get_or-replicate, get_or-append_right}
-use borrow.Author.Tests.{eq-eqb, ne_eqb, lt-ltb, le-ltb, ltb-true, le-leb, lt-leb}
+use borrow.Author.Tests.{eq-eqb, ne_eqb, ltb-true, le-leb, lt-leb}
 use Rattle.theory.proofs.Bools.{clash, and_split, lt_or_ge}
 use Rattle.bits.specs.Rows.{word_bit, bit, Away, Filled, WithBit, joined, joined_low, copied, Put, Differs, First}
 use Rattle.bits.proofs.Words.{zero_bit, or_bit, shr_bit, one_bit, above_bit, word_other, low_none, low_there, keep_low}
@@ -222,22 +222,10 @@ differ_next l₀ l l' w i x f t b z F new D Q ez = go b refl
 abbrev pub NoneTo : List ℕ → ℕ → ℕ → Type 0
 NoneTo l a p = (j : ℕ) → a ≤ j → j < p → bit l j ≡ false
 
-pub here_inside : (l : List ℕ) (a e : ℕ) (b : Bool) → a < e → b ≡ bit l a → b ≡ (ltb a e && bit l a)
-here_inside l a e b h q = rw (lt-ltb a e h) q
-
-pub here_past : (l : List ℕ) (a e : ℕ) → e ≤ a → false ≡ (ltb a e && bit l a)
-here_past l a e h = rw (le-ltb a e h)
-
 pub here : (l : List ℕ) (a e : ℕ) (y : Bool) → y ≡ (ltb a e && bit l a) → y ≡ true → First l a e a
 here l a e y q t =
     let s = and_split (ltb a e) (bit l a) (sym q ∙ t) in
     record { from = omega arith; upto = omega (arith, ltb-true a e s.0); none = λ j h g. absurd (omega arith); there = λ h. s.1 }
-
-pub none_start : (l : List ℕ) (a : ℕ) → NoneTo l a a
-none_start l a j h g = absurd (omega arith)
-
-pub none_end : (l : List ℕ) (a e p : ℕ) → NoneTo l a p → a ≤ e → e ≤ p → First l a e e
-none_end l a e p N h g = record { from = h; upto = omega arith; none = λ j q s. N j q (omega arith); there = λ q. absurd (omega arith) }
 
 -- x is the word of bit p, shifted down to it
 module _ (l : List ℕ) (a e p x : ℕ) (ex : x ≡ get_or l (p / 64) 0 / 2 ^ (p % 64)) (N : NoneTo l a p) (hap : a ≤ p) (pe : p < e) where
@@ -275,3 +263,5 @@ module _ (l : List ℕ) (a e p x : ℕ) (ex : x ≡ get_or l (p / 64) 0 / 2 ^ (p
       }))
       | inr h ↦ (let z : q ≡ e = omega arith in rw z (record { from = omega arith; upto = omega arith; none = λ j y g. none_below j y (omega arith); there = λ y. absurd (omega arith) }))
     ]
+
+pub ruleset row_rules = (put_same, put_new)

@@ -2,7 +2,7 @@
 //
 // Bit a of a slice is bit a % 64 of its word a / 64. A row is given by its first word and its number of words; the functions on rows
 // take a step a word, and `or_row` one word without a loop, since most rows that it joins have one. `find_bit` takes a step a word that it
-// looks at.
+// looks at. Casts are between `u64` or `u32` and `usize`, which have no `From`.
 //
 // For n lines and rows of r words, n + 64 <= 64 r:
 //   words [0, n r)         predecessors: bit i of row j says that line i steps to line j
@@ -12,7 +12,7 @@
 // `add_edge` sets two bits and widens two spans; `row_span` answers where a row's bits lie. The contracts cite `bit`, `Filled`, `edges`,
 // `succs`, `Spanned` and `Agree` of specs/; `preds_of` gives the predecessor lists that the sweeps of Rattle.definitions.specs.Sweeps are over.
 
-#![tactic(auto)]
+#![tactic(auto, using(crate::proofs::RowLaws::row_rules, crate::proofs::EdgeLaws::edge_rules))]
 
 ghost use Rattle.std.specs.Prelude.{◌≡◌, true, false, ◌&&◌, ◌+◌, ◌*◌, ◌/◌, ◌<◌, ◌≤◌, length, eqb, ltb};
 ghost use Rattle.bits.specs.Rows.{bit, Filled, Zero, WithBit, joined, joined_low, copied, Put, First};
@@ -80,14 +80,14 @@ pub fn put(s: &mut [u64], w: usize, x: u64) -> bool
     requires { w < length s.old }
     ensures { Put s.old s.new w x result }
 {
-    if s[w] == x {
-        return false;
+    let changed = s[w] != x;
+    if changed {
+        s[w] = x;
     }
-    s[w] = x;
-    true
+    changed
 }
 
-// Row u, which stands after row w, copied to row w.
+// Row u, which stands after row w, copied to row w. A loop, and no `copy_within`, which is slower where a row has one word, as most have.
 pub fn copy_row(s: &mut [u64], w: usize, u: usize, r: usize)
     requires { (w + r ≤ u) × (u + r ≤ length s.old) }
     ensures { Filled s.old s.new w r (copied s.old u) }
@@ -115,6 +115,7 @@ pub fn find_bit(s: &[u64], a: usize, e: usize) -> usize
         return a;
     }
     let mut p = a;
+    // A `while`: it goes from the word of bit a to the next ones, and the first is looked at from its middle on.
     while p < e {
         let x = s[p / 64] >> (p % 64);
         if x != 0 {

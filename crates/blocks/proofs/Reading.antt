@@ -5,6 +5,7 @@
 -- Assumes nothing.
 use Rattle.std.specs.Prelude.{Option, None, Some}
 use Prim.Native.Nat.{ℕ, ◌+◌, ◌<◌, ◌≤◌}
+use mathlib.Core.Logic.{inl, inr}
 use mathlib.Core.Path.{◌≡◌, refl, sym, ◌∙◌}
 use mathlib.Core.Bool.{Bool, true, false, cond}
 use mathlib.Core.List.{List, []}
@@ -110,7 +111,7 @@ module _ (L : List Line) (es ps cs : List ℕ) (p i : ℕ) (R : Reading L es ps 
       whole z = all ∙ rw (sym same ∙ z)
 
       ends : Ended L found es
-      ends = record { ended = λ j g. R.held.ended j (omega arith); later = λ j g. rw (← R.size) (R.held.later j (omega arith)) }
+      ends = record { ended = λ j g. R.held.ended j (omega arith); later = λ j g z. rw (← R.size) (elim (R.held.later j (omega arith)) [ inl w ↦ absurd (z w) | inr w ↦ w ]) }
 
       parents : Enclosed L found ps
       parents = record { inward = λ j g. R.held.inward j (omega arith); around = λ j x g. R.held.around j x (omega arith) }

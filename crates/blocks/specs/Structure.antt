@@ -4,7 +4,7 @@
 --   Enclosed L b ps         ps has the innermost opener around each line
 --   Matched L es ps r       r says whether every brace of L matches, and es and ps then have its blocks
 -- Assumes nothing.
-use Rattle.std.specs.Prelude.{ℕ, ◌+◌, ◌<◌, ◌≤◌, ◌≡◌, ◌⊎◌, Bool, true, List, [], length, get_or}
+use Rattle.std.specs.Prelude.{ℕ, ◌+◌, ◌<◌, ◌≤◌, ◌≡◌, ◌≢◌, Bool, true, List, [], length, get_or}
 use Rattle.definitions.specs.Lists.{is_some, or_else, member}
 use Rattle.definitions.specs.Model.{Line}
 use Rattle.definitions.specs.Blocks.{Blocks, blocks}
@@ -17,7 +17,7 @@ blocks_of L = or_else (blocks L) (record { ends = []; enclosing = [] })
 -- a block ends on a later line
 pub record Ended (L : List Line) (b : Blocks) (es : List ℕ) : Type 0 where
   pub ended : (i : ℕ) → i < length L → place (get_or es i 0) ≡ end_of b i
-  pub later : (i : ℕ) → i < length L → (get_or es i 0 ≡ 0) ⊎ ((i + 1 < get_or es i 0) × (get_or es i 0 ≤ length L))
+  pub later : (i : ℕ) → i < length L → get_or es i 0 ≢ 0 → (i + 1 < get_or es i 0) × (get_or es i 0 ≤ length L)
 
 -- an opener around a line stands before it
 pub record Enclosed (L : List Line) (b : Blocks) (ps : List ℕ) : Type 0 where

@@ -22,7 +22,11 @@ fn pop(parents: &[u16], counts: &mut [usize], h: usize) -> usize
 {
     let c = counts[h];
     counts[h] = c - 1;
-    if c == 1 { parents[h] as usize } else { h + 1 }
+    if c == 1 {
+        usize::from(parents[h])
+    } else {
+        h + 1
+    }
 }
 
 // Line i closes k blocks.
@@ -39,15 +43,14 @@ fn close(
     ensures { (o : Open) → Held ends.old parents.now counts.old top i o → i < length o.ends → Closed i k o ends.new parents.now counts.new result }
 {
     let mut p = top;
-    let mut left = k;
-    while 0 < left {
+    for j in 0..k {
         if p == 0 {
             return None;
         }
         let h = p - 1;
+        // A cast: a line's number is at most 1,024, which `TryFrom` would ask again.
         ends[h] = (i + 1) as u16;
         p = pop(parents, counts, h);
-        left -= 1;
     }
     Some(p)
 }
@@ -68,6 +71,7 @@ fn enter(
     ensures counts_after { counts.new ≡ set counts.old i k }
 {
     ends[i] = 0;
+    // A cast, as in `close`.
     parents[i] = p as u16;
     counts[i] = k;
     if 0 < k { i + 1 } else { p }

@@ -1,18 +1,18 @@
 -- Braces, as rules for `search`.
 --   brace_open, brace_cancel, brace_close, brace_other    one byte
 --   bytes_next, bytes_end                                 the loop of `in_text`
---   punct_yes, punct_no, punct_other, within_of, grown_of what a token adds, by its kind
+--   within_of, grown_of                                   what a token adds
 --   rest, braces_start, braces_next, braces_end           the loop of `line_braces`, by the places of the tokens among all
 --   place_short                                           how many tokens and bytes there can be
 -- Assumes nothing.
 use Rattle.std.specs.Prelude.{if◌then◌else◌}
 use mathlib.Core.Path.{◌≡◌, refl, sym, ◌∙◌}
-use mathlib.Core.Bool.{Bool, true, false, cond, not}
+use mathlib.Core.Bool.{Bool, true, false, cond}
 use mathlib.Core.List.{List, [], ◌∷◌, ◌++◌}
 use Prim.Native.Nat.{ℕ, ◌+◌, ◌-◌, ◌/◌, ◌≤◌, ◌<◌}
 use native.Mathlib.Omega.{arith}
 use borrow.Author.Tests.{eq-eqb, ne_eqb, lt-ltb, le-ltb}
-use lib.Dec.{T, eqb}
+use lib.Dec.{eqb}
 use lib.ListN.{length, get_or, drop}
 use Rattle.definitions.specs.Lists.{filter, fold}
 use Rattle.definitions.specs.Model.{Token, Line, no_token, text, line, Punct}
@@ -52,22 +52,6 @@ module _ (a : Braces) (s : List ℕ) (k : ℕ) (b : Braces) (inv : fold brace a 
   pub bytes_end : length s ≤ k → b ≡ fold brace a s
   unfolding fold
   bytes_end h = sym (inv ∙ rw (drop_end s k))
-
--- A token, by its kind
-
-T_not : (p : Bool) → T (not p) → p ≡ false
-T_not true h = absurd h
-T_not false h = refl
-
-module _ (k a : ℕ) (e : k ≡ a) (b : Braces) (t : List ℕ) where
-  pub punct_yes : (r : Braces) (s : List ℕ) → k ≡ 6 → r ≡ fold brace b s → s ≡ t → r ≡ (if eqb a Punct then fold brace b t else b)
-  punct_yes r s f g q = rw (← e, eq-eqb k 6 f, ← q) g
-
-  pub punct_no : (k ≡ 6 → ⊥) → b ≡ (if eqb a Punct then fold brace b t else b)
-  punct_no f = rw (← e, ne_eqb k 6 f)
-
-  pub punct_other : (m : ℕ) → k ≡ m → T (not (eqb m 6)) → b ≡ (if eqb a Punct then fold brace b t else b)
-  punct_other m f h = rw (← e, f, T_not (eqb m 6) h)
 
 -- bounds that name a part, said of the text that the part is
 module _ (m n : ℕ) (s t : List ℕ) (q : s ≡ t) where
@@ -131,4 +115,4 @@ module _ (l t x : List ℕ) (i s e : ℕ) (es : s ≡ line_start l i) (ee : e �
 
 pub ruleset bytes = (brace_open, brace_cancel, brace_close, brace_other, bytes_next, bytes_end)
 
-pub ruleset counts = (punct_yes, punct_no, punct_other, within_of, grown_of, braces_start, braces_next, braces_end)
+pub ruleset counts = (within_of, grown_of, braces_start, braces_next, braces_end)

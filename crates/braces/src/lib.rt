@@ -2,7 +2,7 @@
 //
 // Contracts cite `brace` and `braces` of Rattle.definitions.specs.Blocks.
 
-#![tactic(auto)]
+#![tactic(auto, using(crate::proofs::Counts::bytes, crate::proofs::Counts::counts))]
 
 ghost use Rattle.std.specs.Prelude.{if◌then◌else◌, ◌≡◌, ◌+◌, ◌≤◌, ◌<◌, eqb, length, get_or};
 ghost use Rattle.definitions.specs.Lists.{fold};
@@ -11,10 +11,11 @@ ghost use Rattle.definitions.specs.Blocks.{brace, braces};
 ghost use Rattle.model.specs.Listings.{listing_of, tokens_of};
 ghost use Rattle.braces.specs.Counted.{counted};
 
+use model::kind::Kind;
 use model::listing::Listing;
 
 // How many blocks a line opens that later lines close, and how many it closes that earlier lines opened.
-#[derive(Drop)]
+#[derive(Clone, Copy)]
 pub struct Braces {
     pub opens: usize,
     pub closes: usize,
@@ -29,18 +30,18 @@ fn step(b: Braces, c: u8) -> Braces
     match c {
         b'{' => Braces {
             opens: b.opens + 1,
-            closes: b.closes,
+            ..b
         },
         b'}' => {
             if 0 < b.opens {
                 Braces {
                     opens: b.opens - 1,
-                    closes: b.closes,
+                    ..b
                 }
             } else {
                 Braces {
-                    opens: b.opens,
                     closes: b.closes + 1,
+                    ..b
                 }
             }
         }
@@ -55,8 +56,8 @@ fn in_text(s: &[u8], b: Braces) -> Braces
     ensures closes_bound { result.opens + result.closes ≤ b.opens + b.closes + length s.now }
 {
     let mut r = b;
-    for k in 0..s.len() {
-        r = step(r, s[k]);
+    for byte in s {
+        r = step(r, *byte);
     }
     r
 }
@@ -70,16 +71,18 @@ fn in_token(code: &Listing, k: usize, b: Braces) -> Braces
     ensures closes_bound { let t = get_or (tokens_of code.now) k no_token in
         result.opens + result.closes ≤ b.opens + b.closes + length t.text }
 {
-    match code.token_kind(k) {
-        0 => b,
-        1 => b,
-        2 => b,
-        3 => b,
-        4 => b,
-        5 => b,
-        6 => in_text(code.token_text(k), b),
-        7 => b,
-        _ => b,
+    match Kind::of(code.token_kind(k)) {
+        Some(Kind::Punct) => in_text(code.token_text(k), b),
+        Some(
+            Kind::Text
+            | Kind::Register
+            | Kind::Number
+            | Kind::Keyword
+            | Kind::Symbol
+            | Kind::Address
+            | Kind::Prefix,
+        )
+        | None => b,
     }
 }
 

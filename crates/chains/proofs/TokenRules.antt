@@ -1,5 +1,5 @@
 -- Rules for `tokens`.
---   link_by, token_other, token_linked, family_room    `link` and `chain_token`
+--   link_by, token_none, token_zero, token_linked, family_room    `link` and `chain_token`
 --   line_from, line_on, line_to           the loop of `chain_line`
 --   heads_start, heads_next, heads_end    the loop of `no_heads`
 --   chained_start, chained_next           the loop of `chain_tokens`
@@ -8,7 +8,6 @@ use Rattle.std.specs.Prelude.{Option, None, Some}
 use Prim.Native.Nat.{ℕ, zero, suc, ◌+◌, ◌-◌, ◌<◌, ◌≤◌}
 use mathlib.Core.Path.{◌≡◌, refl, sym, ap, ◌∙◌}
 use mathlib.Core.Logic.{◌⊎◌, inl, inr}
-use mathlib.Core.Bool.{Bool, cond}
 use mathlib.Core.List.{List}
 use native.Mathlib.Omega.{arith}
 use lib.Dec.{eqb}
@@ -24,25 +23,25 @@ use Rattle.theory.proofs.Bools.{lt_or_ge}
 use Rattle.model.specs.Places.{start_from, line_start, line_end}
 use Rattle.model.proofs.Decode.{length_tokens, line_length}
 use Rattle.model.proofs.Formed.{line_within}
-use Rattle.families.specs.Families.{place_of}
+use Rattle.families.specs.Families.{place, place_of}
 use Rattle.families.specs.Tokens.{family_name, Finds}
 use Rattle.families.proofs.Numbered.{place_cases}
 use Rattle.memo.specs.Found.{found}
-use Rattle.chains.specs.Chains.{next_place, place_line, chain_word, waiting, token_word, other_word, Bounds, Chained, Linked, Heads}
+use Rattle.chains.specs.Chains.{next_place, place_line, chain_word, waiting, token_word, Bounds, Chained, Linked, Heads}
 use Rattle.chains.proofs.NextPlace.{next_yes, next_no, next_end}
 use Rattle.chains.proofs.Places.{line_next, last_start, place_line_is}
 use Rattle.chains.proofs.FamilyPlaces.{place_most, names_place}
 
 -- What was found
 
-module _ (fs : List (List ℕ)) (f : ℕ) where
-  found_low : (o : Option Family) → f ≡ found fs o → f < 2 → place_of fs o ≡ 0
-  found_low None e h = refl
-  found_low (Some x) e h = omega (arith, e)
+module _ (fs : List (List ℕ)) where
+  found_none : (o : Option Family) → None ≡ found fs o → place_of fs o ≡ 0
+  found_none None e = refl
+  found_none (Some x) e = cc
 
-  found_more : (o : Option Family) → f ≡ found fs o → 2 ≤ f → (f - 1) ≡ place_of fs o
-  found_more None e h = absurd (omega (arith, e))
-  found_more (Some x) e h = omega (arith, e)
+  found_place : (c : ℕ) (o : Option Family) → Some c ≡ found fs o → c ≡ place_of fs o
+  found_place c None e = cc
+  found_place c (Some x) e = cc
 
 -- `link` and `chain_token`
 
@@ -130,28 +129,38 @@ module _ (l t x table : List ℕ) (count p : ℕ) (ns first : List ℕ) (F : Fin
             nonzero (suc c) m z = omega arith
 
 module _ (l t x table : List ℕ) (count p : ℕ) (ns first : List ℕ) (F : Finds (listing l t x) count table) (h : p < length t) (C : Chained l t x count (p + 1) ns first)
-    (f : ℕ) (e : f ≡ found (defined_families (listing l t x)) (fam_of (get_or (token_list t x) p no_token))) where
+    (f : Option ℕ) (e : f ≡ found (defined_families (listing l t x)) (fam_of (get_or (token_list t x) p no_token))) where
   abbrev families : List (List ℕ)
   families = defined_families (listing l t x)
 
   abbrev token : Token
   token = get_or (token_list t x) p no_token
 
-  pub token_other : f < 2 → (v : ℕ) → v ≡ other_word f → Chained l t x count p (set ns p v) first
-  unfolding token_word waiting
-  token_other lt v w = kept_out l t x table count p ns first F h C 0 (sym (found_low families f (fam_of token) e lt)) refl v (go (fam_of token) e)
+  pub token_none : f ≡ None → Chained l t x count p (set ns p 4294967295) first
+  unfolding token_word
+  token_none z = kept_out l t x table count p ns first F h C 0 (sym (found_none families (fam_of token) (sym z ∙ e))) refl 4294967295 (go (fam_of token) (sym z ∙ e))
     where
-      go : (o : Option Family) → f ≡ found families o → v ≡ (elim o [ None ↦ no_family | Some y ↦ waiting l (token_list t x) families y.name p ])
-      go None q = w ∙ ap (λ (m : ℕ). other_word m) q
-      go (Some y) q = w ∙ ap (λ (b : Bool). cond b no_family 0) (ne_eqb f 0 (λ z. omega (arith, q))) ∙ sym (rw (found_low families f (Some y) q lt))
+      go : (o : Option Family) → None ≡ found families o → no_family ≡ (elim o [ None ↦ no_family | Some y ↦ waiting l (token_list t x) families y.name p ])
+      go None q = refl
+      go (Some y) q = cc
 
-  module _ (n : 2 ≤ f) where
-    pub family_room : f - 1 ≤ length first
-    family_room = room l t x table count p ns first F h C (f - 1) (found_more families f (fam_of token) e n)
+  module _ (c : ℕ) (z : f ≡ Some c) where
+    at_place : c ≡ place_of families (fam_of token)
+    at_place = found_place families c (fam_of token) (sym z ∙ e)
 
-    pub token_linked : (i : ℕ) → place_line l p ≡ i → (ns' first' : List ℕ) → Linked i p (f - 1) ns ns' first first' → Chained l t x count p ns' first'
-    token_linked i at ns' first' K =
-        put_first l t x table count p ns first F h C (f - 1) (found_more families f (fam_of token) e n) (λ z. omega arith) i at ns' first' K
+    pub token_zero : c ≡ 0 → Chained l t x count p (set ns p 0) first
+    unfolding token_word waiting
+    token_zero n = kept_out l t x table count p ns first F h C 0 (sym n ∙ at_place) refl 0 (go (fam_of token) (sym z ∙ e))
+      where
+        go : (o : Option Family) → Some c ≡ found families o → ◌≡◌ {A = ℕ} 0 (elim o [ None ↦ no_family | Some y ↦ waiting l (token_list t x) families y.name p ])
+        go None q = cc
+        go (Some y) q = let r : place families y.name ≡ 0 = sym (found_place families c (Some y) q) ∙ n in rw r
+
+    pub family_room : c ≤ length first
+    family_room = room l t x table count p ns first F h C c at_place
+
+    pub token_linked : (c ≡ 0 → ⊥) → (i : ℕ) → place_line l p ≡ i → (ns' first' : List ℕ) → Linked i p c ns ns' first first' → Chained l t x count p ns' first'
+    token_linked n i at ns' first' K = put_first l t x table count p ns first F h C c at_place n i at ns' first' K
 
 -- `chain_line`
 
@@ -212,4 +221,4 @@ module _ (l t x : List ℕ) (count : ℕ) (B : Bounds l t) (ns first : List ℕ)
   unfolding start_from
   chained_end i h C = let z : i ≡ 0 = omega arith in rw z at C
 
-pub ruleset token_rules = (link_by, line_from, line_on, line_to, line_rises, chained_below, heads_start, heads_next, heads_end, chained_start, chained_next, chained_end, family_room, token_other, token_linked)
+pub ruleset token_rules = (link_by, line_from, line_on, line_to, line_rises, chained_below, heads_start, heads_next, heads_end, chained_start, chained_next, chained_end, family_room, token_none, token_zero, token_linked)

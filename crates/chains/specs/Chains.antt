@@ -6,7 +6,6 @@
 --   chain_word i n            the word of a token on line i whose family's next token stands at place n
 --   waiting l ts fs f p       what stands at place p for a token of the family f: 0 where f has no definition
 --   token_word l ts fs p      the same, by the token there: 4,294,967,295 where it has no family
---   other_word f              the word of a token that is in no chain, where f is `found` of its family
 --   Bounds l t                the lines cover the tokens, and both are few
 --   Chained l t x count a ns first    the words ns from place a on stand, and `first` has the first place from a on of each family
 --   Chain l t x k ns first    the same of family k alone
@@ -42,9 +41,6 @@ waiting l ts fs f p = if eqb (place fs f) 0 then 0 else chain_word (place_line l
 
 unfoldable pub token_word : List ℕ → List Token → List (List ℕ) → ℕ → ℕ
 token_word l ts fs p = elim (fam_of (get_or ts p no_token)) [ None ↦ no_family | Some x ↦ waiting l ts fs x.name p ]
-
-abbrev pub other_word : ℕ → ℕ
-other_word f = if eqb f 0 then no_family else 0
 
 pub record Bounds (l t : List ℕ) : Type 0 where
   pub ok : covers 512 0 l (length t) ≡ true

@@ -3,88 +3,67 @@
 // other token only the kind is read.
 //
 // Contracts cite `token_word` and `next_place` of specs/Chains.
+#![tactic(auto, using(crate::proofs::TokenRules::token_rules))]
+
 ghost use Rattle.std.specs.Prelude.{◌≡◌, suc, ◌+◌, ◌<◌, ◌≤◌, length};
-ghost use Rattle.definitions.specs.Recover.{defined_families};
 ghost use Rattle.model.specs.Places.{line_start};
 ghost use Rattle.model.specs.Listings.{listing_of};
 ghost use Rattle.families.specs.Tokens.{Finds};
-ghost use Rattle.memo.specs.Memo.{Memo};
-ghost use Rattle.chains.specs.Chains.{chain_word, other_word, place_line, Bounds, Chained, Linked, Heads};
+ghost use Rattle.chains.specs.Chains.{chain_word, place_line, Bounds, Chained, Linked, Heads};
 
-use memo::token_place;
+use memo::lookup::Lookup;
 use model::listing::Listing;
 use words::narrow;
 
-// The word of a token that is in no chain: f says what was found of it.
-fn other_word(f: usize) -> u32
-    ensures { result ≡ other_word f }
-{
-    if f == 0 { 4294967295 } else { 0 }
-}
+// The word of a token without a family.
+const NO_FAMILY: u32 = u32::MAX;
 
+#[tactic(auto, unfolding(crate::specs::Chains::chain_word))]
 fn chain_word(i: usize, next: u16) -> u32
     requires { i ≤ 1024 }
     ensures { result ≡ chain_word i next }
 {
-    ((65536 + i) * 32768 + next as usize) as u32
+    // A cast: the sum has 32 bits, which `TryFrom` would ask again.
+    ((65536 + i) * 32768 + usize::from(next)) as u32
 }
 
-// The token at place p of line i becomes the first of the chain of family c - 1.
+// The token at place p of line i becomes the first of the chain of the family at place c.
 fn link(numbers: &mut [u32], first: &mut [u16], i: usize, p: usize, c: usize)
     requires { (i ≤ 1024) × (p < length numbers.old) × (p < 65536) × (0 < c) × (c ≤ length first.old) }
     ensures { Linked i p c numbers.old numbers.new first.old first.new }
 {
-    let v = chain_word(i, first[c - 1]);
-    numbers[p] = v;
-    let w = narrow(p);
-    first[c - 1] = w;
+    numbers[p] = chain_word(i, first[c - 1]);
+    first[c - 1] = narrow(p);
 }
 
 // The token at place p of line i; those behind it are done.
-fn chain_token(
-    code: &Listing,
-    table: &[u16],
-    count: usize,
-    memo: &mut [usize],
-    numbers: &mut [u32],
-    first: &mut [u16],
-    i: usize,
-    p: usize,
-)
-    requires finds { Finds (listing_of code.now) count table.now × Bounds code.now.lines.now code.now.tokens.now × (i < length code.now.lines.now) × (p < length code.now.tokens.now) × (place_line code.now.lines.now p ≡ i) × Chained code.now.lines.now code.now.tokens.now code.now.text.now count (p + 1) numbers.old first.old }
-    requires memo { Memo (defined_families (listing_of code.now)) memo.old × (128 ≤ length memo.old) }
-    ensures chained { Chained code.now.lines.now code.now.tokens.now code.now.text.now count p numbers.new first.new }
-    ensures memo_2 { Memo (defined_families (listing_of code.now)) memo.new }
+fn chain_token(lookup: &mut Lookup, numbers: &mut [u32], first: &mut [u16], i: usize, p: usize)
+    requires { let code = lookup.old.code in
+        Bounds code.lines.now code.tokens.now × (i < length code.lines.now) × (p < length code.tokens.now) × (place_line code.lines.now p ≡ i) × Chained code.lines.now code.tokens.now code.text.now lookup.old.count (p + 1) numbers.old first.old }
+    ensures chained { let code = lookup.old.code in
+        Chained code.lines.now code.tokens.now code.text.now lookup.old.count p numbers.new first.new }
+    ensures kept { (lookup.new.code ≡ lookup.old.code) × (lookup.new.count ≡ lookup.old.count) }
 {
-    let f = token_place(code, table, count, memo, p);
-    if f < 2 {
-        let v = other_word(f);
-        numbers[p] = v;
-        return;
+    match lookup.token_place(p) {
+        None => numbers[p] = NO_FAMILY,
+        // A register of a family without a definition.
+        Some(0) => numbers[p] = 0,
+        Some(c) => link(numbers, first, i, p, c),
     }
-    link(numbers, first, i, p, f - 1);
 }
 
 // The tokens of line i; those of the lines behind it are done.
-fn chain_line(
-    code: &Listing,
-    table: &[u16],
-    count: usize,
-    memo: &mut [usize],
-    numbers: &mut [u32],
-    first: &mut [u16],
-    i: usize,
-)
-    requires finds { Finds (listing_of code.now) count table.now × Bounds code.now.lines.now code.now.tokens.now × (i < length code.now.lines.now) × Chained code.now.lines.now code.now.tokens.now code.now.text.now count (line_start code.now.lines.now (suc i)) numbers.old first.old }
-    requires memo { Memo (defined_families (listing_of code.now)) memo.old × (128 ≤ length memo.old) }
-    ensures chained { Chained code.now.lines.now code.now.tokens.now code.now.text.now count (line_start code.now.lines.now i) numbers.new first.new }
-    ensures memo_2 { Memo (defined_families (listing_of code.now)) memo.new }
+fn chain_line(lookup: &mut Lookup, numbers: &mut [u32], first: &mut [u16], i: usize)
+    requires { let code = lookup.old.code in
+        Bounds code.lines.now code.tokens.now × (i < length code.lines.now) × Chained code.lines.now code.tokens.now code.text.now lookup.old.count (line_start code.lines.now (suc i)) numbers.old first.old }
+    ensures chained { let code = lookup.old.code in
+        Chained code.lines.now code.tokens.now code.text.now lookup.old.count (line_start code.lines.now i) numbers.new first.new }
+    ensures kept { (lookup.new.code ≡ lookup.old.code) × (lookup.new.count ≡ lookup.old.count) }
 {
-    let s = code.line_start(i);
-    let mut p = code.line_end(i);
-    while s < p {
-        p -= 1;
-        chain_token(code, table, count, memo, numbers, first, i, p);
+    let from = lookup.code.line_start(i);
+    let to = lookup.code.line_end(i);
+    for p in (from..to).rev() {
+        chain_token(lookup, numbers, first, i, p);
     }
 }
 
@@ -93,29 +72,18 @@ fn no_heads(first: &mut [u16], end: usize)
     requires { end < 65536 }
     ensures { Heads end (length first.old) first.new }
 {
-    let v = narrow(end);
-    for k in 0..first.len() {
-        first[k] = v;
-    }
+    first.fill(narrow(end));
 }
 
 // The words of all tokens, and the first place of each family; `first` has no token yet.
-fn chain_lines(
-    code: &Listing,
-    table: &[u16],
-    count: usize,
-    memo: &mut [usize],
-    numbers: &mut [u32],
-    first: &mut [u16],
-)
-    requires finds { Finds (listing_of code.now) count table.now × Bounds code.now.lines.now code.now.tokens.now × Chained code.now.lines.now code.now.tokens.now code.now.text.now count (line_start code.now.lines.now (length code.now.lines.now)) numbers.old first.old }
-    requires memo { Memo (defined_families (listing_of code.now)) memo.old × (128 ≤ length memo.old) }
-    ensures { Chained code.now.lines.now code.now.tokens.now code.now.text.now count 0 numbers.new first.new }
+fn chain_lines(lookup: &mut Lookup, numbers: &mut [u32], first: &mut [u16])
+    requires { let code = lookup.old.code in
+        Bounds code.lines.now code.tokens.now × Chained code.lines.now code.tokens.now code.text.now lookup.old.count (line_start code.lines.now (length code.lines.now)) numbers.old first.old }
+    ensures { let code = lookup.old.code in
+        Chained code.lines.now code.tokens.now code.text.now lookup.old.count 0 numbers.new first.new }
 {
-    let mut i = code.lines.len();
-    while 0 < i {
-        i -= 1;
-        chain_line(code, table, count, memo, numbers, first, i);
+    for i in (0..lookup.code.lines.len()).rev() {
+        chain_line(lookup, numbers, first, i);
     }
 }
 
@@ -130,7 +98,7 @@ pub fn chain_tokens(
     requires { Finds (listing_of code.now) count table.now × Bounds code.now.lines.now code.now.tokens.now × (length numbers.old ≡ length code.now.tokens.now) × (count ≤ length first.old) }
     ensures { Chained code.now.lines.now code.now.tokens.now code.now.text.now count 0 numbers.new first.new }
 {
-    let mut memo = [0usize; 128];
     no_heads(first, code.tokens.len());
-    chain_lines(code, table, count, &mut memo, numbers, first);
+    let mut lookup = Lookup::new(code, table, count);
+    chain_lines(&mut lookup, numbers, first);
 }

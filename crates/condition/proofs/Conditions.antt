@@ -16,7 +16,6 @@ use Rattle.definitions.specs.Lists.{◌>>=◌, require, position, last, starts_w
 use Rattle.definitions.specs.Model.{Line, no_token, token}
 use Rattle.definitions.specs.Statements.{is_kw}
 use Rattle.definitions.specs.Condition.{cut, closing, condition}
-use Rattle.condition.specs.Conditions.{cut_by}
 
 -- The end
 
@@ -71,25 +70,21 @@ module _ (l : Line) (kw : List ℕ) (f : Option ℕ) (e : f ≡ position (is_kw 
     unfolding condition
     condition_past h = rw (← e, q, element_none no_token l.tokens (k + 1) (omega arith))
 
-    module _ (h : k < m) (b : Bool) (o : b ≡ starts_with (ascii " (") (token l (k + 1)).text) where
+    module _ (h : k < m) (b : Bool) (y : b ≡ starts_with (ascii " (") (token l (k + 1)).text) where
       condition_step : condition l kw
           ≡ (require b >>= λ _. closing (token l (n - 1)).text >>= λ z. Some (cut 2 z (drop (k + 1) l.tokens)))
       unfolding condition
       condition_step =
-          rw (← e, q, element_some no_token l.tokens (k + 1) (omega arith), last_some no_token l.tokens (n - 1) (omega arith), ← o)
+          rw (← e, q, element_some no_token l.tokens (k + 1) (omega arith), last_some no_token l.tokens (n - 1) (omega arith), ← y)
 
       pub condition_shut : b ≡ false → None ≡ condition l kw
       condition_shut g = sym (condition_step ∙ rw g)
 
-      module _ (g : b ≡ true) (z : ℕ) (r : cut_by z ≡ closing (token l (n - 1)).text) where
-        pub condition_open : z ≡ 0 → None ≡ condition l kw
+      module _ (g : b ≡ true) (o : Option ℕ) (r : o ≡ closing (token l (n - 1)).text) where
+        pub condition_open : o ≡ None → None ≡ condition l kw
         condition_open i = sym (condition_step ∙ rw (g, ← r, i))
 
-        pub condition_is : (z ≡ 0 → ⊥) → Some (cut 2 z (drop (k + 1) l.tokens)) ≡ condition l kw
-        condition_is i = sym (condition_step ∙ rw (g, ← r) (go z i))
-          where
-            go : (y : ℕ) → (y ≡ 0 → ⊥) → (cut_by y >>= λ w. Some (cut 2 w (drop (k + 1) l.tokens))) ≡ Some (cut 2 y (drop (k + 1) l.tokens))
-            go zero i = absurd (i refl)
-            go (suc y) i = refl
+        pub condition_is : (z : ℕ) → o ≡ Some z → Some (cut 2 z (drop (k + 1) l.tokens)) ≡ condition l kw
+        condition_is z i = sym (condition_step ∙ rw (g, ← r, i))
 
 pub ruleset conditions = (closing_brace, closing_semicolon, closing_none, closes_of, condition_none, condition_past, condition_shut, condition_open, condition_is)

@@ -35,7 +35,7 @@ use Rattle.model.proofs.Decode.{length_listing, length_tokens}
 use Rattle.theory.proofs.Bools.{same_test, and_both, and_split, or_left, or_right, or_cases, not_so, lt_or_ge}
 use Rattle.theory.proofs.ListLaws.{any_found, any_here, member_range, range_member}
 use Rattle.labels.specs.Gotos.{targets_at, goto_line}
-use Rattle.labels.proofs.Leads.{line_tokens, leads_at}
+use Rattle.labels.proofs.Leads.{line_tokens, leads_at, left_falls}
 use Rattle.crossings.specs.Crossed.{goto, gotos, line_gotos, crossed, Marked, Marking}
 
 -- One goto
@@ -175,29 +175,29 @@ module _ (far₀ far : List ℕ) (js ks : List Jump) (M : Marking far₀ far js 
     at = λ k. sym (or-false (crossed far k)) ∙ ap (λ (l : List Jump). crossed far k || any (crosses k) l) (sym e) ∙ M.at k;
   }
 
--- The gotos of line i from the one at place k on
+-- The gotos of line i from the one at the place k on
 
-unfoldable pub gotos_at : List Line → ℕ → List Token → ℕ → ℕ → List Jump
+unfoldable pub gotos_at : List Line → ℕ → List Token → Option ℕ → ℕ → List Jump
 gotos_at L i us k e = gotos i (concat (map to_list (leads_at L us k e)))
 
-pub tokens_start : (l t x : List ℕ) (i s e k : ℕ) (far : List ℕ) → s ≡ line_start l i → e ≡ line_end l t i → targets_at (token_list t x) k e ≡ targets (part s e (token_list t x))
+pub tokens_start : (l t x : List ℕ) (i s e : ℕ) (k : Option ℕ) (far : List ℕ) → s ≡ line_start l i → e ≡ line_end l t i → targets_at (token_list t x) k e ≡ targets (part s e (token_list t x))
     → Marking far far (line_gotos (listing l t x) i) (gotos_at (listing l t x) i (token_list t x) k e)
 unfolding gotos_at line_gotos leads_at jumps
 tokens_start l t x i s e k far p q z =
     marking_start far (line_gotos (listing l t x) i) (gotos_at (listing l t x) i (token_list t x) k e) (rw (line_tokens l t x i, ← p, ← q, z))
 
-module _ (L : List Line) (i : ℕ) (us : List Token) (k e : ℕ) (far₀ far : List ℕ) (js : List Jump) (M : Marking far₀ far js (gotos_at L i us k e)) where
-  pub tokens_next : (next : List ℕ) (m : ℕ) → k < e → Marked far next (gotos i (to_list (goto_line L us (k + 1) e))) → targets_at us m e ≡ targets (part (k + 1) e us)
+module _ (L : List Line) (i : ℕ) (us : List Token) (o : Option ℕ) (e : ℕ) (far₀ far : List ℕ) (js : List Jump) (M : Marking far₀ far js (gotos_at L i us o e)) where
+  pub tokens_next : (next : List ℕ) (m : Option ℕ) (k : ℕ) → o ≡ Some k → Marked far next (gotos i (to_list (goto_line L us (k + 1) e))) → targets_at us m e ≡ targets (part (k + 1) e us)
       → Marking far₀ next js (gotos_at L i us m e)
   unfolding gotos_at leads_at targets_at concat
-  tokens_next next m h N z =
-      marking_next far₀ far js (gotos_at L i us k e) M next (gotos i (to_list (goto_line L us (k + 1) e))) (gotos_at L i us m e)
-      (rw (lt-ltb k e h) (map-append (goto i) (to_list (goto_line L us (k + 1) e)) (concat (map to_list (map (λ t. t >>= label_line L) (targets (part (k + 1) e us)))))
+  tokens_next next m k h N z =
+      marking_next far₀ far js (gotos_at L i us o e) M next (gotos i (to_list (goto_line L us (k + 1) e))) (gotos_at L i us m e)
+      (rw h (map-append (goto i) (to_list (goto_line L us (k + 1) e)) (concat (map to_list (map (λ t. t >>= label_line L) (targets (part (k + 1) e us)))))
       ∙ ap (λ (ts : List (Option (List ℕ))). gotos i (to_list (goto_line L us (k + 1) e)) ++ gotos i (concat (map to_list (map (λ t. t >>= label_line L) ts)))) (sym z))) N
 
-  pub tokens_end : e ≤ k → Marked far₀ far js
+  pub tokens_end : o ≡ None → Marked far₀ far js
   unfolding gotos_at leads_at targets_at concat
-  tokens_end h = marking_end far₀ far js (gotos_at L i us k e) M (rw (le-ltb k e h))
+  tokens_end h = marking_end far₀ far js (gotos_at L i us o e) M (rw h)
 
 -- The gotos of the lines from i on
 
@@ -265,17 +265,17 @@ unfolding jumps concat
 no_jumps l t x e i =
     rw (line_tokens l t x i, no_targets_take (line_end l t i - line_start l i) (drop (line_start l i) (token_list t x)) (no_targets_drop (line_start l i) (token_list t x) e))
 
-pub no_gotos : (l t x : List ℕ) (k n : ℕ) → n ≡ length t → targets_at (token_list t x) k n ≡ targets (part 0 n (token_list t x)) → n ≤ k → all_jumps (listing l t x) ≡ []
+pub no_gotos : (l t x : List ℕ) (k : Option ℕ) → targets_at (token_list t x) k (length t) ≡ targets (part 0 (length t) (token_list t x)) → k ≡ None → all_jumps (listing l t x) ≡ []
 unfolding all_jumps targets_at concat
-no_gotos l t x k n p q h = nothing (up_to (length (listing l t x)))
+no_gotos l t x k q h = nothing (up_to (length (listing l t x)))
   where
     none_at_all : targets (token_list t x) ≡ []
     none_at_all =
-        let z : n ≡ length (token_list t x) = omega (arith, length_tokens t x) in
-        ap targets (sym (part_tail (token_list t x) 0)) ∙ (rw (le-ltb k n h, z) at (sym q))
+        let z : length t ≡ length (token_list t x) = omega (arith, length_tokens t x) in
+        ap targets (sym (part_tail (token_list t x) 0)) ∙ (rw (h, z) at (sym q))
 
     nothing : (is : List ℕ) → concat (map (λ i. map (goto i) (jumps (listing l t x) i)) is) ≡ []
     nothing [] = refl
     nothing (i ∷ is) = rw (no_jumps l t x none_at_all i) (nothing is)
 
-pub ruleset joins = (joined, marked_join, label_inside, token_none, token_some, tokens_start, tokens_next, tokens_end, lines_start, lines_next, lines_end)
+pub ruleset joins = (joined, marked_join, label_inside, token_none, token_some, tokens_start, tokens_next, tokens_end, lines_start, lines_next, lines_end, marked_empty, empty_kept, no_gotos, left_falls)

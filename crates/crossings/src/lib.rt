@@ -4,18 +4,17 @@
 // for each line suffices: the last line that a goto joins it with. Contracts cite `all_jumps` and `crosses` of
 // Rattle.definitions.specs.SplitPoints.
 
-#![tactic(auto)]
+#![tactic(auto, using(crate::proofs::Joins::joins))]
 
 ghost use Rattle.std.specs.Prelude.{◌≡◌, [], ◌∷◌, ℕ, max, min, ◌≤◌, ◌<◌, length, get_or, set};
 ghost use Rattle.definitions.specs.Lists.{to_list, any};
 ghost use Rattle.definitions.specs.SplitPoints.{all_jumps, crosses};
 ghost use Rattle.model.specs.Listings.{listing_of, tokens_of};
-ghost use Rattle.labels.specs.Buckets.{Indexed};
 ghost use Rattle.labels.specs.Gotos.{goto_line};
 ghost use Rattle.crossings.specs.Crossed.{goto, gotos, line_gotos, crossed, Marked};
 
-use labels::gotos::{goto_line, next_goto};
-use labels::index;
+use labels::Labels;
+use labels::gotos::next_goto;
 use model::listing::Listing;
 use words::{narrow, word};
 
@@ -39,50 +38,44 @@ fn mark(far: &mut [u16], i: usize, q: usize)
 }
 
 // A goto of line i, behind which the line's tokens stand from place `from` up to place e, if it leads to a label.
-fn mark_goto(
-    code: &Listing,
-    heads: &[u16],
-    nexts: &[u16],
-    far: &mut [u16],
-    i: usize,
-    from: usize,
-    e: usize,
-)
-    requires in_bounds { (256 ≤ length heads.now) × (length code.now.lines.now ≤ length nexts.now) × (i < length code.now.lines.now) × (length code.now.lines.now ≤ length far.old) × (length far.old ≤ 1024) × (e ≤ length code.now.tokens.now) }
-    requires indexed { Indexed (listing_of code.now) heads.now nexts.now (length code.now.lines.now) }
-    ensures { let L = listing_of code.now in
-        Marked far.old far.new (gotos i (to_list (goto_line L (tokens_of code.now) from e))) }
+fn mark_goto(labels: &Labels, far: &mut [u16], i: usize, from: usize, e: usize)
+    requires { let code = labels.now.code in
+        (i < length code.lines.now) × (length code.lines.now ≤ length far.old) × (length far.old ≤ 1024) × (e ≤ length code.tokens.now) }
+    ensures { let code = labels.now.code in
+        Marked far.old far.new (gotos i (to_list (goto_line (listing_of code) (tokens_of code) from e))) }
 {
-    let Some(q) = goto_line(code, heads, nexts, from, e) else {
-        return;
-    };
-    mark(far, i, q);
+    if let Some(q) = labels.goto_line(from, e) {
+        mark(far, i, q);
+    }
 }
 
 // The gotos of line i.
-fn mark_line(code: &Listing, heads: &[u16], nexts: &[u16], far: &mut [u16], i: usize)
-    requires in_bounds { (256 ≤ length heads.now) × (length code.now.lines.now ≤ length nexts.now) × (i < length code.now.lines.now) × (length code.now.lines.now ≤ length far.old) × (length far.old ≤ 1024) }
-    requires indexed { Indexed (listing_of code.now) heads.now nexts.now (length code.now.lines.now) }
-    ensures { Marked far.old far.new (line_gotos (listing_of code.now) i) }
+fn mark_line(labels: &Labels, far: &mut [u16], i: usize)
+    requires { let code = labels.now.code in
+        (i < length code.lines.now) × (length code.lines.now ≤ length far.old) × (length far.old ≤ 1024) }
+    ensures { Marked far.old far.new (line_gotos (listing_of labels.now.code) i) }
 {
+    let code = labels.code;
     let e = code.line_end(i);
-    let mut k = next_goto(code, code.line_start(i), e);
-    while k < e {
+    // A `while`: it goes from goto to goto, which is no range.
+    let mut goto = next_goto(&code, code.line_start(i), e);
+    while let Some(k) = goto {
         let b = k + 1;
-        mark_goto(code, heads, nexts, far, i, b, e);
-        k = next_goto(code, b, e);
+        mark_goto(labels, far, i, b, e);
+        goto = next_goto(&code, b, e);
     }
 }
 
 // The gotos of every line.
-fn mark_lines(code: &Listing, heads: &[u16], nexts: &[u16], far: &mut [u16])
-    requires in_bounds { (256 ≤ length heads.now) × (length code.now.lines.now ≤ length nexts.now) × (length code.now.lines.now ≤ length far.old) × (length far.old ≤ 1024) }
-    requires indexed { Indexed (listing_of code.now) heads.now nexts.now (length code.now.lines.now) }
-    ensures { Marked far.old far.new (all_jumps (listing_of code.now)) }
+fn mark_lines(labels: &Labels, far: &mut [u16])
+    requires { let code = labels.now.code in
+        (length code.lines.now ≤ length far.old) × (length far.old ≤ 1024) }
+    ensures { Marked far.old far.new (all_jumps (listing_of labels.now.code)) }
 {
-    let n = code.lines.len();
-    for i in 0..n {
-        mark_line(code, heads, nexts, far, i);
+    // A copy, for speed: what is written does not change it, so that it is read once.
+    let labels = *labels;
+    for i in 0..labels.code.lines.len() {
+        mark_line(&labels, far, i);
     }
 }
 
@@ -95,8 +88,8 @@ fn mark_all<const N: usize, const H: usize>(code: &Listing, far: &mut [u16])
 {
     let mut heads = [0u16; H];
     let mut nexts = [0u16; N];
-    index(code, &mut heads, &mut nexts);
-    mark_lines(code, &heads, &nexts, far);
+    let labels = Labels::new(code, &mut heads, &mut nexts);
+    mark_lines(&labels, far);
 }
 
 // The lines that the gotos of a listing cross. The column is empty, and there is an entry for each line. Labels are looked for only where there
@@ -106,8 +99,7 @@ pub fn crossings(code: &Listing, far: &mut [u16])
     requires by_index { (b : ℕ) → get_or far.old b 0 ≡ 0 }
     ensures { (k : ℕ) → crossed far.new k ≡ any (crosses k) (all_jumps (listing_of code.now)) }
 {
-    let n = code.tokens.len();
-    if n <= next_goto(code, 0, n) {
+    if next_goto(code, 0, code.tokens.len()).is_none() {
         return;
     }
     if code.lines.len() <= 64 {

@@ -24,7 +24,6 @@ use Rattle.model.proofs.Decode.{length_listing, length_tokens, line_length}
 use Rattle.model.proofs.Formed.{line_order, line_within, tokens_before, all_tokens_listing}
 use Rattle.bits.specs.Edges.{succs}
 use Rattle.flow.specs.Graph.{Graph, flow_refusal}
-use Rattle.json_append.specs.Appended.{Appended}
 use Rattle.rows.specs.Rows.{rows}
 use Rattle.dot.specs.Dot.{line_text, cells, greatest, start, width, node, edge, edges, settings, drawn, dot_text}
 use Rattle.dot.specs.Held.{Ready, line_cells, widest, line_at, node_at, nodes_at, picture}
@@ -90,10 +89,9 @@ pub picture_is : (l t x N : List ℕ) (f : ℕ → ℕ → Bool) → settings ++
 unfolding picture
 picture_is l t x N f = refl
 
-pub nodes_are : (l t x N : List ℕ) (m : ℕ) (out : List ℕ) (at : ℕ) (out' : List ℕ) (e : ℕ) → m ≡ widest l t x N
-    → Appended out at (rows (node_at l t x N (7 * m)) 0 (length l)) out' e → Appended out at (nodes_at l t x N) out' e
+pub nodes_are : (l t x N : List ℕ) (m : ℕ) → m ≡ widest l t x N → rows (node_at l t x N (7 * m)) 0 (length l) ≡ nodes_at l t x N
 unfolding nodes_at
-nodes_are l t x N m out at out' e q f = rw (← q) f
+nodes_are l t x N m q = rw (← q)
 
 no_graph : (L : List Line) (n : ℕ) (o : Option Blocks) (y : Bool) → (if not (is_some o) then Some 8 else if not y then Some 9 else None) ≡ Some n
     → (o >>= (λ b. require y >>= (λ z. Some (map (successors L b) (up_to (length L)))))) ≡ None
@@ -105,14 +103,14 @@ no_flow : (L : List Line) (n : ℕ) → flow_refusal L ≡ Some n → flow_graph
 unfolding flow_graph flow_refusal
 no_flow L n q = no_graph L n (blocks L) (gotos_lead L) q
 
-module _ (l t x N : List ℕ) (space ranks out out' : List ℕ) (e : ℕ) where
-  pub dot_drawn : (s : List ℕ) → Ready l t x space ranks → Graph (listing l t x) (length l) 17 space s
-      → Appended out 0 (picture l t x N (succs (length l) 17 s)) out' e → Appended out 0 (dot_text (listing l t x) N) out' e
+module _ (l t x N : List ℕ) where
+  pub dot_drawn : (space ranks s : List ℕ) → Ready l t x space ranks → Graph (listing l t x) (length l) 17 space s
+      → picture l t x N (succs (length l) 17 s) ≡ dot_text (listing l t x) N
   unfolding dot_text drawn picture
-  dot_drawn s ready g f =
+  dot_drawn space ranks s ready g =
       let step = edges_same (succs (length l) 17 s) (steps g.graph) (length l) (λ i j a b. g.agree.both i j a b ∙ g.edge i j a b) in
-      rw (g.flow, nodes_same l t x N ready.cover, length_listing l t x, ← step) f
+      rw (g.flow, nodes_same l t x N ready.cover, length_listing l t x, ← step)
 
-  pub dot_none : (n : ℕ) → Some n ≡ flow_refusal (listing l t x) → Appended out 0 [] out' e → Appended out 0 (dot_text (listing l t x) N) out' e
+  pub dot_none : (n : ℕ) → Some n ≡ flow_refusal (listing l t x) → [] ≡ dot_text (listing l t x) N
   unfolding dot_text drawn
-  dot_none n q f = rw (no_flow (listing l t x) n (sym q)) f
+  dot_none n q = rw (no_flow (listing l t x) n (sym q))

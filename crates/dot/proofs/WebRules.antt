@@ -32,7 +32,7 @@ pub web_is : (N : List ℕ) (k w : ℕ) → w ≡ get_or N k 0 → not (eqb w 42
 unfolding has_web
 web_is N k w q = rw q
 
-module _ (T : Token) (s : List ℕ) (a : ℕ) (r : Register) (text : s ≡ T.text) (kind : a ≡ T.kind) (family : family_of s r ≡ fam_of (tok s a)) where
+module _ (T : Token) (s : List ℕ) (a : ℕ) (r : Option Register) (text : s ≡ T.text) (kind : a ≡ T.kind) (family : family_of s r ≡ fam_of (tok s a)) where
   pub family_is : family_of s r ≡ fam_of T
   family_is = family ∙ rw (text, kind)
 

@@ -1,107 +1,100 @@
 // Texts as a label has them, and a token in the colour of its web. Each function takes time linear in what it writes.
 //
-// Contracts: `Appended` of Rattle.json_append.specs.Appended, of the texts of specs/Dot.antt.
-ghost use Rattle.std.specs.Prelude.{◌≡◌, ◌+◌, ◌%◌};
-ghost use Rattle.json_append.specs.Appended.{Appended};
+// Contracts: `Wrote` of Rattle.json_append.specs.Appended, of the texts of specs/Dot.antt.
+#![tactic(auto, using(crate::proofs::LabelRules::labels), unfolding(crate::specs::Dot::digit, crate::specs::Dot::hue, crate::specs::Dot::font, crate::specs::Dot::below, crate::specs::Dot::web_text))]
+
+ghost use Rattle.std.specs.Prelude.{◌++◌};
+ghost use Rattle.json_definitions.specs.Writer.{decimal};
+ghost use Rattle.json_append.specs.Appended.{Wrote};
 ghost use Rattle.dot.specs.Dot.{character, characters, digit, hue, font, below, web_text, blanks};
 
-use json_append::bytes::{put, put_byte};
-use json_append::values::put_decimal;
-
-pub fn wide(x: usize) -> u64
-    ensures { result ≡ x }
-{
-    x as u64
-}
+use json_append::writer::Writer;
 
 // One byte of a text.
-fn put_character(out: &mut [u8], at: usize, c: u8) -> usize
-    ensures { Appended out.old at (character c) out.new result }
+#[tactic(auto, using(crate::proofs::LabelRules::labels), unfolding(crate::specs::Dot::character))]
+fn put_character(to: &mut Writer, c: u8)
+    ensures { Wrote to.old (character c) to.new }
 {
-    if c <= b' ' {
-        return put(out, at, b"&nbsp;");
+    match c {
+        0..=b' ' => to.put(b"&nbsp;"),
+        b'"' => to.put(b"&quot;"),
+        b'&' => to.put(b"&amp;"),
+        b'<' => to.put(b"&lt;"),
+        b'>' => to.put(b"&gt;"),
+        _ => to.put_byte(c),
     }
-    if c == b'"' {
-        return put(out, at, b"&quot;");
-    }
-    if c == b'&' {
-        return put(out, at, b"&amp;");
-    }
-    if c == b'<' {
-        return put(out, at, b"&lt;");
-    }
-    if c == b'>' {
-        return put(out, at, b"&gt;");
-    }
-    put_byte(out, at, c)
 }
 
-pub fn put_characters(out: &mut [u8], at: usize, s: &[u8]) -> usize
-    ensures { Appended out.old at (characters s.now) out.new result }
+pub fn put_characters(to: &mut Writer, s: &[u8])
+    ensures { Wrote to.old (characters s.now) to.new }
 {
-    let mut to = at;
-    for j in 0..s.len() {
-        to = put_character(out, to, s[j]);
+    for c in s {
+        put_character(to, *c);
     }
-    to
+}
+
+// The number n in decimal, with a text before it and one behind.
+pub fn put_between(to: &mut Writer, before: &[u8], n: usize, after: &[u8])
+    ensures { Wrote to.old (before.now ++ (decimal n ++ after.now)) to.new }
+{
+    to.put(before);
+    // A cast: std has no `From` of `usize` to 64 bits.
+    to.put_decimal(n as u64);
+    to.put(after);
 }
 
 // The blanks before a line with indent d.
-pub fn put_blanks(out: &mut [u8], at: usize, d: usize) -> usize
-    ensures { Appended out.old at (blanks d) out.new result }
+pub fn put_blanks(to: &mut Writer, d: usize)
+    ensures { Wrote to.old (blanks d) to.new }
 {
-    let mut to = at;
     for i in 0..d {
-        to = put(out, to, b"&nbsp;&nbsp;&nbsp;&nbsp;");
+        to.put(b"&nbsp;&nbsp;&nbsp;&nbsp;");
     }
-    to
-}
-
-fn narrow(n: usize) -> u8
-    ensures { result ≡ 48 + n % 10 }
-{
-    ((n % 10) as u8) + 0x30
 }
 
 // The last digit of n.
-fn put_digit(out: &mut [u8], at: usize, n: usize) -> usize
-    ensures { Appended out.old at (digit n) out.new result }
+fn put_digit(to: &mut Writer, n: usize)
+    ensures { Wrote to.old (digit n) to.new }
 {
-    put_byte(out, at, narrow(n))
+    // A cast: a remainder by 10 is a byte.
+    to.put_byte(b'0' + (n % 10) as u8);
 }
 
-fn put_hue(out: &mut [u8], at: usize, c: usize) -> usize
-    ensures { Appended out.old at (hue c) out.new result }
+fn put_hue(to: &mut Writer, c: usize)
+    ensures { Wrote to.old (hue c) to.new }
 {
     let h = c % 100000 * 61803 % 100000;
-    let a = put_digit(out, at, h / 10000);
-    let b = put_digit(out, a, h / 1000);
-    let d = put_digit(out, b, h / 100);
-    let e = put_digit(out, d, h / 10);
-    put_digit(out, e, h)
+    put_digit(to, h / 10000);
+    put_digit(to, h / 1000);
+    put_digit(to, h / 100);
+    put_digit(to, h / 10);
+    put_digit(to, h);
 }
 
-fn put_font(out: &mut [u8], at: usize, c: usize) -> usize
-    ensures { Appended out.old at (font c) out.new result }
+fn put_font(to: &mut Writer, c: usize)
+    ensures { Wrote to.old (font c) to.new }
 {
-    let a = put(out, at, b"<font color=\"0.");
-    let b = put_hue(out, a, c);
-    put(out, b, b" 0.9 0.6\">")
+    to.put(b"<font color=\"0.");
+    put_hue(to, c);
+    to.put(b" 0.9 0.6\">");
 }
 
-fn put_below(out: &mut [u8], at: usize, w: usize) -> usize
-    ensures { Appended out.old at (below w) out.new result }
+fn put_below(to: &mut Writer, w: usize)
+    ensures { Wrote to.old (below w) to.new }
 {
-    let a = put(out, at, b"<sub><font point-size=\"8\">");
-    let b = put_decimal(out, a, wide(w));
-    put(out, b, b"</font></sub></font>")
+    put_between(
+        to,
+        b"<sub><font point-size=\"8\">",
+        w,
+        b"</font></sub></font>",
+    );
 }
 
 // The text s in colour c, with the web's number w.
-pub fn put_web(out: &mut [u8], at: usize, c: usize, s: &[u8], w: usize) -> usize
-    ensures { Appended out.old at (web_text c s.now w) out.new result }
+pub fn put_web(to: &mut Writer, c: usize, s: &[u8], w: usize)
+    ensures { Wrote to.old (web_text c s.now w) to.new }
 {
-    let a = put_font(out, at, c);
-    let b = put_characters(out, a, s);
-    put_below(out, b, w)
+    put_font(to, c);
+    put_characters(to, s);
+    put_below(to, w);
 }

@@ -1,149 +1,114 @@
 // The lines as nodes. Each function takes time linear in what it writes.
 //
-// Contracts: `Appended` of Rattle.json_append.specs.Appended, of the texts of specs/Dot.antt.
+// Contracts: `Wrote` of Rattle.json_append.specs.Appended, of the texts of specs/Dot.antt.
+#![tactic(auto, using(crate::proofs::NodeRules::nodes), unfolding(crate::specs::Dot::node_head, crate::specs::Dot::number_cell, crate::specs::Dot::text_cell, crate::specs::Dot::node_start, crate::specs::Held::node_at, crate::specs::Dot::node_text))]
+
 ghost use Rattle.std.specs.Prelude.{◌<◌, length};
 ghost use Rattle.model.specs.Places.{line_start, line_end};
 ghost use Rattle.model.specs.Listings.{tokens_of};
-ghost use Rattle.json_append.specs.Appended.{Appended};
+ghost use Rattle.json_append.specs.Appended.{Wrote};
 ghost use Rattle.rows.specs.Rows.{rows};
 ghost use Rattle.dot.specs.Dot.{token_text, node_head, number_cell, text_cell, node_start};
 ghost use Rattle.dot.specs.Held.{Ranked, line_at, node_at};
 
-use crate::node_labels::{put_blanks, put_characters, put_web, wide};
+use crate::node_labels::{put_between, put_blanks, put_characters, put_web};
 use crate::webs::has_web;
-use json_append::bytes::put;
-use json_append::values::put_decimal;
+use json_append::writer::Writer;
 use model::listing::Listing;
 
-// Token k of all.
-fn put_token(
-    out: &mut [u8],
-    at: usize,
-    code: &Listing,
-    numbers: &[u32],
-    ranks: &[u32],
-    k: usize,
-) -> usize
-    requires { Ranked (tokens_of code.now) numbers.now (length code.now.tokens.now) ranks.now × (k < length code.now.tokens.now) }
-    ensures { Appended out.old at (token_text (tokens_of code.now) numbers.now k) out.new result }
+fn put_head(to: &mut Writer, i: usize)
+    ensures { Wrote to.old (node_head i) to.new }
 {
-    let s = code.token_text(k);
-    if has_web(numbers, k) {
-        let f = text::word(ranks, k) / 32768;
-        let c = text::word(ranks, f) % 32768;
-        return put_web(out, at, c, s, text::word(numbers, k));
-    }
-    put_characters(out, at, s)
+    put_between(to, b"  ", i, b" [label=<<table border=\"0\"><tr>");
 }
 
-// The tokens of line i.
-fn put_tokens(
-    out: &mut [u8],
-    at: usize,
-    code: &Listing,
-    numbers: &[u32],
-    ranks: &[u32],
-    i: usize,
-) -> usize
-    requires { Ranked (tokens_of code.now) numbers.now (length code.now.tokens.now) ranks.now }
-    ensures { Appended out.old at
-        (rows (token_text (tokens_of code.now) numbers.now) (line_start code.now.lines.now i) (line_end code.now.lines.now code.now.tokens.now i))
-        out.new result }
+fn put_number_cell(to: &mut Writer, i: usize)
+    ensures { Wrote to.old (number_cell i) to.new }
 {
-    let end = code.line_end(i);
-    let mut to = at;
-    for k in code.line_start(i)..end {
-        to = put_token(out, to, code, numbers, ranks, k);
-    }
-    to
-}
-
-fn put_head(out: &mut [u8], at: usize, i: usize) -> usize
-    ensures { Appended out.old at (node_head i) out.new result }
-{
-    let a = put(out, at, b"  ");
-    let b = put_decimal(out, a, wide(i));
-    put(out, b, b" [label=<<table border=\"0\"><tr>")
-}
-
-fn put_number_cell(out: &mut [u8], at: usize, i: usize) -> usize
-    ensures { Appended out.old at (number_cell i) out.new result }
-{
-    let a = put(
-        out,
-        at,
+    put_between(
+        to,
         b"<td align=\"right\" width=\"24\"><font color=\"gray50\">",
+        i,
+        b"</font></td>",
     );
-    let b = put_decimal(out, a, wide(i));
-    put(out, b, b"</font></td>")
 }
 
-fn put_text_cell(out: &mut [u8], at: usize, w: usize) -> usize
-    ensures { Appended out.old at (text_cell w) out.new result }
+fn put_text_cell(to: &mut Writer, w: usize)
+    ensures { Wrote to.old (text_cell w) to.new }
 {
-    let a = put(out, at, b"<td align=\"left\" width=\"");
-    let b = put_decimal(out, a, wide(w));
-    put(out, b, b"\">")
+    put_between(to, b"<td align=\"left\" width=\"", w, b"\">");
 }
 
-fn put_start(out: &mut [u8], at: usize, w: usize, i: usize) -> usize
-    ensures { Appended out.old at (node_start w i) out.new result }
+// What stands before the text of line i, which is w points wide.
+fn put_start(to: &mut Writer, w: usize, i: usize)
+    ensures { Wrote to.old (node_start w i) to.new }
 {
-    let a = put_head(out, at, i);
-    let b = put_number_cell(out, a, i);
-    put_text_cell(out, b, w)
+    put_head(to, i);
+    put_number_cell(to, i);
+    put_text_cell(to, w);
 }
 
-// The label's text.
-fn put_line(
-    out: &mut [u8],
-    at: usize,
-    code: &Listing,
-    numbers: &[u32],
-    ranks: &[u32],
-    i: usize,
-) -> usize
-    requires { Ranked (tokens_of code.now) numbers.now (length code.now.tokens.now) ranks.now }
-    ensures { Appended out.old at (line_at code.now.lines.now code.now.tokens.now code.now.text.now numbers.now i) out.new result }
-{
-    let a = put_blanks(out, at, code.indent(i));
-    put_tokens(out, a, code, numbers, ranks, i)
+// A listing, the web numbers of its tokens, and their ranks.
+#[derive(Clone, Copy)]
+pub struct Numbered<'a> {
+    pub code: &'a Listing<'a>,
+    pub numbers: &'a [u32],
+    pub ranks: &'a [u32],
+    ghost ranked: { Ranked (tokens_of code.now) numbers.now (length code.now.tokens.now) ranks.now },
 }
 
-// Line i, its text w points wide.
-fn put_node(
-    out: &mut [u8],
-    at: usize,
-    code: &Listing,
-    numbers: &[u32],
-    ranks: &[u32],
-    w: usize,
-    i: usize,
-) -> usize
-    requires { Ranked (tokens_of code.now) numbers.now (length code.now.tokens.now) ranks.now }
-    ensures { Appended out.old at (node_at code.now.lines.now code.now.tokens.now code.now.text.now numbers.now w i) out.new result }
-{
-    let a = put_start(out, at, w, i);
-    let b = put_line(out, a, code, numbers, ranks, i);
-    put(out, b, b"</td></tr></table>>]\n")
-}
-
-// All lines.
-pub fn put_nodes(
-    out: &mut [u8],
-    at: usize,
-    code: &Listing,
-    numbers: &[u32],
-    ranks: &[u32],
-    w: usize,
-) -> usize
-    requires { Ranked (tokens_of code.now) numbers.now (length code.now.tokens.now) ranks.now }
-    ensures { Appended out.old at
-        (rows (node_at code.now.lines.now code.now.tokens.now code.now.text.now numbers.now w) 0 (length code.now.lines.now)) out.new result }
-{
-    let mut to = at;
-    for i in 0..code.lines.len() {
-        to = put_node(out, to, code, numbers, ranks, w, i);
+impl Numbered<'_> {
+    // Token k of all.
+    fn put_token(&self, to: &mut Writer, k: usize)
+        requires { k < length self.now.code.now.tokens.now }
+        ensures { Wrote to.old (token_text (tokens_of self.now.code.now) self.now.numbers.now k) to.new }
+    {
+        let s = self.code.token_text(k);
+        if has_web(self.numbers, k) {
+            let f = text::word(self.ranks, k) / 32768;
+            let c = text::word(self.ranks, f) % 32768;
+            put_web(to, c, s, text::word(self.numbers, k));
+        } else {
+            put_characters(to, s);
+        }
     }
-    to
+
+    // The tokens of line i.
+    fn put_tokens(&self, to: &mut Writer, i: usize)
+        ensures { Wrote to.old
+            (rows (token_text (tokens_of self.now.code.now) self.now.numbers.now) (line_start self.now.code.now.lines.now i) (line_end self.now.code.now.lines.now self.now.code.now.tokens.now i))
+            to.new }
+    {
+        let end = self.code.line_end(i);
+        for k in self.code.line_start(i)..end {
+            self.put_token(to, k);
+        }
+    }
+
+    // The label's text.
+    fn put_line(&self, to: &mut Writer, i: usize)
+        ensures { Wrote to.old (line_at self.now.code.now.lines.now self.now.code.now.tokens.now self.now.code.now.text.now self.now.numbers.now i) to.new }
+    {
+        put_blanks(to, self.code.indent(i));
+        self.put_tokens(to, i);
+    }
+
+    // Line i, its text w points wide.
+    fn put_node(&self, to: &mut Writer, w: usize, i: usize)
+        ensures { Wrote to.old (node_at self.now.code.now.lines.now self.now.code.now.tokens.now self.now.code.now.text.now self.now.numbers.now w i) to.new }
+    {
+        put_start(to, w, i);
+        self.put_line(to, i);
+        to.put(b"</td></tr></table>>]\n");
+    }
+
+    // All lines.
+    pub fn put_nodes(&self, to: &mut Writer, w: usize)
+        ensures { Wrote to.old
+            (rows (node_at self.now.code.now.lines.now self.now.code.now.tokens.now self.now.code.now.text.now self.now.numbers.now w) 0 (length self.now.code.now.lines.now)) to.new }
+    {
+        for i in 0..self.code.lines.len() {
+            self.put_node(to, w, i);
+        }
+    }
 }

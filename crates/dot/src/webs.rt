@@ -14,7 +14,7 @@ ghost use Rattle.dot.specs.Held.{Ranked};
 use family::{Register, fam_of, same_family};
 use model::listing::Listing;
 
-// The number of a token without a family.
+// The number of a token without a family, as the calls answer it: C's columns have no `Option`.
 const NO_FAMILY: usize = 4294967295;
 
 pub fn has_web(numbers: &[u32], k: usize) -> bool
@@ -24,7 +24,7 @@ pub fn has_web(numbers: &[u32], k: usize) -> bool
 }
 
 // Token p is of the family that the answer r gives the text u.
-fn same_name(code: &Listing, p: usize, u: &[u8], r: Register) -> bool
+fn same_name(code: &Listing, p: usize, u: &[u8], r: Option<Register>) -> bool
     ensures { result ≡ same_name (fam_of (get_or (tokens_of code.now) p no_token)) (family_of u.now r) }
 {
     let s = code.token_text(p);
@@ -32,7 +32,14 @@ fn same_name(code: &Listing, p: usize, u: &[u8], r: Register) -> bool
 }
 
 // Tokens p and k are of one web; the answer r gives the text u the family of token k.
-fn same_web(code: &Listing, numbers: &[u32], k: usize, u: &[u8], r: Register, p: usize) -> bool
+fn same_web(
+    code: &Listing,
+    numbers: &[u32],
+    k: usize,
+    u: &[u8],
+    r: Option<Register>,
+    p: usize,
+) -> bool
     requires { family_of u.now r ≡ fam_of (get_or (tokens_of code.now) k no_token) }
     ensures { result ≡ same_web (tokens_of code.now) numbers.now k p }
 {
@@ -69,11 +76,12 @@ fn counted(c: usize, yes: bool) -> usize
     if yes { c + 1 } else { c }
 }
 
-// The rank of a token: the first token of its web, and how many webs appear before the token.
+// The rank of a token: the first token of its web, and how many webs appear before the token. Both in one word, since callers lend a word a token.
 fn packed(f: usize, c: usize) -> u32
     requires { (f < 16384) × (c < 16384) }
     ensures { result ≡ f * 32768 + c }
 {
+    // A cast: the sum has 32 bits, which `TryFrom` would ask again.
     (f * 32768 + c) as u32
 }
 

@@ -1,12 +1,11 @@
 -- The condition of a header, by its kind.
 --   leading_one, leading_is      a piece that is no leading test; one that is
---   remainder                    the kind modulo 4
 --   test_one, test_leading, test_guard    by the kind of the header
 -- Assumes nothing.
 use Rattle.std.specs.Prelude.{Option, Some, None}
 use mathlib.Core.Path.{◌≡◌, refl, sym, ap, ◌∙◌}
 use mathlib.Core.List.{List, []}
-use Prim.Native.Nat.{ℕ, zero, suc, ◌%◌, ◌<◌}
+use Prim.Native.Nat.{ℕ, zero, suc, ◌<◌}
 use native.Mathlib.Omega.{arith}
 use Rattle.definitions.specs.Lists.{or_else, ascii}
 use Rattle.definitions.specs.Model.{Line, line}
@@ -24,9 +23,6 @@ module _ (C : List Line) (p : ℕ) (r : Option ℕ) (e : leading (origin C p) r 
   pub leading_is : (g : ℕ) → r ≡ Some g → negate_cond (test (origin C p) g) ≡ or_else (leading_test (piece C p) 0) one
   leading_is g q = ap (λ o. or_else o one) (sym (ap (leading (origin C p)) q) ∙ e)
 
-pub remainder : {h k n : ℕ} → h ≡ k → h % 4 ≡ n → k % 4 ≡ n
-remainder e q = ap (λ h. h % 4) (sym e) ∙ q
-
 module _ (C : List Line) (h s t : ℕ) where
   pub test_one : h ≡ 2 → one ≡ test_read C h s t
   unfolding test_read
@@ -36,12 +32,10 @@ module _ (C : List Line) (h s t : ℕ) where
   unfolding test_read
   test_leading e q u = rw (e, u)
 
-  pub test_guard : h < 4 → (h ≡ 2 → ⊥) → (h ≡ 3 → ⊥) → (i : ℕ) → i ≡ s → or_else (condition (line C i) (ascii "if")) [] ≡ test_read C h s t
-  test_guard l m n i u = ap (λ j. or_else (condition (line C j) (ascii "if")) []) u ∙ go h l m n
+  pub test_guard : h < 2 → (i : ℕ) → i ≡ s → or_else (condition (line C i) (ascii "if")) [] ≡ test_read C h s t
+  test_guard l i u = ap (λ j. or_else (condition (line C j) (ascii "if")) []) u ∙ go h l
     where
-      go : (h : ℕ) → h < 4 → (h ≡ 2 → ⊥) → (h ≡ 3 → ⊥) → or_else (condition (line C s) (ascii "if")) [] ≡ test_read C h s t
-      go zero l m n = unfold test_read in refl
-      go (suc zero) l m n = unfold test_read in refl
-      go (suc (suc zero)) l m n = absurd (m refl)
-      go (suc (suc (suc zero))) l m n = absurd (n refl)
-      go (suc (suc (suc (suc h)))) l m n = absurd (omega arith)
+      go : (h : ℕ) → h < 2 → or_else (condition (line C s) (ascii "if")) [] ≡ test_read C h s t
+      go zero l = unfold test_read in refl
+      go (suc zero) l = unfold test_read in refl
+      go (suc (suc h)) l = absurd (omega arith)

@@ -5,6 +5,7 @@
 --   word_sound, emitted_next, emitted_end    the lines before place i are done
 -- Assumes nothing.
 use Rattle.std.specs.Prelude.{Option, None}
+use mathlib.Core.Logic.{◌⊎◌}
 use mathlib.Core.Path.{◌≡◌, refl, sym, ap, ap₂, subst, ◌∙◌}
 use mathlib.Core.Bool.{Bool, true, false, ◌&&◌, ◌||◌, or-true}
 use mathlib.Core.List.{List, [], ◌∷◌, ◌++◌, append_assoc}
@@ -14,7 +15,7 @@ use native.Mathlib.Numerals.{add-one}
 use borrow.Author.Tests.{eqb-true, leb-true}
 use lib.Dec.{eqb, leb}
 use lib.ListN.{length, take, get_or}
-use lib.Seq.{take-suc, get_or-take, length-take-le}
+use lib.Seq.{take-suc, take_all}
 use Rattle.definitions.specs.Lists.{all, or_else, ascii}
 use Rattle.definitions.specs.Model.{Token, Line, pseudo_line, line}
 use Rattle.definitions.specs.Columns.{listing, with_addresses}
@@ -23,14 +24,19 @@ use Rattle.definitions.specs.Condition.{condition}
 use Rattle.definitions.specs.ToFor.{for_head}
 use Rattle.definitions.specs.Passes.{while_head}
 use Rattle.definitions.specs.RecoverGotoLoops.{leading_test, one}
-use Rattle.definitions.specs.Calls.{Columns}
 use Rattle.loop_theory.proofs.Cases.{and_split}
 use Rattle.write.specs.State.{done, end_line}
-use Rattle.write.specs.Holds.{columns, Holds, Writes}
-use Rattle.write.specs.declared.Cursor.{Cursor}
+use Rattle.write.specs.Holds.{columns_of, Holds, Writes}
+use Rattle.write.specs.declared.Writer.{Writer}
+use Rattle.write.proofs.Steps.{same_more}
 use Rattle.plan.specs.Plan.{Form, Form.kept, Form.continued, Form.broken, Form.closed, Piece, Test, Test.guard, Test.always, Test.leading, Header, Header.no_header, Header.while_over, Header.for_over, form_of, form_tokens, piece_of, piece_tokens, test_tokens, while_tokens, header_tokens, header_of, indent_at, header_at, piece_at, test_at, initialiser_at, step_at, planned, plan_of, line_of, render}
 use Rattle.plan.specs.Changes.{is_loop, is_plain, is_line, is_goto}
 use Rattle.plan.specs.Source.{Source}
+use Rattle.plan.specs.Headers.{Says}
+use Rattle.plan.specs.declared.headers.Test.{Test as Asked}
+use Rattle.plan.specs.declared.headers.Test.TheVariants.{Guard, Always, Leading}
+use Rattle.plan.specs.declared.headers.Header.TheVariants.{NoHeader, While, For}
+use Rattle.plan.proofs.Numbers.{no_number, guard_number, while_number, for_number}
 use Rattle.plan.proofs.Maps.{map_append}
 use Rattle.plan.proofs.Rendered.{kept_line, guard_line}
 use Rattle.plan.proofs.Sources.{columns_source}
@@ -38,7 +44,7 @@ use Rattle.pieces.specs.Pieces.{piece}
 use Rattle.append.specs.Adds.{opened, Adding}
 use Rattle.append.proofs.Appends.{adds_more}
 use Rattle.append_pieces.specs.Dressed.{dressed}
-use Rattle.emit.specs.Lines.{is_sound, test_read, for_start, for_end, Begins, LineAdded}
+use Rattle.emit.specs.Lines.{is_sound, test_read, for_start, for_end, Begins, LineAdded, Emits}
 
 -- The condition of a header
 
@@ -91,44 +97,51 @@ for_shape a c z = ap merge (simp append_assoc)
 
 -- The tokens of a word's line
 
-module _ {ts us : List Token} {t x t' x' : List ℕ} {c c' : Cursor} where
-  begins_plain : us ≡ ts → Adding false us t x c t' x' c' → Begins ts t x c t' x' c'
-  begins_plain e a = record { begins = λ l b M g. subst (λ v. Holds (opened M v) (columns l b t' x') c') e ((a l b).adds M [] g) }
+module _ {ts us : List Token} {u v : Writer} where
+  begins_plain : us ≡ ts → Adding false us u v → Begins ts u v
+  begins_plain e a = record {
+    same = a.same;
+    begins = λ M g. subst (λ ys. Holds (opened M ys) (columns_of v) v.written) e (a.adds M [] g);
+  }
 
-  begins_merged : merge us ≡ ts → Adding true us t x c t' x' c' → Begins ts t x c t' x' c'
-  begins_merged e a = record { begins = λ l b M g. subst (λ v. Holds (opened M v) (columns l b t' x') c') e ((a l b).adds M [] (unfold merge in g)) }
+  begins_merged : merge us ≡ ts → Adding true us u v → Begins ts u v
+  begins_merged e a = record {
+    same = a.same;
+    begins = λ M g. subst (λ ys. Holds (opened M ys) (columns_of v) v.written) e (a.adds M [] (unfold merge in g));
+  }
 
-module _ (C : List Line) (w : ℕ) (k : is_sound w ≡ true) (h : ℕ) (p : h ≡ header_at w) {t x t' x' : List ℕ} {c c' : Cursor} where
-  pub begins_piece : h ≡ 0 → (s : ℕ) → s ≡ piece_at w → Adding false (dressed false (piece C s).tokens) t x c t' x' c' → Begins (line_of C w).tokens t x c t' x' c'
-  begins_piece z s u a = begins_plain (ap (λ q. (piece C q).tokens) u ∙ sym (ap (λ m. m.tokens) (kept_line C w (sym p ∙ z)))) a
+module _ (C : List Line) (w : ℕ) (k : is_sound w ≡ true) {out out' : Writer} where
+  pub begins_piece : Says w NoHeader → (s : ℕ) → s ≡ piece_at w → Adding false (dressed false (piece C s).tokens) out out' → Begins (line_of C w).tokens out out'
+  begins_piece y s u a = begins_plain (ap (λ q. (piece C q).tokens) u ∙ sym (ap (λ m. m.tokens) (kept_line C w (no_number w y)))) a
 
-  module _ (n : h ≡ 0 → ⊥) where
-    pub begins_guard : h ≡ 1 → (s : ℕ) → s ≡ piece_at w / 4 → Adding false (while_head (or_else (condition (line C s) (ascii "if")) [])) t x c t' x' c'
-        → Begins (line_of C w).tokens t x c t' x' c'
-    begins_guard z s u a =
-        begins_plain
-        (ap (λ i. while_head (or_else (condition (line C i) (ascii "if")) [])) u
-        ∙ sym (ap (λ m. m.tokens) (guard_line w (sym p ∙ z) C) ∙ ap while_head (guard_read C (piece_at w) (guarded w k (λ q. n (p ∙ q)) (omega arith))))) a
+  pub begins_guard : (t : Asked) → Says w (While t) → t ≡ Guard → (s : ℕ) → s ≡ piece_at w / 4
+      → Adding false (while_head (or_else (condition (line C s) (ascii "if")) [])) out out' → Begins (line_of C w).tokens out out'
+  begins_guard t y e s u a =
+      let z : header_at w ≡ 1 = guard_number w t y e in
+      begins_plain
+      (ap (λ i. while_head (or_else (condition (line C i) (ascii "if")) [])) u
+      ∙ sym (ap (λ m. m.tokens) (guard_line w z C) ∙ ap while_head (guard_read C (piece_at w) (guarded w k (λ q. omega arith) (omega arith))))) a
 
-    module _ (o : h ≡ 1 → ⊥) where
-      pub begins_while : h < 4 → Adding true (while_head (test_read C (header_at w % 4) (piece_at w / 4) (test_at w))) t x c t' x' c'
-          → Begins (line_of C w).tokens t x c t' x' c'
-      begins_while l a =
-          begins_merged
-          (sym (while_read C (piece_at w) (test_at w) (piece_of (initialiser_at w)) (piece_of (step_at w)) (header_at w) (λ q. n (p ∙ q)) (λ q. o (p ∙ q)) (omega arith))
-          ∙ header_line C w) a
+  pub begins_while : (t : Asked) → Says w (While t) → (t ≡ Always) ⊎ (t ≡ Leading) → Adding true (while_head (test_read C (header_at w % 4) (piece_at w / 4) (test_at w))) out out'
+      → Begins (line_of C w).tokens out out'
+  begins_while t y n a =
+      let z = while_number w t y n in
+      begins_merged
+      (sym (while_read C (piece_at w) (test_at w) (piece_of (initialiser_at w)) (piece_of (step_at w)) (header_at w) (λ q. omega (arith, z.0)) (λ q. omega (arith, z.0)) z.1)
+      ∙ header_line C w) a
 
-      pub begins_for : {t₁ x₁ : List ℕ} {c₁ : Cursor} → 4 ≤ h → Adding true (for_start (piece C (initialiser_at w)).tokens) t x c t₁ x₁ c₁
-          → Adding true (for_end (test_read C (header_at w % 4) (piece_at w / 4) (test_at w)) (piece C (step_at w)).tokens) t₁ x₁ c₁ t' x' c'
-          → Begins (line_of C w).tokens t x c t' x' c'
-      begins_for l a b =
-          let i = (piece C (initialiser_at w)).tokens in
-          let d = test_read C (header_at w % 4) (piece_at w / 4) (test_at w) in
-          let z = (piece C (step_at w)).tokens in
-          let e : merge (for_start i ++ for_end d z) ≡ (line_of C w).tokens =
-          for_shape i d z
-          ∙ (sym (for_read C (piece_at w) (test_at w) (piece_of (initialiser_at w)) (piece_of (step_at w)) (header_at w) (omega arith) (omega arith) (guarded w k (λ q. n (p ∙ q)))) ∙ header_line C w) in
-          begins_merged e (λ r s. adds_more (for_start i) (for_end d z) (a r s) (b r s))
+  pub begins_for : {out₁ : Writer} (t : Asked) → Says w (For t) → Adding true (for_start (piece C (initialiser_at w)).tokens) out out₁
+      → Adding true (for_end (test_read C (header_at w % 4) (piece_at w / 4) (test_at w)) (piece C (step_at w)).tokens) out₁ out'
+      → Begins (line_of C w).tokens out out'
+  begins_for t y a b =
+      let l : 4 ≤ header_at w = for_number w t y in
+      let i = (piece C (initialiser_at w)).tokens in
+      let d = test_read C (header_at w % 4) (piece_at w / 4) (test_at w) in
+      let z = (piece C (step_at w)).tokens in
+      let e : merge (for_start i ++ for_end d z) ≡ (line_of C w).tokens =
+      for_shape i d z
+      ∙ (sym (for_read C (piece_at w) (test_at w) (piece_of (initialiser_at w)) (piece_of (step_at w)) (header_at w) l (omega arith) (guarded w k (λ q. omega arith))) ∙ header_line C w) in
+      begins_merged e (adds_more (for_start i) (for_end d z) a b)
 
 -- Lines
 
@@ -171,28 +184,28 @@ line_parts : (S : List Line) (w : ℕ) → line_of S w ≡ pseudo_line (line S (
 unfolding planned plan_of
 line_parts S w = refl
 
-pub line_ended : (l a t x : List ℕ) (w : ℕ) → length a ≡ length l → (r p t₀ x₀ t₁ x₁ : List ℕ) (c d : Cursor)
-    → Begins (line_of (listing l t x) w).tokens t₀ x₀ c t₁ x₁ d
+pub line_ended : (l a t x : List ℕ) (w : ℕ) → length a ≡ length l → {out₀ out₁ out₂ : Writer}
+    → Begins (line_of (listing l t x) w).tokens out₀ out₁
     → (s i : ℕ) (o : Option ℕ) → s ≡ piece_at w / 4 → i ≡ indent_at w → o ≡ (line (with_addresses l a (listing l t x)) s).address
-    → (r' p' : List ℕ) (e : Cursor) → ((t x : List ℕ) → Writes (end_line o i) (columns r p t x) d (columns r' p' t x) e)
-    → LineAdded (line_of (with_addresses l a (listing l t x)) w) (columns r p t₀ x₀) c (columns r' p' t₁ x₁) e
-line_ended l a t x w q r p t₀ x₀ t₁ x₁ c d b s i o u v g r' p' e f =
+    → Writes (end_line o i) out₁ out₂ → LineAdded (line_of (with_addresses l a (listing l t x)) w) out₀ out₂
+line_ended l a t x w q {out₀} {out₁} {out₂} b s i o u v g f =
     let S = with_addresses l a (listing l t x) in
     let ts = (line_of (listing l t x) w).tokens in
     let same : pseudo_line o i ts ≡ line_of S w =
     ap₂ (λ o i. pseudo_line o i ts) (g ∙ ap (λ j. (line S j).address) u) v
     ∙ (ap (pseudo_line (line S (piece_at w / 4)).address (indent_at w)) (sym (tokens_same S l t x (columns_source l a t x q) w)) ∙ sym (line_parts S w)) in
     record {
-      added = λ M h. subst (λ m. Holds (done (M ++ (m ∷ []))) (columns r' p' t₁ x₁) e) same (f t₁ x₁ (opened M ts) (b.begins r p M h));
+      same = same_more b.same f.same;
+      added = λ M h. subst (λ m. Holds (done (M ++ (m ∷ []))) (columns_of out₂) out₂.written) same (f.holds (opened M ts) (b.begins M h));
     }
 
 -- All lines
 
-sound_at : (ws : List ℕ) (i : ℕ) → all is_sound ws ≡ true → i < length ws → is_sound (get_or ws i 0) ≡ true
+pub word_sound : (ws : List ℕ) (i : ℕ) → all is_sound ws ≡ true → i < length ws → is_sound (get_or ws i 0) ≡ true
 unfolding all
-sound_at [] i e h = absurd (omega arith)
-sound_at (w ∷ ws) zero e h = (and_split (is_sound w) (all is_sound ws) e).0
-sound_at (w ∷ ws) (suc i) e h = sound_at ws i (and_split (is_sound w) (all is_sound ws) e).1 (omega arith)
+word_sound [] i e h = absurd (omega arith)
+word_sound (w ∷ ws) zero e h = (and_split (is_sound w) (all is_sound ws) e).0
+word_sound (w ∷ ws) (suc i) e h = word_sound ws i (and_split (is_sound w) (all is_sound ws) e).1 (omega arith)
 
 both : {a b : Bool} → a ≡ true → b ≡ true → (a && b) ≡ true
 both f g = rw (f, g)
@@ -208,16 +221,14 @@ plain_sound = all_sound is_plain (λ w q. ap (λ b. b || is_goto w) q)
 pub goto_sound : (ws : List ℕ) → all is_goto ws ≡ true → all is_sound ws ≡ true
 goto_sound = all_sound is_goto (λ w q. ap (λ b. is_plain w || b) q ∙ or-true (is_plain w))
 
-pub word_sound : (ws : List ℕ) (n i : ℕ) → n ≤ length ws → all is_sound (take n ws) ≡ true → i < n → is_sound (get_or ws i 0) ≡ true
-word_sound ws n i le e h = ap is_sound (sym (get_or-take n ws i 0 h)) ∙ sound_at (take n ws) i e (omega (arith, length-take-le n ws le))
+pub emitted_next : (S : List Line) (ws : List ℕ) (i : ℕ) → i < length ws → {out₀ out₁ out₂ : Writer}
+    → Emits (render S (take i ws)) out₀ out₁ → LineAdded (line_of S (get_or ws i 0)) out₁ out₂ → Emits (render S (take (i + 1) ws)) out₀ out₂
+emitted_next S ws i lt {out₀} {out₁} {out₂} e a = record {
+  same = same_more e.same a.same;
+  holds = subst (λ M. Holds (done M) (columns_of out₂) out₂.written)
+      (sym (ap (render S) (ap (λ m. take m ws) (add-one i) ∙ take-suc ws i 0 lt) ∙ map_append (line_of S) (take i ws) (get_or ws i 0 ∷ [])))
+      (a.added (render S (take i ws)) e.holds);
+}
 
-pub emitted_next : (S : List Line) (ws : List ℕ) (n i : ℕ) → n ≤ length ws → i < n → (out out' : Columns) (c c' : Cursor)
-    → Holds (done (render S (take i ws))) out c → LineAdded (line_of S (get_or ws i 0)) out c out' c' → Holds (done (render S (take (i + 1) ws))) out' c'
-emitted_next S ws n i le lt out out' c c' h a =
-    subst (λ M. Holds (done M) out' c')
-    (sym (ap (render S) (ap (λ m. take m ws) (add-one i) ∙ take-suc ws i 0 (omega arith)) ∙ map_append (line_of S) (take i ws) (get_or ws i 0 ∷ [])))
-    (a.added (render S (take i ws)) h)
-
-pub emitted_end : (S : List Line) (ws : List ℕ) (n i : ℕ) → i ≤ n → n ≤ i → (out : Columns) (c : Cursor)
-    → Holds (done (render S (take i ws))) out c → Holds (done (render S (take n ws))) out c
-emitted_end S ws n i a b out c h = let z : i ≡ n = omega arith in subst (λ m. Holds (done (render S (take m ws))) out c) z h
+pub emitted_end : (S : List Line) (ws : List ℕ) (i : ℕ) → length ws ≤ i → {out₀ out₁ : Writer} → Emits (render S (take i ws)) out₀ out₁ → Emits (render S ws) out₀ out₁
+emitted_end S ws i h {out₀} {out₁} e = subst (λ vs. Emits (render S vs) out₀ out₁) (take_all i ws h) e

@@ -2,8 +2,9 @@
 --   is_sound w                  a word of either pass: a header over a guard has a line as it is for it
 --   test_read C h s t           the condition of a header of kind h modulo 4, s being the line of the word's piece and t the piece of the test
 --   for_start a, for_end c z    the tokens of a for header before they are merged: `for_head` merges them
---   Begins ts t x c t' x' c'    where no token was open, the tokens ts are
---   LineAdded m out c out' c'  the line m is behind those that are done
+--   Begins ts w w'              where no token was open, the tokens ts are
+--   LineAdded m w w'            the line m is behind those that are done
+--   Emits M w w'                the lines M are done
 -- Assumes nothing.
 use Rattle.std.specs.Prelude.{ℕ, zero, suc, Bool, ◌||◌, List, [], ◌∷◌, ◌++◌}
 use Rattle.definitions.specs.Lists.{or_else, ascii}
@@ -11,12 +12,11 @@ use Rattle.definitions.specs.Model.{Token, Line, tok, line, Keyword, Punct}
 use Rattle.definitions.specs.Condition.{condition}
 use Rattle.definitions.specs.ToFor.{popped}
 use Rattle.definitions.specs.RecoverGotoLoops.{leading_test, one}
-use Rattle.definitions.specs.Calls.{Columns}
 use Rattle.plan.specs.Changes.{is_plain, is_goto}
 use Rattle.pieces.specs.Pieces.{piece}
 use Rattle.write.specs.State.{done}
-use Rattle.write.specs.Holds.{columns, Holds}
-use Rattle.write.specs.declared.Cursor.{Cursor}
+use Rattle.write.specs.Holds.{columns_of, Holds, Same}
+use Rattle.write.specs.declared.Writer.{Writer}
 use Rattle.append.specs.Adds.{opened}
 
 abbrev pub is_sound : ℕ → Bool
@@ -34,8 +34,14 @@ for_start a = tok (ascii "for") Keyword ∷ (tok (ascii " (") Punct ∷ (popped 
 abbrev pub for_end : List Token → List Token → List Token
 for_end c z = c ++ (tok (ascii "; ") Punct ∷ (popped z ++ (tok (ascii ") {") Punct ∷ [])))
 
-pub record Begins (ts : List Token) (t x : List ℕ) (c : Cursor) (t' x' : List ℕ) (c' : Cursor) : Type 0 where
-  pub begins : (l a : List ℕ) (M : List Line) → Holds (done M) (columns l a t x) c → Holds (opened M ts) (columns l a t' x') c'
+pub record Begins (ts : List Token) (w w' : Writer) : Type 0 where
+  pub same : Same w w'
+  pub begins : (M : List Line) → Holds (done M) (columns_of w) w.written → Holds (opened M ts) (columns_of w') w'.written
 
-pub record LineAdded (m : Line) (out : Columns) (c : Cursor) (out' : Columns) (c' : Cursor) : Type 0 where
-  pub added : (M : List Line) → Holds (done M) out c → Holds (done (M ++ (m ∷ []))) out' c'
+pub record LineAdded (m : Line) (w w' : Writer) : Type 0 where
+  pub same : Same w w'
+  pub added : (M : List Line) → Holds (done M) (columns_of w) w.written → Holds (done (M ++ (m ∷ []))) (columns_of w') w'.written
+
+pub record Emits (M : List Line) (w w' : Writer) : Type 0 where
+  pub same : Same w w'
+  pub holds : Holds (done M) (columns_of w') w'.written

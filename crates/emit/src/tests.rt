@@ -12,29 +12,31 @@ ghost use Rattle.emit.specs.Lines.{test_read};
 use append::add;
 use append_pieces::conditions::add_condition;
 use model::listing::Listing;
-use write::Cursor;
+use plan::headers::Test;
+use write::Writer;
 
 // The negated condition of the leading test that the piece p is, or 1.
-fn add_leading(code: &Listing, p: usize, words: &mut [u32], bytes: &mut [u8], c: Cursor) -> Cursor
+fn add_leading(out: &mut Writer, code: &Listing, p: usize)
     requires { question_2 code.now.lines.now code.now.tokens.now code.now.text.now ≡ true }
     ensures { let C = listing_of code.now in
-        Adding true (or_else (leading_test (piece C p) 0) one) words.old bytes.old c words.new bytes.new result }
+        Adding true (or_else (leading_test (piece C p) 0) one) out.old out.new }
 {
     let Some(g) = pieces::leading::leading_test(code, p) else {
-        return add(words, bytes, c, b"1", 2, true);
+        add(out, b"1", 2, true);
+        return;
     };
-    negate::adding::add_negated(code, p / 4, g, words, bytes, c)
+    negate::adding::add_negated(out, code, p / 4, g);
 }
 
 // The condition of the header that the word w stands for: 1, that of a leading test, or that of the guard on the word's own line.
-pub fn add_test(code: &Listing, w: usize, words: &mut [u32], bytes: &mut [u8], c: Cursor) -> Cursor
+pub fn add_test(out: &mut Writer, code: &Listing, w: usize)
     requires { question_2 code.now.lines.now code.now.tokens.now code.now.text.now ≡ true }
     ensures { let C = listing_of code.now in
-        Adding true (test_read C (header_at w % 4) (piece_at w / 4) (test_at w)) words.old bytes.old c words.new bytes.new result }
+        Adding true (test_read C (header_at w % 4) (piece_at w / 4) (test_at w)) out.old out.new }
 {
-    match plan::header(w) % 4 {
-        2 => add(words, bytes, c, b"1", 2, true),
-        3 => add_leading(code, plan::test(w), words, bytes, c),
-        _ => add_condition(code, plan::source(w), words, bytes, c, true),
+    match Test::of(w) {
+        Test::Guard => add_condition(out, code, plan::source(w), true),
+        Test::Always => add(out, b"1", 2, true),
+        Test::Leading => add_leading(out, code, plan::test(w)),
     }
 }

@@ -4,7 +4,7 @@
 --   keep_yes, keep_no                       a word looked at
 --   list_start, list_next, list_end         the labels listed
 --   any_next, any_hit, any_end, goto_at     the scans over words
---   goes_looking, goes_waiting, goes_found  the line of a word
+--   goes_nowhere, goes_found                the line of a word
 --   enters_is                               the two scans are `enters`
 --   size_listed, size_before, gotos_before, gotos_behind    what the scans ask
 --   enters_before, enters_behind            the answer
@@ -20,6 +20,7 @@ use native.Mathlib.Decide.{dec_le}
 use native.Mathlib.Omega.{arith}
 use lib.ListN.{length, get_or, set, take, drop}
 use lib.Seq.{length-take-le, take-suc-set}
+use Rattle.std.specs.Borrow.{Bor}
 use Rattle.definitions.specs.Lists.{any, all, filter, part, ◌≟◌}
 use Rattle.definitions.specs.Model.{Line, token, line, no_token}
 use Rattle.definitions.specs.Statements.{is_label, label, goto_target}
@@ -34,10 +35,8 @@ use Rattle.plan.proofs.Maps.{map_take, map_drop, map_part, map_any}
 use Rattle.pieces.proofs.Forms.{kept_piece, label_other}
 use Rattle.gotos.proofs.HeaderLines.{no_header_line, label_piece, label_header}
 use Rattle.gotos.proofs.EdgeRules.{line_at}
-use Rattle.goto_targets.specs.Seek.{target, told}
+use Rattle.gotos.specs.Body.{name_of}
 use Rattle.enters.specs.Inside.{labels, names, goes_inside}
-use Rattle.goto_targets.specs.declared.seeking.State.{State}
-use Rattle.goto_targets.specs.declared.seeking.State.TheVariants.{Looking, Waiting, Found}
 
 -- Names
 
@@ -130,21 +129,16 @@ goto_at (w ∷ ws) (suc k) h lt = goto_at ws k (and_split (is_goto w) (all is_go
 
 pub ruleset scans = (any_next, any_hit, any_end, goto_at)
 
-module _ (C : List Line) (ls : List ℕ) (w : ℕ) (f : State) (e : target (told C f) ≡ goto_target (line_of C w)) where
-  pub goes_looking : f ≡ Looking → false ≡ goes_inside C ls w
+module _ (C : List Line) (ls : List ℕ) (w : ℕ) (f : Option (Bor (List ℕ))) (e : name_of f ≡ goto_target (line_of C w)) where
+  pub goes_nowhere : f ≡ None → false ≡ goes_inside C ls w
   unfolding goes_to
-  goes_looking q = rw (← e, q, goes_to)
+  goes_nowhere q = rw (← e, q, goes_to)
 
-  pub goes_waiting : f ≡ Waiting → false ≡ goes_inside C ls w
+  pub goes_found : (x : Bor (List ℕ)) → f ≡ Some x → (r : Bool) → r ≡ any (names C x.now) ls → r ≡ goes_inside C ls w
   unfolding goes_to
-  goes_waiting q = rw (← e, q, goes_to)
+  goes_found x q r g = g ∙ sym (rw (← e, q, goes_to))
 
-  pub goes_found : (i j a z : ℕ) → f ≡ Found i j a z → (x : List ℕ) → x ≡ (token (line C i) j).text → (y : List ℕ) → y ≡ part a z x → (r : Bool) → r ≡ any (names C y) ls
-      → r ≡ goes_inside C ls w
-  unfolding goes_to
-  goes_found i j a z q x u y v r g = g ∙ sym (rw (← e, q, goes_to, ← u, ← v))
-
-pub ruleset goes = (goes_looking, goes_waiting, goes_found)
+pub ruleset goes = (goes_nowhere, goes_found)
 
 -- The two scans
 

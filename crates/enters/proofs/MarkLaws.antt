@@ -254,7 +254,7 @@ module _ (l t x ms : List ℕ) (M : Marked l t x ms) (p : ℕ) where
       later : (p % 4 ≡ 0 → ⊥) → Dec (p % 4 ≤ 1) → Dec (p % 4 ≤ 2) → all clean (piece C p).tokens ≡ true
       later a (yes h) d = rw (continued_piece C p (omega arith)) (cut_clean (quiet_marks q).1 (ascii "continue") (unfold any in refl))
       later a (no h) (yes g) = rw (broken_piece C p (omega arith)) (cut_clean (quiet_marks q).1 (ascii "break") (unfold any in refl))
-      later a (no h) (no g) = rw (closed_piece C p a (λ e. h (omega arith)) (λ e. g (omega arith))) (unfold all in refl)
+      later a (no h) (no g) = rw (closed_piece C p (omega arith)) (unfold all in refl)
 
       go : Dec (p % 4 ≤ 0) → all clean (piece C p).tokens ≡ true
       go (yes h) =

@@ -1,17 +1,17 @@
 -- Marks of lines, as rules for `search`.
 --   contains_of, mark_other, mark_none, mark_goto, mark_symbol    the mark of a line
 --   marks_start, marks_next, marks_end               the marks of all lines
---   own_header, own_cut, own_past, own_here          the mark of a line that is kept
+--   own_header, own_other, own_past, own_here        the mark of a line that is kept
+--   quiet_kept, over_unread, over_read               a piece, and a header's test
 --   silent_line, silent_while, silent_test, silent_first, silent_for    what a mark answers
 --   goes_marked                                      a line whose mark says where its goto leads
---   scan_start, scan_next, pass_start, pass_next     words that are passed over
+--   scan_silent                                      a word that is passed over
 -- Assumes nothing.
 use Rattle.std.specs.Prelude.{Option, None, Some}
 use mathlib.Core.Path.{◌≡◌, refl, sym, ap, ◌∙◌}
 use mathlib.Core.Bool.{Bool, true, false, cond, ◌&&◌}
-use mathlib.Core.List.{List, ◌∷◌}
+use mathlib.Core.List.{List}
 use Prim.Native.Nat.{ℕ, ◌+◌, ◌-◌, ◌/◌, ◌%◌, ◌≤◌, ◌<◌}
-use native.Mathlib.Nat.{le_refl}
 use native.Mathlib.Decide.{dec_le, dec_lt}
 use native.Mathlib.Omega.{arith}
 use borrow.Author.Tests.{eq-eqb, ne_eqb, eqb-true, lt-ltb, le-ltb, ltb-true}
@@ -24,20 +24,23 @@ use Rattle.definitions.specs.Columns.{listing}
 use Rattle.definitions.specs.Statements.{first_symbol, goto_target}
 use Rattle.definitions.specs.ToFor.{popped}
 use Rattle.definitions.specs.RecoverGotoLoops.{goes_to}
-use Rattle.text.proofs.Parts.{drop_step}
+use Rattle.pseudo_opt.proofs.Passes.{seeks}
+use Rattle.text.proofs.Bools.{bools}
 use Rattle.loop_theory.proofs.Cases.{and_split}
 use Rattle.plan.specs.Plan.{header_at, piece_at, test_at, initialiser_at, step_at, line_of}
-use Rattle.plan.specs.Changes.{is_goto}
+use Rattle.plan.specs.Changes.{is_line, is_goto}
 use Rattle.pseudo_opt.specs.Places.{text_at}
-use Rattle.pieces.specs.Pieces.{piece, origin}
+use Rattle.pieces.specs.Pieces.{piece, origin, Says}
+use Rattle.pieces.specs.declared.piece.Piece.{Piece}
+use Rattle.pieces.specs.declared.piece.Piece.TheVariants.{Kept, Continued, Broken, Closed}
 use Rattle.pieces.proofs.Forms.{kept_piece}
 use Rattle.goto_targets.specs.Seek.{Seek.looking, seek}
 use Rattle.goto_targets.specs.Conditions.{over}
 use Rattle.enters.specs.Inside.{names, goes_inside}
-use Rattle.enters.specs.Marks.{has_g, place_mark, Mark, Marked, quiet, quiet_over, own_mark, silent, Passed}
+use Rattle.enters.specs.Marks.{has_g, place_mark, Mark, Marked, quiet, quiet_over, own_mark, silent}
 use Rattle.goto_targets.proofs.SeekLaws.{target_is, seek_one}
 use Rattle.goto_targets.proofs.HeaderRules.{while_target, for_target, line_target}
-use Rattle.enters.proofs.EnterRules.{any_next, goto_at}
+use Rattle.enters.proofs.EnterRules.{any_next, goto_at, names_at, goes, scans}
 use Rattle.enters.proofs.MarkLaws.{marked_none, marked_unknown, marked_goto, marked_symbol, clean_seek, clean_popped, clean_over, quiet_clean}
 
 -- The mark of a line
@@ -101,26 +104,56 @@ pub ruleset markings = (marks_start, marks_next, marks_end)
 
 -- What a mark answers
 
-module _ (l ms : List ℕ) (w h : ℕ) (q : h ≡ header_at w) where
-  pub own_header : (h ≡ 0 → ⊥) → 0 ≡ own_mark l ms w
+not_kept : (p : ℕ) (y : Piece) → Says p y → ((i : ℕ) → y ≡ Kept i → ⊥) → p % 4 ≡ 0 → ⊥
+not_kept p (Kept i) s n e = n i refl
+not_kept p (Continued i) s n e = omega (arith, s.form)
+not_kept p (Broken i) s n e = omega (arith, s.form)
+not_kept p (Closed i) s n e = omega (arith, s.form)
+
+module _ (l ms : List ℕ) (w : ℕ) (b : Bool) (q : b ≡ is_line w) where
+  pub own_header : b ≡ false → 0 ≡ own_mark l ms w
   unfolding own_mark
-  own_header n = rw (← q, ne_eqb h 0 n)
+  own_header n = rw (← q, n)
 
-  module _ (z : h ≡ 0) (p : ℕ) (d : p ≡ piece_at w) where
-    pub own_cut : (p % 4 ≡ 0 → ⊥) → 0 ≡ own_mark l ms w
+  module _ (z : b ≡ true) (p : ℕ) (d : p ≡ piece_at w) where
+    own_cut : (p % 4 ≡ 0 → ⊥) → 0 ≡ own_mark l ms w
     unfolding own_mark
-    own_cut n = rw (← q, eq-eqb h 0 z, ← d, ne_eqb (p % 4) 0 n)
+    own_cut n = rw (← q, z, ← d, ne_eqb (p % 4) 0 n)
 
-    module _ (k : p % 4 ≡ 0) where
-      pub own_past : length l ≤ p / 4 → 0 ≡ own_mark l ms w
+    pub own_other : (y : Piece) → Says p y → ((i : ℕ) → y ≡ Kept i → ⊥) → 0 ≡ own_mark l ms w
+    own_other y s n = own_cut (not_kept p y s n)
+
+    module _ (i : ℕ) (s : Says p (Kept i)) where
+      pub own_past : length l ≤ i → 0 ≡ own_mark l ms w
       unfolding own_mark
-      own_past n = rw (← q, eq-eqb h 0 z, ← d, eq-eqb (p % 4) 0 k, le-ltb (p / 4) (length l) n)
+      own_past n = rw (← q, z, ← d, eq-eqb (p % 4) 0 s.form, ← s.line, le-ltb i (length l) n)
 
-      pub own_here : p / 4 < length l → (r : ℕ) → r ≡ get_or ms (p / 4) 0 → r ≡ own_mark l ms w
+      pub own_here : i < length l → (r : ℕ) → r ≡ get_or ms i 0 → r ≡ own_mark l ms w
       unfolding own_mark
-      own_here n r e = e ∙ sym (rw (← q, eq-eqb h 0 z, ← d, eq-eqb (p % 4) 0 k, lt-ltb (p / 4) (length l) n))
+      own_here n r e = e ∙ sym (rw (← q, z, ← d, eq-eqb (p % 4) 0 s.form, ← s.line, lt-ltb i (length l) n))
 
-pub ruleset owns = (own_header, own_cut, own_past, own_here)
+pub own_room : (p i : ℕ) → Says p (Kept i) → p < 4096 → i < 1024
+own_room p i s h = omega (arith, s.line)
+
+pub ruleset owns = (own_header, own_other, own_past, own_here, own_room)
+
+module _ (ms : List ℕ) (p : ℕ) (m : ℕ) (q : m ≡ get_or ms (p / 4) 0) where
+  pub quiet_kept : (i : ℕ) → Says p (Kept i) → (r : Bool) → r ≡ eqb m 0 → r ≡ quiet ms p
+  unfolding quiet
+  quiet_kept i s r e = rw (← q, eq-eqb (p % 4) 0 s.form) (e ∙ go (eqb m 0))
+    where
+      go : (b : Bool) → b ≡ cond b true false
+      go true = refl
+      go false = refl
+
+module _ (ms : List ℕ) (h t : ℕ) where
+  pub over_unread : (h % 2 ≡ 1 → ⊥) → true ≡ quiet_over ms h t
+  unfolding quiet_over
+  over_unread n = rw (ne_eqb (h % 2) 1 n)
+
+  pub over_read : h % 2 ≡ 1 → (r : Bool) → r ≡ quiet ms t → r ≡ quiet_over ms h t
+  unfolding quiet_over
+  over_read e r q = rw (eq-eqb (h % 2) 1 e) q
 
 module _ (ms : List ℕ) (w h : ℕ) (q : h ≡ header_at w) where
   pub silent_line : h ≡ 0 → (p : ℕ) → p ≡ piece_at w → (r : Bool) → r ≡ quiet ms p → r ≡ silent ms w
@@ -181,26 +214,22 @@ module _ (l t x ms : List ℕ) (M : Marked l t x ms) where
       go (no h) (yes f) =
           let n : header_at w ≡ 0 → ⊥ = λ e. h (omega arith) in
           while_target C w (header_at w) refl g n (test_at w) refl f looking
-          (over_none (header_at w) (test_at w) (rw (ne_eqb (header_at w) 0 n, lt-ltb (header_at w) 4 f) at s))
+          (over_none (header_at w) (test_at w) (rw (ne_eqb (header_at w) 0 n, lt-ltb (header_at w) 4 f) at s)) None refl
       go (no h) (no f) =
           let n : header_at w ≡ 0 → ⊥ = λ e. h (omega arith) in
           let a = and_split (quiet_over ms (header_at w) (test_at w)) _ (rw (ne_eqb (header_at w) 0 n, le-ltb (header_at w) 4 (omega arith)) at s) in
           let b = and_split (quiet ms (initialiser_at w)) (quiet ms (step_at w)) a.1 in
           for_target C w (header_at w) refl g n (test_at w) refl (omega arith) (omega arith) looking (initialiser_at w) refl (popped_none (initialiser_at w) b.0)
-          looking (over_none (header_at w) (test_at w) a.0) (step_at w) refl looking (popped_none (step_at w) b.1)
+          looking (over_none (header_at w) (test_at w) a.0) (step_at w) refl looking (popped_none (step_at w) b.1) None refl
 
   goes_silent : (ls : List ℕ) (w : ℕ) → is_goto w ≡ true → silent ms w ≡ true → goes_inside C ls w ≡ false
   unfolding goes_to
   goes_silent ls w g s = rw (← silent_none w g s, goes_to)
 
-  module _ (ls ws : List ℕ) (k r : ℕ) (p : Passed ms ws k r) where
-    pub scan_start : k ≡ 0 → any (goes_inside C ls) ws ≡ any (goes_inside C ls) (drop r ws)
-    scan_start e = rw e at (p.same (goes_inside C ls) (goes_silent ls))
-
-    pub scan_next : (j : ℕ) → k ≡ j + 1 → any (goes_inside C ls) ws ≡ any (goes_inside C ls) (drop j ws) → j < length ws
-        → (b : Bool) → b ≡ goes_inside C ls (get_or ws j 0) → b ≡ false → any (goes_inside C ls) ws ≡ any (goes_inside C ls) (drop r ws)
-    scan_next j e inv lt b q f =
-        any_next (goes_inside C ls) ws j inv lt b q f ∙ ap (λ n. any (goes_inside C ls) (drop n ws)) (sym e) ∙ p.same (goes_inside C ls) (goes_silent ls)
+  pub scan_silent : (ls ws : List ℕ) (k : ℕ) → any (goes_inside C ls) ws ≡ any (goes_inside C ls) (drop k ws) → k < length ws → all is_goto ws ≡ true
+      → (b : Bool) → b ≡ silent ms (get_or ws k 0) → b ≡ true → any (goes_inside C ls) ws ≡ any (goes_inside C ls) (drop (k + 1) ws)
+  scan_silent ls ws k inv lt g b q f =
+      any_next (goes_inside C ls) ws k inv lt false (sym (goes_silent ls (get_or ws k 0) (goto_at ws k g lt) (sym q ∙ f))) refl
 
   -- the mark of a line that is kept says where its goto leads
   module _ (w m : ℕ) (e : m ≡ own_mark l ms w) (lt : 2 < m) where
@@ -231,25 +260,8 @@ module _ (l t x ms : List ℕ) (M : Marked l t x ms) where
     unfolding goes_to
     goes_marked i d s q ls r g = g ∙ rw (← target_there, goes_to, q, d)
 
--- Words passed over
+pub ruleset quiets = (quiet_kept, over_unread, over_read)
 
-module _ (ms ws : List ℕ) (k : ℕ) where
-  pub pass_start : k ≤ length ws → Passed ms ws k k
-  pass_start h = record { onward = le_refl k; within = h; same = λ P f. refl }
+pub ruleset marking = (bools, seeks, marks, markings, owns, silents, quiets)
 
-  pub pass_next : (j : ℕ) → Passed ms ws k j → all is_goto ws ≡ true → j < length ws → (b : Bool) → b ≡ silent ms (get_or ws j 0) → b ≡ true → Passed ms ws k (j + 1)
-  pass_next j p g lt b q e =
-      record {
-        onward = let z = p.onward in omega arith;
-        within = omega arith;
-        same = λ P f.
-            p.same P f
-            ∙ (ap (any P) (drop_step 0 ws j lt) ∙ passed P (f (get_or ws j 0) (goto_at ws j g lt) (sym q ∙ e)));
-      }
-    where
-      passed : (P : ℕ → Bool) → P (get_or ws j 0) ≡ false → any P (get_or ws j 0 ∷ drop (j + 1) ws) ≡ any P (drop (j + 1) ws)
-      passed P f = unfold any in rw f
-
-pub ruleset passings = (pass_start, pass_next)
-
-pub ruleset loud = (scan_start, scan_next)
+pub ruleset entering = (names_at, goes, scans, scan_silent, goes_marked)

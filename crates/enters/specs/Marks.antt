@@ -10,15 +10,13 @@
 --   quiet_over ms k t  so are those of the piece t, or a header of kind k has no test
 --   own_mark l ms w    the mark of the line that w keeps as it is, else 0
 --   silent ms w        so are those of all pieces that the line of w is made of
---   Passed ms ws k r   the words of ws from place k up to r are silent: a test that no silent word passes holds of one from k on, if it does of one from r on
 -- Assumes nothing.
-use Rattle.std.specs.Prelude.{if◌then◌else◌, ℕ, ◌+◌, ◌-◌, ◌/◌, ◌%◌, ◌≤◌, ◌<◌, ◌≡◌, Bool, true, false, ◌&&◌, not, List, eqb, ltb, length, get_or, drop, Some}
-use Rattle.definitions.specs.Lists.{any, all, take_while, contains, ascii}
+use Rattle.std.specs.Prelude.{if◌then◌else◌, ℕ, ◌+◌, ◌-◌, ◌/◌, ◌%◌, ◌<◌, ◌≡◌, Bool, true, false, ◌&&◌, not, List, eqb, ltb, length, get_or, Some}
+use Rattle.definitions.specs.Lists.{all, take_while, contains, ascii}
 use Rattle.definitions.specs.Model.{Token, Line, token, line, Keyword}
 use Rattle.definitions.specs.Columns.{listing}
 use Rattle.definitions.specs.Statements.{is_kw, goto_target}
 use Rattle.plan.specs.Plan.{header_at, piece_at, test_at, initialiser_at, step_at}
-use Rattle.plan.specs.Changes.{is_goto}
 
 -- 103 is the letter g.
 abbrev pub has_g : Token → Bool
@@ -60,8 +58,3 @@ silent ms w =
     if eqb (header_at w) 0 then quiet ms (piece_at w)
     else if ltb (header_at w) 4 then quiet_over ms (header_at w) (test_at w)
     else quiet_over ms (header_at w) (test_at w) && (quiet ms (initialiser_at w) && quiet ms (step_at w))
-
-pub record Passed (ms ws : List ℕ) (k r : ℕ) : Type 0 where
-  pub onward : k ≤ r
-  pub within : r ≤ length ws
-  pub same : (P : ℕ → Bool) → ((w : ℕ) → is_goto w ≡ true → silent ms w ≡ true → P w ≡ false) → any P (drop k ws) ≡ any P (drop r ws)

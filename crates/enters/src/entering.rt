@@ -1,4 +1,7 @@
 // The lines that have a goto to one of the labels of a loop.
+
+#![tactic(auto, using(crate::proofs::MarkRules::entering))]
+
 ghost use Rattle.std.specs.Prelude.{◌≡◌, true};
 ghost use Rattle.definitions.specs.Lists.{any, all};
 ghost use Rattle.definitions.specs.Questions.{question_2};
@@ -7,9 +10,8 @@ ghost use Rattle.plan.specs.Changes.{is_goto};
 ghost use Rattle.enters.specs.Inside.{names, goes_inside};
 ghost use Rattle.enters.specs.Marks.{Marked};
 
-use crate::marks::{next_loud, own_mark};
+use crate::marks::{own_mark, silent};
 use goto_targets::headers::word_target;
-use goto_targets::seeking::State;
 use model::listing::Listing;
 use words::wide;
 
@@ -25,8 +27,8 @@ fn any_names(code: &Listing, labels: &[u16], s: &[u8]) -> bool
     ensures { let C = listing_of code.now in
         result ≡ any (names C s.now) labels.now }
 {
-    for k in 0..labels.len() {
-        if names(code, labels[k], s) {
+    for &i in labels {
+        if names(code, i, s) {
             return true;
         }
     }
@@ -40,18 +42,8 @@ fn goes_to(code: &Listing, labels: &[u16], w: usize) -> bool
         result ≡ goes_inside C labels.now w }
 {
     match word_target(code, w) {
-        State::Looking => false,
-        State::Waiting => false,
-        State::Found {
-            line,
-            token,
-            from,
-            to,
-        } => any_names(
-            code,
-            labels,
-            text::part(code.text_at(line, token), from, to),
-        ),
+        Some(s) => any_names(code, labels, s),
+        None => false,
     }
 }
 
@@ -64,10 +56,10 @@ fn goes_inside(code: &Listing, labels: &[u16], w: usize, marks: &[u16]) -> bool
 {
     let m = own_mark(code.lines, w, marks);
     if 2 < m {
-        let s = code.text_at(plan::source(w), m - 3);
-        return any_names(code, labels, s);
+        any_names(code, labels, code.text_at(plan::source(w), m - 3))
+    } else {
+        goes_to(code, labels, w)
     }
-    goes_to(code, labels, w)
 }
 
 // So has the line of one of the words. Those that can have no goto are passed over.
@@ -77,12 +69,10 @@ pub fn any_goes_inside(code: &Listing, labels: &[u16], words: &[usize], marks: &
     ensures { let C = listing_of code.now in
         result ≡ any (goes_inside C labels.now) words.now }
 {
-    let mut k = next_loud(words, 0, marks);
-    while k < words.len() {
-        if goes_inside(code, labels, words[k], marks) {
+    for &w in words {
+        if !silent(marks, w) && goes_inside(code, labels, w, marks) {
             return true;
         }
-        k = next_loud(words, k + 1, marks);
     }
     false
 }

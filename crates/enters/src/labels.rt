@@ -1,4 +1,7 @@
 // The labels of a loop, listed once.
+
+#![tactic(auto, using(crate::proofs::EnterRules::lists))]
+
 ghost use Rattle.std.specs.Prelude.{◌≡◌, [], ◌∷◌, ◌++◌, ◌+◌, ◌≤◌, ◌<◌, length, take};
 ghost use Rattle.enters.specs.Inside.{labels};
 ghost use Rattle.model.specs.Listings.{listing_of};
@@ -30,8 +33,8 @@ pub fn list_labels(code: &Listing, words: &[usize], list: &mut [u16]) -> usize
         take result list.new ≡ labels C words.now }
 {
     let mut m = 0;
-    for k in 0..words.len() {
-        m = keep(code, list, m, words[k]);
+    for &w in words {
+        m = keep(code, list, m, w);
     }
     m
 }

@@ -4,7 +4,7 @@
 // outside and label inside. A line whose mark says that it has no goto is passed over.
 // Contracts cite `enters` and `goto_target` of Rattle.definitions.specs, of the lines that the words stand for.
 
-#![tactic(auto)]
+#![tactic(auto, using(crate::proofs::EnterRules::enterings))]
 
 ghost use Rattle.std.specs.Prelude.{◌≡◌, true, ◌≤◌, ◌<◌, length, get_or, take};
 ghost use Rattle.definitions.specs.Lists.{all};

@@ -1,23 +1,27 @@
 // A mark for each source line, made once: by it a scan passes over the lines and headers that can hold no goto.
 //
 // Making it takes one look at the word of each token, and at the bytes of keywords; asking it constant time. Contracts cite specs/Marks.antt.
-ghost use Rattle.std.specs.Prelude.{◌≡◌, true, ◌≤◌, ◌<◌, length, get_or};
-ghost use Rattle.definitions.specs.Lists.{all, position};
+
+#![tactic(auto, using(crate::proofs::MarkRules::marking))]
+
+ghost use Rattle.std.specs.Prelude.{◌≡◌, ◌≤◌, ◌<◌, length, get_or};
+ghost use Rattle.definitions.specs.Lists.{position};
 ghost use Rattle.definitions.specs.Model.{line, no_token};
 ghost use Rattle.model.specs.Listings.{listing_of, tokens_of};
-ghost use Rattle.plan.specs.Changes.{is_goto};
-ghost use Rattle.enters.specs.Marks.{has_g, place_mark, Mark, Marked, quiet, quiet_over, own_mark, silent, Passed};
+ghost use Rattle.enters.specs.Marks.{has_g, place_mark, Mark, Marked, quiet, quiet_over, own_mark, silent};
 
+use model::kind::Kind;
 use model::listing::Listing;
-use plan::{header, initialiser, piece, step, test};
+use pieces::piece::{Piece, source};
+use plan::{header, initialiser, is_line, piece, step, test};
 use pseudo_opt::labels::first_symbol;
-use words::wide;
+use words::{narrow, wide};
 
 // Token k of all is a keyword with the letter g.
 fn has_g(code: &Listing, k: usize) -> bool
     ensures { result ≡ has_g (get_or (tokens_of code.now) k no_token) }
 {
-    code.token_kind(k) == 3 && text::contains(code.token_text(k), b'g')
+    code.token_is(k, Kind::Keyword) && text::contains(code.token_text(k), b'g')
 }
 
 // The place of the first such token of line i.
@@ -39,10 +43,7 @@ fn first_g(code: &Listing, i: usize) -> Option<usize>
 fn place_mark(j: usize) -> u16
     ensures { result ≡ place_mark j }
 {
-    if j < 65533 {
-        return (j + 3) as u16;
-    }
-    2
+    if j < 65533 { narrow(j + 3) } else { 2 }
 }
 
 // The mark of line i.
@@ -52,13 +53,13 @@ fn mark(code: &Listing, i: usize) -> u16
     let Some(g) = first_g(code, i) else {
         return 0;
     };
-    if text::equal(code.text_at(i, g), b"goto") {
-        let Some(j) = first_symbol(code, i, g) else {
-            return 1;
-        };
-        return place_mark(j);
+    if !text::equal(code.text_at(i, g), b"goto") {
+        return 2;
     }
-    2
+    match first_symbol(code, i, g) {
+        Some(j) => place_mark(j),
+        None => 1,
+    }
 }
 
 // Marks every line.
@@ -76,8 +77,11 @@ fn quiet(marks: &[u16], p: usize) -> bool
     requires { (p < 4096) × (length marks.now ≡ 1024) }
     ensures { result ≡ quiet marks.now p }
 {
-    let m = marks[p / 4];
-    m == 0 || p % 4 != 0 && m != 2
+    let m = marks[source(p)];
+    match Piece::of(p) {
+        Piece::Kept(_) => m == 0,
+        Piece::Continued(_) | Piece::Broken(_) | Piece::Closed(_) => m != 2,
+    }
 }
 
 // The mark of the line that w keeps as it is, else 0.
@@ -85,33 +89,26 @@ pub fn own_mark(lines: &[u32], w: usize, marks: &[u16]) -> usize
     requires { length marks.now ≡ 1024 }
     ensures { result ≡ own_mark lines.now marks.now w }
 {
-    if header(w) != 0 {
+    if !is_line(w) {
         return 0;
     }
-    let p = piece(w);
-    if p % 4 != 0 {
+    let Piece::Kept(i) = Piece::of(piece(w)) else {
         return 0;
-    }
-    let i = p / 4;
-    if i < lines.len() {
-        return wide(marks[i]);
-    }
-    0
+    };
+    if i < lines.len() { wide(marks[i]) } else { 0 }
 }
 
-// Nor has the condition of a header of kind h, of which the piece t is the leading test.
+// Nor has the condition of a header of kind h, of which the piece t is the leading test. Asked of the number: this tells 4 from 5, and
+// `Header` does not.
 fn quiet_over(marks: &[u16], h: usize, t: usize) -> bool
     requires { (t < 4096) × (length marks.now ≡ 1024) }
     ensures { result ≡ quiet_over marks.now h t }
 {
-    if h % 2 == 1 {
-        return quiet(marks, t);
-    }
-    true
+    h % 2 != 1 || quiet(marks, t)
 }
 
 // Nor has the line of w, which therefore has no goto.
-fn silent(marks: &[u16], w: usize) -> bool
+pub fn silent(marks: &[u16], w: usize) -> bool
     requires { length marks.now ≡ 1024 }
     ensures { result ≡ silent marks.now w }
 {
@@ -124,20 +121,4 @@ fn silent(marks: &[u16], w: usize) -> bool
         return over;
     }
     over && quiet(marks, initialiser(w)) && quiet(marks, step(w))
-}
-
-// The first place from k on of a word that is not silent, or behind the last word.
-pub fn next_loud(words: &[usize], k: usize, marks: &[u16]) -> usize
-    requires { (k ≤ length words.now) × (length marks.now ≡ 1024) × (all is_goto words.now ≡ true) }
-    ensures { Passed marks.now words.now k result }
-{
-    let mut j = k;
-    while j < words.len() {
-        if silent(marks, words[j]) {
-            j += 1;
-        } else {
-            return j;
-        }
-    }
-    j
 }

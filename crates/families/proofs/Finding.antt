@@ -266,7 +266,7 @@ module _ (t : List ℕ) (i : ℕ) where
   row_behind h = rw (le-ltb i 8 h)
 
 -- what is there for a row is the place of its family
-pub found_row : (L : List Line) (count : ℕ) (t s : List ℕ) (r : Register) (i w c : ℕ) → Table L count t → r ≡ Legacy i w → c ≡ row_word t i
+pub found_row : (L : List Line) (count : ℕ) (t s : List ℕ) (r : Option Register) (i w c : ℕ) → Table L count t → r ≡ Some (Legacy i w) → c ≡ row_word t i
     → c ≡ place_of (take count (defined_families L)) (family_of s r)
 unfolding row_word
 found_row L count t s r i w c T e q = rw e (go (ltb i 8) refl q)
@@ -293,7 +293,7 @@ family_at L count n t T k m h b e =
     let w = defines_first l (get_or (defined_families L) k []) (T.first k b) in
     e ∙ ap (hash_of m) (family_some (token l 0) w.0 w.1) ∙ ap (hash m) w.2
 
-module _ (L : List Line) (count : ℕ) (t s : List ℕ) (r : Register) (T : Table L count t) (answer : family_of s r ≡ family s)
+module _ (L : List Line) (count : ℕ) (t s : List ℕ) (r : Option Register) (T : Table L count t) (answer : family_of s r ≡ family s)
     (c h : ℕ) (is_hash : h ≡ hash_of (multiplier t) (family_of s r)) (low : h < 247) (is_last : c ≡ get_or t h 0) where
   last_few : c ≤ count
   last_few = omega (arith, is_last, T.heads h low, latest_le (multiplier t) (defined_families L) h count)

@@ -10,7 +10,7 @@
 --   kept_row, kept_behind    rules for `keep_row`
 --   emptied_by, linked_by, added_by, added_line, search_by    rules for `empty`, `link`, `add`, `add_line` and `search_line`
 --   rehash_start, rehash_next, rehash_end    rules for `rehash`
---   placed_none, placed_by, placed_other, placed_known, placed_new, placed_table, placed_again    rules for `place_register` and `place_line`
+--   placed_other, placed_known, placed_new, placed_table, placed_again    rules for `place_register` and `place_line`
 --   ready, defs_inside, place_fits, numbered_next, numbered_start, numbered_end     rules for `number_line` and `families`
 -- Assumes nothing.
 use Rattle.std.specs.Prelude.{Option, None, Some}
@@ -40,7 +40,6 @@ use Rattle.model.proofs.Decode.{length_listing}
 use Rattle.family.specs.declared.Register.{Register}
 use Rattle.legacy.specs.Table.{row_name}
 use Rattle.family.specs.Register.{family_of, named}
-use Rattle.assignment.specs.Definitions.{defined}
 use Rattle.families.specs.Families.{hash, hash_of, latest, place, place_of, multiplier, Linked, Table, families_before, kept, linked, added, emptied, of_register, Ready, Added, Placed, place_defined, defined_at, Numbered}
 use Rattle.families.proofs.Lists.{any_snoc, range_snoc}
 use Rattle.families.proofs.Finding.{unique_families, place_here, place_taken, place_more, family_at}
@@ -374,14 +373,7 @@ module _ (L : List Line) (i count : ℕ) (t : List ℕ) (R : Ready L i count t) 
       let same : families_before L (i + 1) ≡ families_before L i = families_next L i R.above ∙ ap (more (families_before L i)) n in
       record { place = rw n; families = z ∙ R.known ∙ sym (ap length same); table = rw z R.table; small = omega arith }
 
-  module _ (d : Option Register) (e : defined (line L i) d ≡ defines (line L i)) where
-    pub placed_none : d ≡ None → Placed L i count 0 t
-    placed_none q = nothing (sym e ∙ rw q)
-
-    pub placed_by : (r : Register) → d ≡ Some r → of_register (line L i) r ≡ defines (line L i)
-    placed_by r q = ap (defined (line L i)) (sym q) ∙ e
-
-  module _ (r : Register) (e : of_register (line L i) r ≡ defines (line L i)) where
+  module _ (r : Option Register) (e : of_register (line L i) r ≡ defines (line L i)) where
     abbrev found : Option Family
     found = family_of (token (line L i) 0).text r
 
@@ -554,7 +546,7 @@ module _ (t : List ℕ) (i c : ℕ) where
   unfolding kept
   kept_behind h = rw (le-ltb i 8 h)
 
-pub added_line : (l : Line) (count i h k : ℕ) (r : Register) (s t₀ t₁ t : List ℕ) → s ≡ (token l 0).text → h ≡ hash_of (multiplier t₀) (family_of s r) → h < 247
+pub added_line : (l : Line) (count i h k : ℕ) (r : Option Register) (s t₀ t₁ t : List ℕ) → s ≡ (token l 0).text → h ≡ hash_of (multiplier t₀) (family_of s r) → h < 247
     → ((j : ℕ) → j < 8 → named (◌≟ row_name j) (family_of s r) ≡ eqb k j) → t₁ ≡ kept t₀ k (count + 1) → t ≡ added t₁ count i h → Added l count i r t₀ t
 added_line l count i h k r s t₀ t₁ t w a b n c d = record {
   hash = h;
@@ -565,9 +557,9 @@ added_line l count i h k r s t₀ t₁ t w a b n c d = record {
   table = rw c at d;
 }
 
-pub search_by : (fs : List (List ℕ)) (r : Register) (s x : List ℕ) (c : ℕ) → s ≡ x → c ≡ place_of fs (family_of s r) → c ≡ place_of fs (family_of x r)
+pub search_by : (fs : List (List ℕ)) (r : Option Register) (s x : List ℕ) (c : ℕ) → s ≡ x → c ≡ place_of fs (family_of s r) → c ≡ place_of fs (family_of x r)
 search_by fs r s x c w e = rw w at e
 
 pub ruleset rehash_rules = (rehash_start, rehash_next, rehash_end)
 
-pub ruleset place_rules = (placed_none, placed_by, placed_other, placed_known, placed_new, placed_table, placed_again, emptied_by, linked_by, added_by, added_line, kept_row, kept_behind, search_by, ready, defs_inside, place_fits, numbered_next, numbered_end, numbered_start)
+pub ruleset place_rules = (placed_other, placed_known, placed_new, placed_table, placed_again, emptied_by, linked_by, added_by, added_line, kept_row, kept_behind, search_by, ready, defs_inside, place_fits, numbered_next, numbered_end, numbered_start)

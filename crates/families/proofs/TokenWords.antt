@@ -48,6 +48,6 @@ unfolding place place_at
 place_most fs None = omega arith
 place_most fs (Some f) = position_most f.name fs
 
-pub found_few : (L : List Line) (count : ℕ) (t : List ℕ) → Finds L count t → (s : List ℕ) (r : Register) (c : ℕ)
+pub found_few : (L : List Line) (count : ℕ) (t : List ℕ) → Finds L count t → (s : List ℕ) (r : Option Register) (c : ℕ)
     → c ≡ place_of (take count (defined_families L)) (family_of s r) → c ≤ 1024
 found_few L count t F s r c e = omega (arith, e, place_most (take count (defined_families L)) (family_of s r), length-take count (defined_families L), F.few)

@@ -99,7 +99,7 @@ unfoldable pub emptied : List ℕ → ℕ → List ℕ
 emptied t m = set (replicate 247 0 ++ drop 247 t) 247 m
 
 -- t is t₀ with the family of token 0 of line l, whose answer is r; `row` is the row that has its name
-pub record Added (l : Line) (count i : ℕ) (r : Register) (t₀ t : List ℕ) : Type 0 where
+pub record Added (l : Line) (count i : ℕ) (r : Option Register) (t₀ t : List ℕ) : Type 0 where
   pub hash : ℕ
   pub hash_is : hash ≡ hash_of (multiplier t₀) (family_of (token l 0).text r)
   pub hash_low : hash < 247
@@ -108,7 +108,7 @@ pub record Added (l : Line) (count i : ℕ) (r : Register) (t₀ t : List ℕ) :
   pub table : t ≡ added (kept t₀ row (count + 1)) count i hash
 
 -- the name of the family that line l defines if its token 0 is the register r
-abbrev pub of_register : Line → Register → Option (List ℕ)
+abbrev pub of_register : Line → Option Register → Option (List ℕ)
 of_register l r = option_map (λ (f : Family). f.name) (family_of (token l 0).text r)
 
 -- line i is next, `count` families being known before it

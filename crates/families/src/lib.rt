@@ -14,10 +14,10 @@
 //   word 257 + 2 k         the line of its first definition
 // Contracts cite `defined_families` of Rattle.definitions.specs.Recover and `defines` of Rattle.definitions.specs.Statements.
 
-#![tactic(auto)]
+#![tactic(auto, using(crate::proofs::Finding::row_rules, crate::proofs::Finding::search_rules, crate::proofs::Hashes::hash_rules, crate::proofs::Numbered::rehash_rules, crate::proofs::Numbered::place_rules))]
 
 ghost use Rattle.std.specs.Prelude.{◌≡◌, List, ℕ, ◌+◌, ◌*◌, ◌<◌, ◌≤◌, length, take, get_or};
-ghost use Rattle.definitions.specs.Lists.{is_some, ◌≟◌};
+ghost use Rattle.definitions.specs.Lists.{is_some};
 ghost use Rattle.definitions.specs.Family.{family};
 ghost use Rattle.definitions.specs.Model.{token, line};
 ghost use Rattle.definitions.specs.Statements.{defines};
@@ -30,6 +30,8 @@ ghost use Rattle.families.specs.Families.{hash, hash_of, place_of, multiplier, r
 use family::Register;
 use model::listing::Listing;
 use words::{narrow, number, word};
+
+pub mod lookup;
 
 // The first multiplier.
 const FIRST: u16 = 4339;
@@ -49,32 +51,33 @@ fn row_hash(m: u16, i: usize) -> usize
 }
 
 // The hash, by the table's multiplier, of the family that the answer r of the text s is.
-fn hash_of(table: &[u16], s: &[u8], r: Register) -> usize
+fn hash_of(table: &[u16], s: &[u8], r: Option<Register>) -> usize
     ensures { (result ≡ hash_of (multiplier table.now) (family_of s.now r)) × (result < 247) }
 {
     let m = word(table, 247);
     match r {
-        Register::Legacy(i, _) => if i < 8 { row_hash(m, i) } else { 0 },
-        Register::Numbered(n, _) => names::hash(m, text::part(s, 0, n)) % 247,
-        Register::Var => names::hash(m, s) % 247,
-        Register::Nothing => 0,
+        Some(Register::Legacy { row, .. }) => if row < 8 { row_hash(m, row) } else { 0 },
+        Some(Register::Numbered { length, .. }) => {
+            names::hash(m, text::part(s, 0, length)) % 247
+        }
+        Some(Register::Var) => names::hash(m, s) % 247,
+        None => 0,
     }
 }
 
 // The answer is a family.
-pub fn is_some(r: Register) -> bool
+pub fn is_some(r: Option<Register>) -> bool
     ensures { (s : List ℕ) → result ≡ is_some (family_of s r) }
 {
     match r {
-        Register::Legacy(i, _) => i < 8,
-        Register::Numbered(_, _) => true,
-        Register::Var => true,
-        Register::Nothing => false,
+        Some(Register::Legacy { row, .. }) => row < 8,
+        Some(Register::Numbered { .. } | Register::Var) => true,
+        None => false,
     }
 }
 
 // Line i's first token names the family that the answer r of the text s is.
-fn is_family(code: &Listing, table: &[u16], k: usize, s: &[u8], r: Register) -> bool
+fn is_family(code: &Listing, table: &[u16], k: usize, s: &[u8], r: Option<Register>) -> bool
     requires { k < 1024 }
     ensures { result ≡ names_family (family_of s.now r) (token (line (listing_of code.now) (get_or table.now (257 + 2 * k) 0)) 0) }
 {
@@ -88,20 +91,22 @@ fn row_word(table: &[u16], i: usize) -> usize
     if i < 8 { number(table, 248 + i) } else { 0 }
 }
 
-// The same as `search`, by the chain of the hash h.
+// 1 + the place among the first `count` families of the one that the answer r of the text s is, 0 where it is none of them: by the chain of the
+// hash h.
 fn search_chain(
     code: &Listing,
     table: &[u16],
     count: usize,
     h: usize,
     s: &[u8],
-    r: Register,
+    r: Option<Register>,
 ) -> usize
     requires table { Table (listing_of code.now) count table.now × (count ≤ 1024) }
     requires h_value { (h ≡ hash_of (multiplier table.now) (family_of s.now r)) × (h < 247) }
     ensures { result ≡ place_of (take count (defined_families (listing_of code.now))) (family_of s.now r) }
 {
     let mut c = number(table, h);
+    // A `while`: it follows the links of a chain, which is no range.
     while 0 < c {
         if is_family(code, table, c - 1, s, r) {
             return c;
@@ -109,42 +114,6 @@ fn search_chain(
         c = number(table, 256 + 2 * (c - 1));
     }
     0
-}
-
-// The first definition of family k writes its register as s.
-fn has_text(code: &Listing, table: &[u16], k: usize, s: &[u8]) -> bool
-    requires { k < 1024 }
-    ensures { result ≡ ((token (line (listing_of code.now) (get_or table.now (257 + 2 * k) 0)) 0).text ≟ s.now) }
-{
-    let i = number(table, 257 + 2 * k);
-    text::equal(code.text_at(i, 0), s)
-}
-
-// The same as `search`, by the hash. A text that is written as where its family is first defined is looked up no second time.
-fn search_text(code: &Listing, table: &[u16], count: usize, s: &[u8], r: Register) -> usize
-    requires { Table (listing_of code.now) count table.now × (count ≤ 1024) × (family_of s.now r ≡ family s.now) }
-    ensures { result ≡ place_of (take count (defined_families (listing_of code.now))) (family_of s.now r) }
-{
-    let h = hash_of(table, s, r);
-    let last = number(table, h);
-    if 0 < last {
-        if has_text(code, table, last - 1, s) {
-            return last;
-        }
-    }
-    search_chain(code, table, count, h, s, r)
-}
-
-// 1 + the place among the first `count` families of the one that the answer r of the register s is, 0 where it is none of them. For a legacy
-// name that is the word of its row.
-pub fn search(code: &Listing, table: &[u16], count: usize, s: &[u8], r: Register) -> usize
-    requires { Table (listing_of code.now) count table.now × (count ≤ 1024) × (family_of s.now r ≡ family s.now) }
-    ensures { result ≡ place_of (take count (defined_families (listing_of code.now))) (family_of s.now r) }
-{
-    let Register::Legacy(i, _) = r else {
-        return search_text(code, table, count, s, r);
-    };
-    row_word(table, i)
 }
 
 // One family more in the chains: its number is `count`, its hash h.
@@ -179,12 +148,12 @@ fn keep_row(table: &mut [u16], i: usize, c: usize)
     }
 }
 
-// The same as `search`, of token 0 of line i, whose answer is r: the text of a legacy name is not read.
-fn search_line(code: &Listing, table: &[u16], i: usize, count: usize, r: Register) -> usize
+// The same of token 0 of line i, whose answer is r: the text of a legacy name is not read.
+fn search_line(code: &Listing, table: &[u16], i: usize, count: usize, r: Option<Register>) -> usize
     requires { Ready (listing_of code.now) i count table.now }
     ensures { let L = listing_of code.now in result ≡ place_of (take count (defined_families L)) (family_of (token (line L i) 0).text r) }
 {
-    let Register::Legacy(row, _) = r else {
+    let Some(Register::Legacy { row, .. }) = r else {
         let s = code.text_at(i, 0);
         let h = hash_of(table, s, r);
         return search_chain(code, table, count, h, s, r);
@@ -193,7 +162,7 @@ fn search_line(code: &Listing, table: &[u16], i: usize, count: usize, r: Registe
 }
 
 // The family of token 0 of line i, whose answer is r, put into the table. Its row is that of its name, whatever the kind of the answer.
-fn add_line(code: &Listing, table: &mut [u16], i: usize, count: usize, r: Register)
+fn add_line(code: &Listing, table: &mut [u16], i: usize, count: usize, r: Option<Register>)
     requires { Ready (listing_of code.now) i count table.old }
     ensures { Added (line (listing_of code.now) i) count i r table.old table.new }
 {
@@ -257,20 +226,26 @@ fn shorten(code: &Listing, table: &mut [u16], count: usize)
 }
 
 // 1 + the number of the family that line i defines by the register r; a family that is not in the table yet is added.
-fn place_register(code: &Listing, table: &mut [u16], i: usize, count: usize, r: Register) -> usize
+fn place_register(
+    code: &Listing,
+    table: &mut [u16],
+    i: usize,
+    count: usize,
+    r: Option<Register>,
+) -> usize
     requires ready { Ready (listing_of code.now) i count table.old }
     requires r_value { let L = listing_of code.now in of_register (line L i) r ≡ defines (line L i) }
     ensures { Placed (listing_of code.now) i count result table.new }
 {
-    if is_some(r) {
-        let c = search_line(code, table, i, count, r);
-        if c == 0 {
-            add_line(code, table, i, count, r);
-            return count + 1;
-        }
-        return c;
+    if !is_some(r) {
+        return 0;
     }
-    0
+    let c = search_line(code, table, i, count, r);
+    if c == 0 {
+        add_line(code, table, i, count, r);
+        return count + 1;
+    }
+    c
 }
 
 // 1 + the number of the family that line i defines, 0 where it defines none; where that is a new one, its chain is kept short.
@@ -278,13 +253,10 @@ fn place_line(code: &Listing, table: &mut [u16], i: usize, count: usize) -> usiz
     requires { Ready (listing_of code.now) i count table.old }
     ensures { Placed (listing_of code.now) i count result table.new }
 {
-    let Some(r) = assignment::definition::defines(code, i) else {
-        return 0;
-    };
+    let r = assignment::definition::defines(code, i);
     let c = place_register(code, table, i, count, r);
     if count < c {
         shorten(code, table, c);
-        return c;
     }
     c
 }

@@ -4,9 +4,9 @@
 --   numbered_some, numbered_none    the family, by the width that the suffix says
 --   other_numbered, other_var, other_none    a name that is not in the table
 -- Assumes nothing.
-use Rattle.std.specs.Prelude.{None, Some}
+use Rattle.std.specs.Prelude.{if◌then◌else◌, Option, None, Some}
 use mathlib.Core.Path.{◌≡◌, refl, sym, ap, ◌∙◌}
-use mathlib.Core.Bool.{Bool, true, false, ◌&&◌, not, cond, and-false}
+use mathlib.Core.Bool.{Bool, true, false, ◌&&◌, not, cond, and-false, and-true, ◌||◌}
 use mathlib.Core.List.{List, [], ◌∷◌, ◌++◌}
 use Prim.Native.Nat.{ℕ, suc, ◌+◌, ◌≤◌, ◌<◌}
 use native.Mathlib.Nat.{sub-zero}
@@ -20,7 +20,7 @@ use Rattle.definitions.specs.Family.{digits, suffix_width, is_numbered, numbered
 use Rattle.text.proofs.Parts.{drop_step, drop_end, part_tail}
 use Rattle.family.specs.declared.Register.{Register}
 use Rattle.family.specs.declared.Register.TheVariants.{Numbered}
-use Rattle.family.specs.Register.{digit_count, number_end, above_zero, family_of, rest_family}
+use Rattle.family.specs.Register.{digit_count, number_end, family_of, rest_family}
 
 -- Digits
 
@@ -56,6 +56,46 @@ module _ (s : List ℕ) (i : ℕ) where
         let z : digit_count (drop i s) ≡ 0 = rw (drop_end s i h) in
         omega arith
 
+-- The width
+
+module _ (c : ℕ) where
+  by_letter : suffix_width (c ∷ []) ≡ (if eqb c 100 then Some 32 else if eqb c 119 then Some 16 else if eqb c 98 || eqb c 108 then Some 8 else None)
+  unfolding suffix_width ◌≟◌
+  by_letter = rw (and-true (eqb c 100), and-true (eqb c 119), and-true (eqb c 98), and-true (eqb c 108))
+
+  pub width_32 : c ≡ 100 → Some 32 ≡ suffix_width (c ∷ [])
+  width_32 e = sym (by_letter ∙ rw e)
+
+  pub width_16 : c ≡ 119 → Some 16 ≡ suffix_width (c ∷ [])
+  width_16 e = sym (by_letter ∙ rw e)
+
+  pub width_8 : c ≡ 98 → Some 8 ≡ suffix_width (c ∷ [])
+  width_8 e = sym (by_letter ∙ rw e)
+
+  pub width_8_low : c ≡ 108 → Some 8 ≡ suffix_width (c ∷ [])
+  width_8_low e = sym (by_letter ∙ rw e)
+
+  pub width_none : (c ≡ 100 → ⊥) → (c ≡ 119 → ⊥) → (c ≡ 98 → ⊥) → (c ≡ 108 → ⊥) → None ≡ suffix_width (c ∷ [])
+  width_none d w b l = sym (by_letter ∙ rw (ne_eqb c 100 d, ne_eqb c 119 w, ne_eqb c 98 b, ne_eqb c 108 l))
+
+pub width_empty : (s : List ℕ) → length s < 1 → Some 64 ≡ suffix_width s
+unfolding suffix_width ◌≟◌
+width_empty [] h = refl
+width_empty (c ∷ s) h = absurd (omega arith)
+
+pub width_letter : (s : List ℕ) (r : Option ℕ) → 1 ≤ length s → length s < 2 → r ≡ suffix_width (get_or s 0 0 ∷ []) → r ≡ suffix_width s
+width_letter [] r h g e = absurd (omega arith)
+width_letter (c ∷ []) r h g e = e
+width_letter (c ∷ (d ∷ s)) r h g e = absurd (omega arith)
+
+pub width_long : (s : List ℕ) → 2 ≤ length s → None ≡ suffix_width s
+unfolding suffix_width ◌≟◌
+width_long [] h = absurd (omega arith)
+width_long (c ∷ []) h = absurd (omega arith)
+width_long (c ∷ (d ∷ s)) h = rw (and-false (eqb c 100), and-false (eqb c 119), and-false (eqb c 98), and-false (eqb c 108))
+
+pub ruleset suffixes = (width_32, width_16, width_8, width_8_low, width_none, width_empty, width_letter, width_long)
+
 -- `r` and digits
 
 some_digits : (xs : List ℕ) → ltb 1 (1 + length xs) ≡ not (xs ≟ [])
@@ -71,20 +111,6 @@ digits_part (c ∷ s) = go (is_digit c) (digits_part s)
     go : (b : Bool) → take (length (digits s)) s ≡ digits s → take (length (cond b (c ∷ digits s) [])) (c ∷ s) ≡ cond b (c ∷ digits s) []
     go true e = ap (λ (l : List ℕ). c ∷ l) e
     go false e = refl
-
-digits_short : (s : List ℕ) → length (digits s) ≤ length s
-unfolding take_while
-digits_short [] = omega arith
-digits_short (c ∷ s) = go (is_digit c) (digits_short s)
-  where
-    go : (b : Bool) → length (digits s) ≤ length s → length (cond b (c ∷ digits s) []) ≤ suc (length s)
-    go true h = omega arith
-    go false h = omega arith
-
-numbered_short : (s : List ℕ) → starts_with (ascii "r") s ≡ true → 1 + digit_count (drop 1 s) ≤ length s
-unfolding starts_with digit_count
-numbered_short [] h = let z : ◌≡◌ {A = ℕ} 0 1 = cc in absurd (omega arith)
-numbered_short (c ∷ s) h = omega (arith, digits_short s)
 
 numbered_part : (s : List ℕ) → starts_with (ascii "r") s ≡ true → part 0 (1 + digit_count (drop 1 s)) s ≡ ascii "r" ++ digits (drop 1 s)
 unfolding starts_with digit_count
@@ -118,22 +144,19 @@ module _ (s : List ℕ) (n : ℕ) (e : n ≡ number_end s) where
     ends : n ≡ 1 + digit_count (drop 1 s)
     ends = e ∙ rw starts
 
-    pub number_inside : n ≤ length s
-    number_inside = rw ends (numbered_short s starts)
-
-    module _ (w : ℕ) (x : List ℕ) (q : above_zero w ≡ suffix_width x) (p : x ≡ part n (length s) s) where
-      suffix : suffix_width (drop (1 + digit_count (drop 1 s)) s) ≡ above_zero w
+    module _ (x : List ℕ) (o : Option ℕ) (q : o ≡ suffix_width x) (p : x ≡ part n (length s) s) where
+      suffix : suffix_width (drop (1 + digit_count (drop 1 s)) s) ≡ o
       suffix = rw (← ends, ← part_tail s n, ← p) (sym q)
 
-      pub numbered_some : (w ≡ 0 → ⊥) → family_of s (Numbered n w) ≡ numbered_family s
+      pub numbered_some : (w : ℕ) → o ≡ Some w → family_of s (Some (Numbered n w)) ≡ numbered_family s
       unfolding digit_count
-      numbered_some f = rw (suffix, ne_eqb w 0 f, ends, numbered_part s starts)
+      numbered_some w f = rw (suffix, f, ends, numbered_part s starts)
 
-      pub numbered_none : w ≡ 0 → None ≡ numbered_family s
+      pub numbered_none : o ≡ None → None ≡ numbered_family s
       unfolding digit_count
       numbered_none f = rw (suffix, f)
 
-    pub other_numbered : (r : Register) → family_of s r ≡ numbered_family s → family_of s r ≡ rest_family s
+    pub other_numbered : (r : Option Register) → family_of s r ≡ numbered_family s → family_of s r ≡ rest_family s
     other_numbered r g = rw flag g
 
   pub no_flag : n ≤ 1 → is_numbered s ≡ false

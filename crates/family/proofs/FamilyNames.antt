@@ -25,13 +25,13 @@ use Rattle.definitions.specs.Statements.{is_var}
 use Rattle.text.proofs.Texts.{≟_eq, ≟_sym}
 use Rattle.legacy.proofs.Table.{below}
 use Rattle.family.specs.declared.Register.{Register}
-use Rattle.family.specs.declared.Register.TheVariants.{Legacy, Numbered, Var, Nothing}
+use Rattle.family.specs.declared.Register.TheVariants.{Legacy, Numbered, Var}
 use Rattle.legacy.specs.Table.{row_name}
 use Rattle.family.specs.Register.{family_of, row, own_name, same_name, names_family, named, is_var_family, is_wide}
 
 -- `row`, `own_name` and `is_wide`
 
-module _ (r : Register) (i w : ℕ) (e : r ≡ Legacy i w) where
+module _ (r : Option Register) (i w : ℕ) (e : r ≡ Some (Legacy i w)) where
   pub row_table : i < 8 → i ≡ row r
   row_table h = rw (e, lt-ltb i 8 h)
 
@@ -44,7 +44,7 @@ module _ (r : Register) (i w : ℕ) (e : r ≡ Legacy i w) where
   pub wide_behind : (s : List ℕ) → 8 ≤ i → false ≡ is_wide (family_of s r)
   wide_behind s h = rw (e, le-ltb i 8 h)
 
-module _ (r : Register) (n w : ℕ) (e : r ≡ Numbered n w) (s : List ℕ) where
+module _ (r : Option Register) (n w : ℕ) (e : r ≡ Some (Numbered n w)) (s : List ℕ) where
   pub wide_numbered : leb 32 w ≡ is_wide (family_of s r)
   wide_numbered = rw e
 
@@ -61,33 +61,33 @@ row_limit : (i : ℕ) (b : Bool) → ltb i 8 ≡ b → (cond b i 9 ≡ 8 → ⊥
 row_limit i true e q = omega (arith, ltb-true i 8 e)
 row_limit i false e q = omega arith
 
-in_table : (s : List ℕ) (r : Register) → row r < 8 → name_of (family_of s r) ≡ Some (row_name (row r))
-in_table s (Legacy i w) h = go (ltb i 8) h
+in_table : (s : List ℕ) (r : Option Register) → row r < 8 → name_of (family_of s r) ≡ Some (row_name (row r))
+in_table s (Some (Legacy i w)) h = go (ltb i 8) h
   where
     go : (b : Bool) → cond b i 9 < 8 → name_of (cond b (Some (record { name = row_name i; width = w })) None) ≡ Some (row_name (cond b i 9))
     go true g = refl
     go false g = absurd (omega arith)
-in_table s (Numbered n w) h = absurd (omega arith)
-in_table s Var h = absurd (omega arith)
-in_table s Nothing h = absurd (omega arith)
+in_table s (Some (Numbered n w)) h = absurd (omega arith)
+in_table s (Some Var) h = absurd (omega arith)
+in_table s None h = absurd (omega arith)
 
-in_text : (s : List ℕ) (r : Register) → row r ≡ 8 → name_of (family_of s r) ≡ Some (own_name s r)
-in_text s (Legacy i w) h = absurd (row_limit i (ltb i 8) refl h)
-in_text s (Numbered n w) h = refl
-in_text s Var h = refl
-in_text s Nothing h = absurd (omega arith)
+in_text : (s : List ℕ) (r : Option Register) → row r ≡ 8 → name_of (family_of s r) ≡ Some (own_name s r)
+in_text s (Some (Legacy i w)) h = absurd (row_limit i (ltb i 8) refl h)
+in_text s (Some (Numbered n w)) h = refl
+in_text s (Some Var) h = refl
+in_text s None h = absurd (omega arith)
 
-nowhere : (s : List ℕ) (r : Register) → 8 < row r → family_of s r ≡ None
-nowhere s (Legacy i w) h = go (ltb i 8) refl h
+nowhere : (s : List ℕ) (r : Option Register) → 8 < row r → family_of s r ≡ None
+nowhere s (Some (Legacy i w)) h = go (ltb i 8) refl h
   where
     go : (b : Bool) → ltb i 8 ≡ b → 8 < cond b i 9 → ◌≡◌ {A = Option Family} (cond b (Some (record { name = row_name i; width = w })) None) None
     go true e g = absurd (omega (arith, ltb-true i 8 e))
     go false e g = refl
-nowhere s (Numbered n w) h = absurd (omega arith)
-nowhere s Var h = absurd (omega arith)
-nowhere s Nothing h = refl
+nowhere s (Some (Numbered n w)) h = absurd (omega arith)
+nowhere s (Some Var) h = absurd (omega arith)
+nowhere s None h = refl
 
-module _ (s : List ℕ) (r : Register) (k : ℕ) (e : k ≡ row r) where
+module _ (s : List ℕ) (r : Option Register) (k : ℕ) (e : k ≡ row r) where
   at_row : k < 8 → name_of (family_of s r) ≡ Some (row_name k)
   at_row h = rw e (in_table s r (rw e at h))
 
@@ -100,7 +100,7 @@ module _ (s : List ℕ) (r : Register) (k : ℕ) (e : k ≡ row r) where
 -- `fam_of`
 
 module _ (s : List ℕ) (kind : ℕ) where
-  pub register_token : (r : Register) → kind ≡ 1 → family_of s r ≡ family s → family_of s r ≡ fam_of (tok s kind)
+  pub register_token : (r : Option Register) → kind ≡ 1 → family_of s r ≡ family s → family_of s r ≡ fam_of (tok s kind)
   unfolding fam_of
   register_token r h g = rw (eq-eqb kind 1 h) g
 
@@ -152,7 +152,7 @@ none_right : (o : Option Family) → same_name o None ≡ false
 none_right None = refl
 none_right (Some f) = refl
 
-module _ (a b : List ℕ) (ra rb : Register) (i j : ℕ) (p : i ≡ row ra) (q : j ≡ row rb) where
+module _ (a b : List ℕ) (ra rb : Option Register) (i j : ℕ) (p : i ≡ row ra) (q : j ≡ row rb) where
   same_named : (x y : List ℕ) → name_of (family_of a ra) ≡ Some x → name_of (family_of b rb) ≡ Some y → same_name (family_of a ra) (family_of b rb) ≡ (x ≟ y)
   unfolding equal_names
   same_named x y e f = same_by (family_of a ra) (family_of b rb) ∙ rw (e, f)
@@ -170,7 +170,7 @@ module _ (a b : List ℕ) (ra rb : Register) (i j : ℕ) (p : i ≡ row ra) (q :
     pub same_texts : (x y : List ℕ) → i ≡ 8 → x ≡ own_name a ra → j ≡ 8 → y ≡ own_name b rb → r ≡ (x ≟ y) → r ≡ same_name (family_of a ra) (family_of b rb)
     same_texts x y h f g k e = e ∙ sym (same_named x y (at_text a ra i p x h f) (at_text b rb j q y g k))
 
-module _ (a b : List ℕ) (ra rb : Register) (k : ℕ) where
+module _ (a b : List ℕ) (ra rb : Option Register) (k : ℕ) where
   pub same_none_left : k ≡ row ra → 8 ≤ k → (k ≡ 8 → ⊥) → false ≡ same_name (family_of a ra) (family_of b rb)
   same_none_left p h g = rw (at_none a ra k p h g)
 
@@ -190,7 +190,7 @@ unfolding names
 names_by None t = none_right (fam_of t)
 names_by (Some f) t = same_names (fam_of t) (Some f)
 
-pub names_same : (s : List ℕ) (kind : ℕ) (q : Register) (o : Option Family) (y : Bool)
+pub names_same : (s : List ℕ) (kind : ℕ) (q : Option Register) (o : Option Family) (y : Bool)
     → family_of s q ≡ fam_of (tok s kind) → y ≡ same_name (family_of s q) o → y ≡ names_family o (tok s kind)
 names_same s kind q o y e f = f ∙ rw e (names_by o (tok s kind))
 
@@ -218,7 +218,7 @@ named_nowhere x k inv h i g = inv i (omega arith) ∙ sym (ne_eqb 8 i (λ q. ome
 
 -- `row_of`
 
-module _ (s : List ℕ) (r : Register) (k : ℕ) (e : k ≡ row r) where
+module _ (s : List ℕ) (r : Option Register) (k : ℕ) (e : k ≡ row r) where
   module _ (i : ℕ) (g : i < 8) where
     pub row_is : k < 8 → named (◌≟ row_name i) (family_of s r) ≡ eqb k i
     row_is h = named_by (◌≟ row_name i) (family_of s r) (row_name k) (at_row s r k e h) ∙ rows_differ k h i g
@@ -231,7 +231,7 @@ module _ (s : List ℕ) (r : Register) (k : ℕ) (e : k ≡ row r) where
 
 -- `is_var`
 
-module _ (s : List ℕ) (r : Register) (k : ℕ) (e : k ≡ row r) where
+module _ (s : List ℕ) (r : Option Register) (k : ℕ) (e : k ≡ row r) where
   pub var_text : (x : List ℕ) (y : Bool) → k ≡ 8 → x ≡ own_name s r → y ≡ starts_with (ascii "var_") x → y ≡ is_var_family (family_of s r)
   var_text x y h q f = f ∙ sym (named_by is_var (family_of s r) x (at_text s r k e x h q))
 

@@ -1,4 +1,3 @@
 pub mod Places
-pub mod Codes
 pub mod Digits
 pub mod FamilyNames

@@ -46,26 +46,26 @@ same_eq (Some f) (Some g) e =
     let y = both (f.name ≟ g.name) (eqb f.width g.width) e in
     family_eq f.name g.name f.width g.width (≟_eq f.name g.name y.0) (eqb-true f.width g.width y.1)
 
-row_family : (p : ℕ) → p < 32 → family_of [] (Legacy (p / 4) (get_or widths (p % 4) 0)) ≡ family (name_at p)
+row_family : (p : ℕ) → p < 32 → family_of [] (Some (Legacy (p / 4) (get_or widths (p % 4) 0))) ≡ family (name_at p)
 unfolding all range ◌≟◌ concat legacy all_names same family legacy_family position
 row_family p h =
-    same_eq (family_of [] (Legacy (p / 4) (get_or widths (p % 4) 0))) (family (name_at p))
-    (below (λ p. same (family_of [] (Legacy (p / 4) (get_or widths (p % 4) 0))) (family (name_at p))) 32 p refl h)
+    same_eq (family_of [] (Some (Legacy (p / 4) (get_or widths (p % 4) 0)))) (family (name_at p))
+    (below (λ p. same (family_of [] (Some (Legacy (p / 4) (get_or widths (p % 4) 0)))) (family (name_at p))) 32 p refl h)
 
-high_family : (k : ℕ) → k < 4 → family_of [] (Legacy k 8) ≡ family (name_at (32 + k))
+high_family : (k : ℕ) → k < 4 → family_of [] (Some (Legacy k 8)) ≡ family (name_at (32 + k))
 unfolding all range ◌≟◌ concat legacy all_names same family legacy_family position other_family
 high_family k h =
-    same_eq (family_of [] (Legacy k 8)) (family (name_at (32 + k)))
-    (below (λ k. same (family_of [] (Legacy k 8)) (family (name_at (32 + k)))) 4 k refl h)
+    same_eq (family_of [] (Some (Legacy k 8))) (family (name_at (32 + k)))
+    (below (λ k. same (family_of [] (Some (Legacy k 8))) (family (name_at (32 + k)))) 4 k refl h)
 
 module _ (s : List ℕ) (p : ℕ) (e : Some p ≡ position (s ≟◌) all_names) where
   is_name : s ≡ name_at p
   is_name = ≟_eq s (name_at p) (position_at (s ≟◌) [] all_names p (sym e)).1
 
-  pub family_row : (w : ℕ) → w ≡ get_or widths (p % 4) 0 → p < 32 → family_of s (Legacy (p / 4) w) ≡ family s
+  pub family_row : (w : ℕ) → w ≡ get_or widths (p % 4) 0 → p < 32 → family_of s (Some (Legacy (p / 4) w)) ≡ family s
   family_row w e h = rw e (row_family p h ∙ ap family (sym is_name))
 
-  pub family_high : 32 ≤ p → p < 36 → family_of s (Legacy (p - 32) 8) ≡ family s
+  pub family_high : 32 ≤ p → p < 36 → family_of s (Some (Legacy (p - 32) 8)) ≡ family s
   family_high h g =
       let z : 32 + (p - 32) ≡ p = omega arith in
       let y : name_at (32 + (p - 32)) ≡ name_at p = ap name_at z in
@@ -126,7 +126,7 @@ not_numbered p h = go (is_numbered (name_at p)) (below (λ p. not (is_numbered (
     go true e = sym e
     go false e = refl
 
-pub family_numbered : (s : List ℕ) (n : ℕ) → n ≡ number_end s → 1 < n → (r : Register) → family_of s r ≡ numbered_family s → family_of s r ≡ family s
+pub family_numbered : (s : List ℕ) (n : ℕ) → n ≡ number_end s → 1 < n → (r : Option Register) → family_of s r ≡ numbered_family s → family_of s r ≡ family s
 family_numbered s n e h r q = family_other s (go (position (s ≟◌) all_names) refl) (family_of s r) (other_numbered s n e h r q)
   where
     go : (o : Option ℕ) → position (s ≟◌) all_names ≡ o → None ≡ o

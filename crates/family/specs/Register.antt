@@ -1,11 +1,8 @@
 -- What an answer of the code says of a text, as the definitions' families.
 --   digit_count s        how many digits s starts with
 --   number_end s         how many bytes `r` and digits at the start of s are, 0 without an `r`
---   above_zero w         w, where it is not 0
 --   family_of s r        the family and the width that the answer r gives the text s
 --   rest_family s        the family of a text that is none of the names
---   number_length n w    how many of n bytes are the name of a numbered register of width w: not the letter that says the width
---   decoded n c          the answer that the number c stands for, of a text of n bytes
 --   row r                where the name of r's family stands: its row of the table; 8, in the text; 9, nowhere
 --   own_name s r         the part of the text s that is its family's name, where it stands there
 --   same_name o p        both are families, of one name
@@ -13,14 +10,14 @@
 --   named p o            o is a family, and p holds of its name
 --   is_var_family o, is_wide o    o is a `var_`; a family, of width 32 or more
 -- Assumes nothing.
-use Rattle.std.specs.Prelude.{if◌then◌else◌, ℕ, ◌+◌, ◌-◌, ◌/◌, ◌%◌, Bool, false, List, [], eqb, leb, ltb, length, drop, Option, None, Some}
+use Rattle.std.specs.Prelude.{if◌then◌else◌, ℕ, ◌+◌, Bool, false, List, [], leb, ltb, length, drop, Option, None, Some}
 use Rattle.definitions.specs.Lists.{part, ◌≟◌, starts_with, ascii}
 use Rattle.definitions.specs.Model.{Token}
 use Rattle.definitions.specs.Family.{Family, digits, is_numbered, numbered_family, names}
 use Rattle.definitions.specs.Statements.{is_var}
 use Rattle.legacy.specs.Table.{row_name}
 use Rattle.family.specs.declared.Register.{Register}
-use Rattle.family.specs.declared.Register.TheVariants.{Legacy, Numbered, Var, Nothing}
+use Rattle.family.specs.declared.Register.TheVariants.{Legacy, Numbered, Var}
 
 unfoldable pub digit_count : List ℕ → ℕ
 digit_count s = length (digits s)
@@ -28,14 +25,11 @@ digit_count s = length (digits s)
 abbrev pub number_end : List ℕ → ℕ
 number_end s = if starts_with (ascii "r") s then 1 + digit_count (drop 1 s) else 0
 
-abbrev pub above_zero : ℕ → Option ℕ
-above_zero w = if eqb w 0 then None else Some w
-
-abbrev pub family_of : List ℕ → Register → Option Family
-family_of s (Legacy i w) = if ltb i 8 then Some (record { name = row_name i; width = w }) else None
-family_of s (Numbered n w) = Some (record { name = part 0 n s; width = w })
-family_of s Var = Some (record { name = s; width = 64 })
-family_of s Nothing = None
+abbrev pub family_of : List ℕ → Option Register → Option Family
+family_of s (Some (Legacy i w)) = if ltb i 8 then Some (record { name = row_name i; width = w }) else None
+family_of s (Some (Numbered n w)) = Some (record { name = part 0 n s; width = w })
+family_of s (Some Var) = Some (record { name = s; width = 64 })
+family_of s None = None
 
 abbrev pub rest_family : List ℕ → Option Family
 rest_family s =
@@ -43,27 +37,17 @@ rest_family s =
     else if starts_with (ascii "var_") s then Some (record { name = s; width = 64 })
     else None
 
-abbrev pub number_length : ℕ → ℕ → ℕ
-number_length n w = if eqb w 64 then n else n - 1
+abbrev pub row : Option Register → ℕ
+row (Some (Legacy i w)) = if ltb i 8 then i else 9
+row (Some (Numbered n w)) = 8
+row (Some Var) = 8
+row None = 9
 
-unfoldable pub decoded : ℕ → ℕ → Register
-decoded n c =
-    if eqb (c % 4) 0 then Nothing
-    else if eqb (c % 4) 1 then Var
-    else if eqb (c % 4) 2 then Legacy (c / 1024) (c / 4 % 256)
-    else Numbered (number_length n (c / 4)) (c / 4)
-
-abbrev pub row : Register → ℕ
-row (Legacy i w) = if ltb i 8 then i else 9
-row (Numbered n w) = 8
-row Var = 8
-row Nothing = 9
-
-abbrev pub own_name : List ℕ → Register → List ℕ
-own_name s (Legacy i w) = []
-own_name s (Numbered n w) = part 0 n s
-own_name s Var = s
-own_name s Nothing = []
+abbrev pub own_name : List ℕ → Option Register → List ℕ
+own_name s (Some (Legacy i w)) = []
+own_name s (Some (Numbered n w)) = part 0 n s
+own_name s (Some Var) = s
+own_name s None = []
 
 abbrev pub same_name : Option Family → Option Family → Bool
 same_name None p = false

@@ -11,7 +11,9 @@ use mathlib.Core.Path.{◌≡◌, refl, sym, ap, ◌∙◌}
 use mathlib.Core.Bool.{Bool, true, false, ◌&&◌, ◌||◌, cond}
 use mathlib.Core.List.{List}
 use Prim.Native.Nat.{ℕ, suc, ◌+◌, ◌-◌, ◌≤◌, ◌<◌}
+use native.Mathlib.Decide.{dec_le}
 use native.Mathlib.Omega.{arith}
+use Rattle.text.proofs.Bools.{bools}
 use borrow.Author.Tests.{le-leb, lt-leb, eq-eqb, ne_eqb}
 use lib.ListN.{get_or}
 use Rattle.definitions.specs.Lists.{or_else, any, part, ascii}
@@ -105,7 +107,33 @@ module _ (C : List Line) (p : Token → Bool) (ws : List ℕ) (ind n k : ℕ) (r
       pub init_stop : c ≡ false → None ≡ r
       init_stop u = sym (look ∙ rw (f, ← q, u))
 
-pub ruleset init_places = (inits_away, passes_away, inits_there, passes_there, init_over, init_top, init_here, init_next, init_stop)
+-- the search, line by line up to 4 before place w
+module _ (C : List Line) (p : Token → Bool) (ws : List ℕ) (ind w k : ℕ) (h : k ≤ w) (inv : init_words C p ws ind 4 w ≡ init_words C p ws ind (4 - (w - k)) k) where
+  module _ (lt : w - 4 < k) (b : Bool) (e : b ≡ (at_indent ind (get_or ws (k - 1) 0) && inits p (word_line C (get_or ws (k - 1) 0)))) where
+    pub place_here : b ≡ true → Some (k - 1) ≡ init_words C p ws ind 4 w
+    place_here f = init_here C p ws ind (4 - (w - k)) k (init_words C p ws ind 4 w) inv (omega arith) (λ z. omega arith) b e f
+
+    module _ (f : b ≡ false) (c : Bool) (q : c ≡ (at_indent ind (get_or ws (k - 1) 0) && passes p (word_line C (get_or ws (k - 1) 0)))) where
+      pub place_next : c ≡ true → init_words C p ws ind 4 w ≡ init_words C p ws ind (4 - (w - (k - 1))) (k - 1)
+      place_next u =
+          let z : 4 - (w - k) - 1 ≡ 4 - (w - (k - 1)) = omega arith in
+          init_next C p ws ind (4 - (w - k)) k (init_words C p ws ind 4 w) inv (omega arith) (λ z. omega arith) b e f c q u ∙ rw z
+
+      pub place_stop : c ≡ false → None ≡ init_words C p ws ind 4 w
+      place_stop u = init_stop C p ws ind (4 - (w - k)) k (init_words C p ws ind 4 w) inv (omega arith) (λ z. omega arith) b e f c q u
+
+  pub place_over : k ≤ w - 4 → None ≡ init_words C p ws ind 4 w
+  place_over ge = go (dec_le k 0)
+    where
+      go : Dec (k ≤ 0) → None ≡ init_words C p ws ind 4 w
+      go (yes z) = go_top (dec_le (4 - (w - k)) 0)
+        where
+          go_top : Dec (4 - (w - k) ≤ 0) → None ≡ init_words C p ws ind 4 w
+          go_top (yes y) = init_over C p ws ind (4 - (w - k)) k (init_words C p ws ind 4 w) inv y
+          go_top (no y) = init_top C p ws ind (4 - (w - k)) k (init_words C p ws ind 4 w) inv (omega arith) (omega arith)
+      go (no z) = init_over C p ws ind (4 - (w - k)) k (init_words C p ws ind 4 w) inv (omega arith)
+
+pub ruleset init_places = (inits_away, passes_away, inits_there, passes_there, place_here, place_next, place_stop, place_over)
 
 -- The registers of a leading test
 
@@ -201,7 +229,7 @@ module _ (C : List Line) (ws : List ℕ) (w e : ℕ) (p : Token → Bool) (b : B
     unfolding counts_words
     counts_is g = rw (← u, f, ← v, g)
 
-module _ (C : List Line) (ws : List ℕ) (w e p : ℕ) (r : Register) (g : family_of (token (origin C p) 0).text r ≡ fam_of (token (piece C p) 0)) (s : List ℕ)
+module _ (C : List Line) (ws : List ℕ) (w e p : ℕ) (r : Option Register) (g : family_of (token (origin C p) 0).text r ≡ fam_of (token (piece C p) 0)) (s : List ℕ)
     (q : s ≡ (token (origin C p) 0).text) (b : Bool) (u : b ≡ counts_words C ws w e (names_family (family_of s r))) where
   same_family : family_of s r ≡ fam_of (token (piece C p) 0)
   same_family = ap (λ s. family_of s r) q ∙ g
@@ -229,3 +257,9 @@ module _ (C : List Line) (ws : List ℕ) (w e : ℕ) (b : Bool) (u : b ≡ close
     place_is g s q o d = d ∙ rw (← u, f, ← v, g, q)
 
 pub ruleset for_words = (closed_short, closed_other, closed_is, steps_other, steps_is, counts_no, counts_continue, counts_is, counted_no, counted_is, place_open, place_still, place_is)
+
+pub ruleset ends = (end_words, continue_words)
+
+pub ruleset tests = (test_names, head_words)
+
+pub ruleset initials = (bools, init_places)

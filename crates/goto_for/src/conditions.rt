@@ -1,4 +1,7 @@
 // The registers that a header's condition names: those of the leading test that it is made of. Each token of the test is looked up once.
+
+#![tactic(auto, using(crate::proofs::WordRules::tests))]
+
 ghost use Rattle.std.specs.Prelude.{◌≡◌, true, ◌<◌};
 ghost use Rattle.definitions.specs.Lists.{any};
 ghost use Rattle.definitions.specs.Model.{line};
@@ -12,10 +15,18 @@ use family::Register;
 use model::listing::Listing;
 use negate::test::{test_count, test_kind, test_text};
 use pieces::leading::leading_test;
+use pieces::piece::source;
 use plan::{header, test};
 
 // Token k of the m tokens of the leading test of line i names the family that the answer r of the text s is.
-fn test_token_names(code: &Listing, i: usize, m: usize, k: usize, s: &[u8], r: Register) -> bool
+fn test_token_names(
+    code: &Listing,
+    i: usize,
+    m: usize,
+    k: usize,
+    s: &[u8],
+    r: Option<Register>,
+) -> bool
     requires { k < m }
     ensures { let l = line (listing_of code.now) i in
         result ≡ names_family (family_of s.now r) (test_token l m k) }
@@ -24,7 +35,7 @@ fn test_token_names(code: &Listing, i: usize, m: usize, k: usize, s: &[u8], r: R
 }
 
 // One of them does.
-fn test_names(code: &Listing, i: usize, m: usize, s: &[u8], r: Register) -> bool
+fn test_names(code: &Listing, i: usize, m: usize, s: &[u8], r: Option<Register>) -> bool
     ensures { let l = line (listing_of code.now) i in
         result ≡ any (names_family (family_of s.now r)) (test_tokens l m) }
 {
@@ -37,7 +48,7 @@ fn test_names(code: &Listing, i: usize, m: usize, s: &[u8], r: Register) -> bool
 }
 
 // The condition of the header v names it.
-pub fn head_names(code: &Listing, v: usize, s: &[u8], r: Register) -> bool
+pub fn head_names(code: &Listing, v: usize, s: &[u8], r: Option<Register>) -> bool
     requires { question_2 code.now.lines.now code.now.tokens.now code.now.text.now ≡ true }
     ensures { let C = listing_of code.now in
         result ≡ any (names_family (family_of s.now r)) (head_test C v) }
@@ -49,6 +60,6 @@ pub fn head_names(code: &Listing, v: usize, s: &[u8], r: Register) -> bool
     let Some(g) = leading_test(code, p) else {
         return false;
     };
-    let m = test_count(code, p / 4, g);
-    test_names(code, p / 4, m, s, r)
+    let i = source(p);
+    test_names(code, i, test_count(code, i, g), s, r)
 }

@@ -1,4 +1,7 @@
 // The tests of a `for`: a body that is closed, a step as its last line, and a condition that names the stepped register.
+
+#![tactic(auto, using(crate::proofs::WordRules::for_words))]
+
 ghost use Rattle.std.specs.Prelude.{◌≡◌, true, ◌<◌, length};
 ghost use Rattle.definitions.specs.Model.{token};
 ghost use Rattle.definitions.specs.Questions.{question_2};
@@ -13,6 +16,8 @@ use crate::ends::continues;
 use crate::initialisers::initialiser;
 use family::Register;
 use model::listing::Listing;
+use pieces::piece::source;
+use pieces::reading::is_brace;
 use plan::{indent, piece};
 
 // The body of the header at place w is closed by a lone `}` at place e, at the header's indent, and is not empty.
@@ -20,12 +25,7 @@ fn closed_body(code: &Listing, plan: &[usize], w: usize, e: usize) -> bool
     requires { (w < length plan.now) × (e < length plan.now) × (question_2 code.now.lines.now code.now.tokens.now code.now.text.now ≡ true) }
     ensures { result ≡ closed_words (listing_of code.now) plan.now w e }
 {
-    if e < w + 2 {
-        return false;
-    }
-    let h = plan[w];
-    let b = plan[e];
-    indent(b) == indent(h) && pieces::reading::is_brace(code, piece(b))
+    w + 2 <= e && indent(plan[e]) == indent(plan[w]) && is_brace(code, piece(plan[e]))
 }
 
 // The line of z stands one deeper than the header h and steps its first token.
@@ -37,7 +37,7 @@ fn steps(code: &Listing, h: usize, z: usize) -> bool
 }
 
 // The condition of the header at place w names the family that the answer r of the text s is, and no line of its body has continue.
-fn counts(code: &Listing, plan: &[usize], w: usize, e: usize, s: &[u8], r: Register) -> bool
+fn counts(code: &Listing, plan: &[usize], w: usize, e: usize, s: &[u8], r: Option<Register>) -> bool
     requires { (w < length plan.now) × (e < length plan.now) × (question_2 code.now.lines.now code.now.tokens.now code.now.text.now ≡ true) }
     ensures { let C = listing_of code.now in
         result ≡ counts_words C plan.now w e (names_family (family_of s.now r)) }
@@ -53,10 +53,9 @@ fn counted_place(code: &Listing, plan: &[usize], w: usize, e: usize, p: usize) -
         result ≡ counted_words C plan.now w e (names_family (fam_of (token (piece C p) 0))) }
 {
     let r = pieces::counting::stepped(code, p);
-    let s = code.text_at(p / 4, 0);
+    let s = code.text_at(source(p), 0);
     if counts(code, plan, w, e, s, r) {
-        let h = plan[w];
-        initialiser(code, plan, w, indent(h), s, r)
+        initialiser(code, plan, w, indent(plan[w]), s, r)
     } else {
         None
     }
@@ -67,12 +66,10 @@ pub fn for_place(code: &Listing, plan: &[usize], w: usize, e: usize) -> Option<u
     requires { (w < length plan.now) × (e < length plan.now) × (question_2 code.now.lines.now code.now.tokens.now code.now.text.now ≡ true) × (w < e) }
     ensures { result ≡ place_words (listing_of code.now) plan.now w e }
 {
-    if closed_body(code, plan, w, e) {
-        let h = plan[w];
-        let z = plan[e - 1];
-        if steps(code, h, z) {
-            return counted_place(code, plan, w, e, piece(z));
-        }
+    let z = plan[e - 1];
+    if closed_body(code, plan, w, e) && steps(code, plan[w], z) {
+        counted_place(code, plan, w, e, piece(z))
+    } else {
+        None
     }
-    None
 }

@@ -1,4 +1,7 @@
 // The end of a loop's body, and the keyword continue in it.
+
+#![tactic(auto, using(crate::proofs::WordRules::ends))]
+
 ghost use Rattle.std.specs.Prelude.{◌≡◌, ◌≤◌, length, take};
 ghost use Rattle.definitions.specs.Lists.{any, part, position_from};
 ghost use Rattle.model.specs.Listings.{listing_of};

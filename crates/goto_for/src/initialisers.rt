@@ -1,4 +1,7 @@
 // The initialiser of a `for`: the search among the lines before the header. A family is given by a `Register` and the text that it was looked up of.
+
+#![tactic(auto, using(crate::proofs::WordRules::initials))]
+
 ghost use Rattle.std.specs.Prelude.{◌≡◌, ◌&&◌, ◌≤◌, length};
 ghost use Rattle.family.specs.Register.{family_of, names_family};
 ghost use Rattle.plan.specs.ForLoop.{inits, passes};
@@ -9,17 +12,17 @@ ghost use Rattle.model.specs.Listings.{listing_of};
 use family::Register;
 use model::listing::Listing;
 use pieces::initial::{inits, passes};
-use plan::{header, indent, piece};
+use plan::{indent, is_line, piece};
 
 // The line of w stands at indent `ind` and is no header.
 fn at_indent(w: usize, ind: usize) -> bool
     ensures { result ≡ at_indent ind w }
 {
-    indent(w) == ind && header(w) == 0
+    indent(w) == ind && is_line(w)
 }
 
 // The line of w, at indent `ind`, is an initialiser.
-fn inits_at(code: &Listing, w: usize, ind: usize, s: &[u8], r: Register) -> bool
+fn inits_at(code: &Listing, w: usize, ind: usize, s: &[u8], r: Option<Register>) -> bool
     ensures { let C = listing_of code.now in
         result ≡ (at_indent ind w && inits (names_family (family_of s.now r)) (word_line C w)) }
 {
@@ -27,7 +30,7 @@ fn inits_at(code: &Listing, w: usize, ind: usize, s: &[u8], r: Register) -> bool
 }
 
 // It may stand between the initialiser and the header.
-fn passes_at(code: &Listing, w: usize, ind: usize, s: &[u8], r: Register) -> bool
+fn passes_at(code: &Listing, w: usize, ind: usize, s: &[u8], r: Option<Register>) -> bool
     ensures { let C = listing_of code.now in
         result ≡ (at_indent ind w && passes (names_family (family_of s.now r)) (word_line C w)) }
 {
@@ -41,26 +44,18 @@ pub fn initialiser(
     w: usize,
     ind: usize,
     s: &[u8],
-    r: Register,
+    r: Option<Register>,
 ) -> Option<usize>
     requires { w ≤ length plan.now }
     ensures { let C = listing_of code.now in
         result ≡ init_words C (names_family (family_of s.now r)) plan.now ind 4 w }
 {
-    let mut k = w;
-    let mut left: usize = 4;
-    while 0 < left {
-        if k == 0 {
-            return None;
-        }
-        let v = plan[k - 1];
+    for k in (w.saturating_sub(4)..w).rev() {
+        let v = plan[k];
         if inits_at(code, v, ind, s, r) {
-            return Some(k - 1);
+            return Some(k);
         }
-        if passes_at(code, v, ind, s, r) {
-            k -= 1;
-            left -= 1;
-        } else {
+        if !passes_at(code, v, ind, s, r) {
             return None;
         }
     }

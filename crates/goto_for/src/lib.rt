@@ -1,8 +1,9 @@
 // `to_for` over a plan of `recover_goto_loops`: pieces of every form, and headers over a leading test or over 1. Nothing of the listing is copied.
 //
-// `first_end` and `continues` look at each line of the body once, `initialiser` at most at four lines.
+// `first_end` and `continues` look at each line of the body once, `initialiser` at most at four lines. Crate `loops` has the same steps over lines
+// alone, and asks for `continue` of their masks: one function over both would look for every form at each line there.
 
-#![tactic(auto)]
+#![tactic(auto, using(crate::proofs::ForRules::for_answers))]
 
 pub mod conditions;
 pub mod counted;

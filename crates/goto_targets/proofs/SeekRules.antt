@@ -14,64 +14,58 @@ use native.Mathlib.Nat.{sub-zero}
 use native.Mathlib.Omega.{arith}
 use borrow.Author.Tests.{eq-eqb, ne_eqb}
 use lib.ListN.{length, get_or, take}
+use Rattle.std.specs.Borrow.{Bor}
 use Rattle.definitions.specs.Lists.{part, filter, on_last, ◌≟◌, ascii}
-use Rattle.definitions.specs.Model.{Token, Line, tok, no_token, token, line}
+use Rattle.definitions.specs.Model.{Token, Line, tok, no_token}
 use Rattle.definitions.specs.Statements.{is_kw}
 use Rattle.definitions.specs.ToFor.{popped, pop}
-use Rattle.text.proofs.Parts.{part_step, part_none, part_tail}
-use Rattle.negate.specs.Tests.{test, test_count, test_token, test_from, front, back}
+use Rattle.text.proofs.Parts.{part_step, part_none}
+use Rattle.negate.specs.Tests.{test, test_count, test_token, test_from}
 use Rattle.append.specs.Adds.{whole}
 use Rattle.negate.proofs.TestTokens.{test_first, test_past, test_is}
-use Rattle.goto_targets.specs.Seek.{Seek, Seek.looking, Seek.waiting, step, seek, told}
+use Rattle.goto_targets.specs.Seek.{Seek, Seek.waiting, Seek.found, step, seek, told}
 use Rattle.goto_targets.specs.declared.seeking.State.{State}
 use Rattle.goto_targets.specs.declared.seeking.State.TheVariants.{Looking, Waiting, Found}
 use Rattle.goto_targets.proofs.SeekLaws.{seek_append, popped_end}
 
 -- One token
 
-pub goto_is : (t : Token) (a e k : ℕ) (x y : List ℕ) (b : Bool) → k ≡ t.kind → k ≡ 3 → x ≡ t.text → y ≡ part a e x → b ≡ (y ≟ ascii "goto")
-    → b ≡ is_kw (ascii "goto") (tok (part a e t.text) t.kind)
-goto_is t a e k x y b c d f g h = rw (← c, eq-eqb k 3 d, ← f, ← g) h
+pub goto_is : (k : ℕ) (x : List ℕ) (b : Bool) → k ≡ 3 → b ≡ (x ≟ ascii "goto") → b ≡ is_kw (ascii "goto") (tok x k)
+goto_is k x b d h = rw (eq-eqb k 3 d) h
 
-module _ (C : List Line) (s : State) (t : Token) where
-  module _ (e : s ≡ Looking) (b : Bool) (q : b ≡ is_kw (ascii "goto") t) where
-    pub step_goto : b ≡ true → waiting ≡ step (told C s) t
+module _ (s : State) (k : ℕ) (x : Bor (List ℕ)) where
+  module _ (e : s ≡ Looking) (b : Bool) (q : b ≡ is_kw (ascii "goto") (tok x.now k)) where
+    pub step_goto : b ≡ true → waiting ≡ step (told s) (tok x.now k)
     unfolding step
     step_goto f = rw (e, ← q, f)
 
-    pub step_on : b ≡ false → looking ≡ step (told C s) t
+    pub step_on : b ≡ false → told s ≡ step (told s) (tok x.now k)
     unfolding step
     step_on f = rw (e, ← q, f)
 
-  module _ (e : s ≡ Waiting) (k : ℕ) (q : k ≡ t.kind) where
-    pub step_wait : (k ≡ 4 → ⊥) → waiting ≡ step (told C s) t
-    unfolding step
-    step_wait f = rw (e, ← q, ne_eqb k 4 f)
-
-  pub step_found : (i j a z : ℕ) → s ≡ Found i j a z → told C (Found i j a z) ≡ step (told C s) t
+  pub step_symbol : s ≡ Waiting → k ≡ 4 → found x.now ≡ step (told s) (tok x.now k)
   unfolding step
-  step_found i j a z e = rw e
+  step_symbol e f = rw (e, eq-eqb k 4 f)
 
-pub step_symbol : (C : List Line) (s : State) (i j a z : ℕ) → s ≡ Waiting → (k : ℕ) → k ≡ (token (line C i) j).kind → k ≡ 4
-    → told C (Found i j a z) ≡ step (told C s) (tok (part a z (token (line C i) j).text) (token (line C i) j).kind)
-unfolding step
-step_symbol C s i j a z e k q f = rw (e, ← q, eq-eqb k 4 f)
+  pub step_wait : s ≡ Waiting → (k ≡ 4 → ⊥) → told s ≡ step (told s) (tok x.now k)
+  unfolding step
+  step_wait e f = rw (e, ne_eqb k 4 f)
+
+  pub step_found : (y : Bor (List ℕ)) → s ≡ Found y → told s ≡ step (told s) (tok x.now k)
+  unfolding step
+  step_found y e = rw e
 
 pub ruleset steps = (goto_is, step_goto, step_on, step_symbol, step_wait, step_found)
 
 -- The tokens of a line
 
-whole_text : (x : List ℕ) → part 0 (length x) x ≡ x
-whole_text x = part_tail x 0
-
 module _ (s : Seek) (ts : List Token) (n : ℕ) where
   module _ (r : Seek) (j : ℕ) (inv : seek s (part 0 n ts) ≡ seek r (part j n ts)) where
-    pub tokens_next : n ≤ length ts → j < n → (x : List ℕ) → x ≡ (get_or ts j no_token).text → (r' : Seek)
-        → r' ≡ step r (tok (part 0 (length x) (get_or ts j no_token).text) (get_or ts j no_token).kind)
+    pub tokens_next : n ≤ length ts → j < n → (x : List ℕ) → x ≡ (get_or ts j no_token).text → (k : ℕ) → k ≡ (get_or ts j no_token).kind → (r' : Seek) → r' ≡ step r (tok x k)
         → seek s (part 0 n ts) ≡ seek r' (part (j + 1) n ts)
     unfolding seek
-    tokens_next fit lt x e r' q =
-        inv ∙ ap (seek r) (part_step no_token ts j n lt fit) ∙ ap (λ y. seek y (part (j + 1) n ts)) (sym (q ∙ rw e (ap (λ y. step r (tok y (get_or ts j no_token).kind)) (whole_text (get_or ts j no_token).text))))
+    tokens_next fit lt x e k f r' q =
+        inv ∙ ap (seek r) (part_step no_token ts j n lt fit) ∙ ap (λ y. seek y (part (j + 1) n ts)) (sym (q ∙ rw (e, f)))
 
     pub tokens_end : n ≤ j → r ≡ seek s (part 0 n ts)
     unfolding seek
@@ -92,14 +86,14 @@ module _ (s : Seek) (ts : List Token) (n : ℕ) (c : n ≡ length ts) where
   pub line_fits : n - 1 ≤ length ts
   line_fits = omega arith
 
-  pub line_last : (n ≡ 0 → ⊥) → (r : Seek) → r ≡ seek s (part 0 (n - 1) ts) → (x : List ℕ) → x ≡ (get_or ts (n - 1) no_token).text → (e : ℕ) → take e x ≡ pop x
-      → (y : Seek) → y ≡ step r (tok (part 0 e (get_or ts (n - 1) no_token).text) (get_or ts (n - 1) no_token).kind) → y ≡ seek s (popped ts)
+  pub line_last : (n ≡ 0 → ⊥) → (r : Seek) → r ≡ seek s (part 0 (n - 1) ts) → (x : List ℕ) → x ≡ (get_or ts (n - 1) no_token).text → (k : ℕ) → k ≡ (get_or ts (n - 1) no_token).kind
+      → (e : ℕ) → take e x ≡ pop x → (u : List ℕ) → u ≡ part 0 e x → (y : Seek) → y ≡ step r (tok u k) → y ≡ seek s (popped ts)
   unfolding seek
-  line_last f r q x g e p y z =
+  line_last f r q x g k h e p u v y z =
       let t = get_or ts (n - 1) no_token in
-      let cut : part 0 e t.text ≡ pop t.text = ap (λ m. take m t.text) (sub-zero e) ∙ rw (← g) p in
+      let cut : u ≡ pop t.text = v ∙ ap (λ m. take m x) (sub-zero e) ∙ p ∙ ap pop g in
       let front : part 0 (n - 1) ts ≡ take (n - 1) ts = ap (λ m. take m ts) (sub-zero (n - 1)) in
-      z ∙ rw (cut, q, front) (sym (ap (seek s) (popped_end ts n c f) ∙ seek_append s (take (n - 1) ts) (tok (pop t.text) t.kind ∷ [])))
+      z ∙ rw (cut, h, q, front) (sym (ap (seek s) (popped_end ts n c f) ∙ seek_append s (take (n - 1) ts) (tok (pop t.text) t.kind ∷ [])))
 
 pub ruleset ends = (line_none, line_fits, line_last)
 
@@ -119,10 +113,9 @@ module _ (s : Seek) (l : Line) (m k : ℕ) (x : List ℕ) (e : x ≡ (test_token
           by [] k z = none_of k
           by (b ∷ y) k z = absurd (omega arith)
 
-  pub token_full : (length x ≡ 0 → ⊥) → (y : List ℕ) → y ≡ (token l (k + 1)).text → (a b c : ℕ) → a ≡ front k → b ≡ back m k → c ≡ length y - b → (r : Seek)
-      → r ≡ step s (tok (part a c (token l (k + 1)).text) (token l (k + 1)).kind) → r ≡ seek s (whole (test_token l m k ∷ []))
-  token_full h y d a b c f g i r q =
-      q ∙ (rw (f, i, d, g) (unfold test_token in refl)) ∙ go (test_token l m k) (λ z. h (ap length e ∙ z))
+  pub token_full : (length x ≡ 0 → ⊥) → (z : ℕ) → z ≡ (test_token l m k).kind → (r : Seek) → r ≡ step s (tok x z) → r ≡ seek s (whole (test_token l m k ∷ []))
+  token_full h z d r q =
+      q ∙ rw (e, d) (go (test_token l m k) (λ z. h (ap length e ∙ z)))
     where
       some_of : (b : ℕ) (y : List ℕ) (k : ℕ) → step s (tok (b ∷ y) k) ≡ seek s (whole (tok (b ∷ y) k ∷ []))
       some_of b y k = unfold seek filter ◌≟◌ in refl
@@ -156,3 +149,5 @@ module _ (s : Seek) (l : Line) (m : ℕ) where
     test_end g c ge = sym (ap (seek s) (sym (test_is l g)) ∙ rw (← c) inv ∙ ap (λ ts. seek r (whole ts)) (test_past l m k ge))
 
 pub ruleset tests = (test_next, test_end)
+
+pub ruleset seeking = (steps, runs, ends, parts, tests)

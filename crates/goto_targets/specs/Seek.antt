@@ -3,11 +3,11 @@
 --   step s t         what the token t makes of it
 --   seek s ts        what the tokens ts make of it, one after the other
 --   target s         the target that was found
---   told C s         what the code's answer s says of the listing C
+--   told s           what the code's answer s says
 -- Assumes nothing.
 use Rattle.std.specs.Prelude.{if◌then◌else◌, ℕ, List, [], ◌∷◌, eqb, Option, None, Some}
-use Rattle.definitions.specs.Lists.{part, ascii}
-use Rattle.definitions.specs.Model.{Token, Line, token, line, Symbol}
+use Rattle.definitions.specs.Lists.{ascii}
+use Rattle.definitions.specs.Model.{Token, Symbol}
 use Rattle.definitions.specs.Statements.{is_kw}
 use Rattle.goto_targets.specs.declared.seeking.State.{State}
 use Rattle.goto_targets.specs.declared.seeking.State.TheVariants.{Looking, Waiting, Found}
@@ -31,7 +31,7 @@ target looking = None
 target waiting = None
 target (found s) = Some s
 
-abbrev pub told : List Line → State → Seek
-told C Looking = looking
-told C Waiting = waiting
-told C (Found i j a e) = found (part a e (token (line C i) j).text)
+abbrev pub told : State → Seek
+told Looking = looking
+told Waiting = waiting
+told (Found x) = found x.now

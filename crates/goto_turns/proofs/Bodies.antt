@@ -1,6 +1,6 @@
 -- The body of a goto loop: its words stand for the lines of `with_body`.
 --   label_text           the name of a label is the first token's text of its line of C
---   exit_here, exit_past    the exit's name by the code's answers
+--   exit_past, exit_none, exit_some    the exit's name by the code's answers
 --   close_line           the word of a closing brace
 --   moves_lines          the body can move in
 --   body_head            the label's word stays
@@ -34,7 +34,7 @@ use Rattle.plan.proofs.Rendered.{length_render, line_render, indent_line, kept_l
 use Rattle.loops.proofs.Lists.{all_at, all_from, all_set, all_on_part, all_on_whole}
 use Rattle.pieces.specs.Pieces.{piece}
 use Rattle.pieces.proofs.Forms.{kept_piece, label_other}
-use Rattle.gotos.specs.Body.{exit, jump_form, moves_in, body_word}
+use Rattle.gotos.specs.Body.{jump_form, moves_in, body_word}
 use Rattle.gotos.proofs.HeaderLines.{no_header_line, label_header, label_piece}
 use Rattle.gotos.proofs.BodyRules.{word_parts, body_line}
 use Rattle.goto_turns.specs.Loops.{close_word, jumped_words, body_words}
@@ -78,21 +78,23 @@ none_at (m ∷ L) zero h = absurd (omega arith)
 none_at (m ∷ L) (suc i) h = none_at L i (omega arith)
 
 module _ (C : List Line) (ws : List ℕ) (n b : ℕ) (le : n ≤ length ws) where
-  pub exit_past : n ≤ b + 1 → None ≡ exit_label (render C (take n ws)) b
+  pub exit_past : b + 1 ≡ n → None ≡ exit_label (render C (take n ws)) b
   exit_past h =
       sym (exit_by (render C (take n ws)) b None (none_at (render C (take n ws)) (b + 1) (omega (arith, length_render C (take n ws), length-take-le n ws le))))
 
-  pub exit_here : b + 1 < n → (y : Bool) → y ≡ is_label (line_of C (get_or ws (b + 1) 0)) → (s : ℕ) → s ≡ piece_at (get_or ws (b + 1) 0) / 4
-      → (x : List ℕ) → x ≡ (token (line C s) 0).text → exit y x ≡ exit_label (render C (take n ws)) b
-  exit_here h y e s d x f =
-      go y e
-      ∙ sym (exit_by (render C (take n ws)) b (Some (line_of C (get_or ws (b + 1) 0)))
-      (some_at C (take n ws) (b + 1) (omega (arith, length-take-le n ws le)) ∙ ap (λ w. Some (line_of C w)) (get_or-take n ws (b + 1) 0 h)))
-    where
-      go : (y : Bool) → y ≡ is_label (line_of C (get_or ws (b + 1) 0))
-          → exit y x ≡ (require (is_label (line_of C (get_or ws (b + 1) 0))) >>= λ _. Some (label (line_of C (get_or ws (b + 1) 0))))
-      go false e = rw (← e)
-      go true e = rw (← e) (ap Some (f ∙ label_text C (get_or ws (b + 1) 0) (sym e) s d))
+  module _ (h : b < n) (k : b + 1 ≡ n → ⊥) (y : Bool) (e : y ≡ is_label (line_of C (get_or ws (b + 1) 0))) where
+    exit_here : exit_label (render C (take n ws)) b ≡ (require (is_label (line_of C (get_or ws (b + 1) 0))) >>= λ _. Some (label (line_of C (get_or ws (b + 1) 0))))
+    exit_here =
+        exit_by (render C (take n ws)) b (Some (line_of C (get_or ws (b + 1) 0)))
+        (some_at C (take n ws) (b + 1) (omega (arith, length-take-le n ws le)) ∙ ap (λ w. Some (line_of C w)) (get_or-take n ws (b + 1) 0 (omega arith)))
+
+    pub exit_none : y ≡ false → None ≡ exit_label (render C (take n ws)) b
+    exit_none f = sym (exit_here ∙ rw (← e, f))
+
+    pub exit_some : y ≡ true → (s : ℕ) → s ≡ piece_at (get_or ws (b + 1) 0) / 4 → (x : List ℕ) → x ≡ (token (line C s) 0).text → Some x ≡ exit_label (render C (take n ws)) b
+    exit_some f s d x g = sym (exit_here ∙ rw (← e, f) (ap Some (sym (g ∙ label_text C (get_or ws (b + 1) 0) (sym e ∙ f) s d))))
+
+pub ruleset exits = (exit_past, exit_none, exit_some)
 
 -- Words
 

@@ -1,11 +1,11 @@
 -- A loop made, at the returns and calls of the functions that make it. ws is the lent plan at entry, of which n words count.
---   jumped_here, jumped_past                     the body rewritten, with a line behind the loop and without
+--   jumped_by                                    the body rewritten, by the exit's name
 --   rewritten_words                              the back edge made a closing brace
 --   ahead_header                                 no header stands from place h on
 --   header_calls, header_made                    the header made, then `to_for`
 --   rebuild_calls, rebuilt_go, rebuilt_beyond, rebuilt_deep    the whole loop
 -- Assumes nothing.
-use Rattle.std.specs.Prelude.{Option, None}
+use Rattle.std.specs.Prelude.{Option, Ok, Err}
 use Prim.Native.Nat.{ℕ, ◌+◌, ◌-◌, ◌/◌, ◌≤◌, ◌<◌}
 use mathlib.Core.Path.{◌≡◌, refl, sym, ap, ap₂, subst, ◌∙◌}
 use mathlib.Core.List.{List}
@@ -28,15 +28,15 @@ use Rattle.plan.specs.Changes.{is_line, Ahead}
 use Rattle.plan.specs.Source.{Source}
 use Rattle.plan.proofs.Rendered.{length_render, indent_line}
 use Rattle.loops.proofs.Lists.{all_at}
-use Rattle.gotos.specs.Body.{exit, moves_in, body_word}
+use Rattle.gotos.specs.Body.{moves_in, body_word}
 use Rattle.gotos.specs.Headed.{headed_words, fewer}
 use Rattle.gotos.proofs.EdgeRules.{line_at}
 use Rattle.goto_for.specs.Answer.{ToFor}
 use Rattle.goto_turns.specs.Loops.{close_word, jumped_words, body_words, with_header, Loop, Headed}
 use Rattle.goto_turns.specs.Turns.{TurnOf}
-use Rattle.goto_turns.specs.declared.turns.Turn.TheVariants.{Go, Beyond}
+use Rattle.plan.specs.declared.Overflow.{Overflow}
 use Rattle.goto_turns.proofs.Addresses.{bare_line, bare_render, label_bare, enters_bare}
-use Rattle.goto_turns.proofs.Bodies.{label_text, exit_here, exit_past, moves_lines, body_ahead, body_head, body_lines}
+use Rattle.goto_turns.proofs.Bodies.{label_text, moves_lines, body_ahead, body_head, body_lines}
 use Rattle.goto_turns.proofs.Headers.{tested_lines, headed_header, headed_ahead, headed_lines}
 
 -- The body
@@ -49,19 +49,10 @@ module _ (l t x ws : List ℕ) (n h b : ℕ) (p : Loop l t x n h b ws) where
     head_name : g ≡ label (line (render C (take n ws)) h)
     head_name = e ∙ (label_text C (get_or ws h 0) p.labelled.label s d ∙ ap label (sym (line_at C ws n h p.labelled.inside p.labelled.fits)))
 
-    jumped_by : (o : Option (List ℕ)) → o ≡ exit_label (render C (take n ws)) b → (r ≡ true → take n vs ≡ on_part (h + 1) b (body_word C g o) (take n ws))
+    pub jumped_by : (o : Option (List ℕ)) → o ≡ exit_label (render C (take n ws)) b → (r ≡ true → take n vs ≡ on_part (h + 1) b (body_word C g o) (take n ws))
         → r ≡ true → take n vs ≡ jumped_words C (take n ws) h b
     unfolding jumped_words
     jumped_by o q f z = f z ∙ ap₂ (λ a o. on_part (h + 1) b (body_word C a o) (take n ws)) head_name q
-
-    pub jumped_here : b + 1 < n → (y : Bool) → y ≡ is_label (line_of C (get_or ws (b + 1) 0)) → (k : ℕ) → k ≡ piece_at (get_or ws (b + 1) 0) / 4
-        → (a : List ℕ) → a ≡ (token (line C k) 0).text → (r ≡ true → take n vs ≡ on_part (h + 1) b (body_word C g (exit y a)) (take n ws))
-        → r ≡ true → take n vs ≡ jumped_words C (take n ws) h b
-    jumped_here lt y u k i a f = jumped_by (exit y a) (exit_here C ws n b p.labelled.fits lt y u k i a f)
-
-    pub jumped_past : n ≤ b + 1 → (r ≡ true → take n vs ≡ on_part (h + 1) b (body_word C g None) (take n ws))
-        → r ≡ true → take n vs ≡ jumped_words C (take n ws) h b
-    jumped_past ge = jumped_by None (exit_past C ws n b p.labelled.fits ge)
 
   pub rewritten_words : (i : ℕ) → i ≡ indent_at (get_or ws h 0) → (w : ℕ) → w ≡ close_word (get_or ws b 0) (i + 1) → (r : Bool) (vs : List ℕ)
       → (r ≡ true → take n vs ≡ jumped_words C (take n ws) h b) → r ≡ true → take n (set vs b w) ≡ body_words C (take n ws) h b
@@ -147,8 +138,8 @@ module _ (l t x ws : List ℕ) (n h b : ℕ) (p : Loop l t x n h b ws) where
     unfolding rewritten
     rewritten_by y e = rw e
 
-  pub rebuilt_deep : (i : ℕ) → i ≡ indent_at (get_or ws h 0) → i ≡ 254 → (vs : List ℕ) → TurnOf l t x (λ M. rewritten M h b) n h ws Beyond vs
-  rebuilt_deep i d e vs =
+  pub rebuilt_deep : (i : ℕ) → i ≡ indent_at (get_or ws h 0) → i ≡ 254 → (o : Overflow) (vs : List ℕ) → TurnOf l t x (λ M. rewritten M h b) n h ws (Err o) vs
+  rebuilt_deep i d e o vs =
       record {
         after = tt;
         turn = λ S R.
@@ -158,8 +149,8 @@ module _ (l t x ws : List ℕ) (n h b : ℕ) (p : Loop l t x n h b ws) where
       }
 
   module _ (r : Bool) (e : r ≡ all moves_in (part (h + 1) b (take n ws))) where
-    pub rebuilt_beyond : r ≡ false → (vs : List ℕ) → TurnOf l t x (λ M. rewritten M h b) n h ws Beyond vs
-    rebuilt_beyond f vs =
+    pub rebuilt_beyond : r ≡ false → (o : Overflow) (vs : List ℕ) → TurnOf l t x (λ M. rewritten M h b) n h ws (Err o) vs
+    rebuilt_beyond f o vs =
         record {
           after = tt;
           turn = λ S R. sym (rewritten_by S R false (rw (moves_lines S (take n ws) (h + 1) b, ← e, f)));
@@ -188,7 +179,7 @@ module _ (l t x ws : List ℕ) (n h b : ℕ) (p : Loop l t x n h b ws) where
       )
 
       pub rebuilt_go : (i : ℕ) → i ≡ indent_at (get_or ws h 0) → (i ≡ 254 → ⊥) → (k : ℕ) (us : List ℕ) → Headed l t x n h vs k us
-          → TurnOf l t x (λ M. rewritten M h b) n h ws (Go k) us
+          → TurnOf l t x (λ M. rewritten M h b) n h ws (Ok k) us
       rebuilt_go i d ne k us z =
           record {
             after = (z.fewer, z.ahead);

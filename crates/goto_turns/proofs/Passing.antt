@@ -3,6 +3,9 @@
 --   running_start, running_goes, running_overflows, running_ends
 --   emitted_ends                the words of the answer have headers of this pass only
 -- Assumes nothing.
+use borrow.Author.Tests.{clash}
+use Rattle.std.specs.Prelude.{Result, Ok, Err}
+use Rattle.std.specs.Result.{IsErr}
 use Prim.Native.Nat.{ℕ, suc, ◌+◌, ◌%◌, ◌≤◌, ◌<◌}
 use mathlib.Core.Path.{◌≡◌, refl, sym, ap, subst, ◌∙◌}
 use mathlib.Core.List.{List, [], ◌∷◌}
@@ -13,7 +16,7 @@ use lib.ListN.{length, take}
 use lib.Seq.{length-take-le}
 use Rattle.definitions.specs.Lists.{all}
 use Rattle.definitions.specs.Model.{Line}
-use Rattle.definitions.specs.Passes.{lines, overflow, turns}
+use Rattle.definitions.specs.Passes.{lines, turns}
 use Rattle.definitions.specs.RecoverGotoLoops.{goto_turn, recover_goto_loops}
 use Rattle.loop_theory.proofs.Cases.{and_split}
 use Rattle.loop_theory.proofs.GotoSteps.{goto_turned}
@@ -22,10 +25,10 @@ use Rattle.plan.specs.Changes.{is_line, is_goto, Ahead, kept_words}
 use Rattle.plan.specs.Source.{Source}
 use Rattle.plan.proofs.Rendered.{length_render}
 use Rattle.plan.proofs.Sources.{kept_word, start_render}
-use Rattle.plan.proofs.PassLoop.{pass_ends, pass_overflows, pass_goes}
-use Rattle.goto_turns.specs.Turns.{TurnOf, After}
-use Rattle.goto_turns.specs.declared.turns.Turn.{Turn as Answer}
-use Rattle.goto_turns.specs.declared.turns.Turn.TheVariants.{Go, Beyond}
+use Rattle.plan.specs.Planned.{planned}
+use Rattle.plan.proofs.PassLoop.{planned_err, pass_ends, pass_overflows, pass_goes}
+use Rattle.goto_turns.specs.Turns.{TurnOf, After, Emitted}
+use Rattle.plan.specs.declared.Overflow.{Overflow}
 
 kept_lines : (k : ℕ) (l : List ℕ) → k + length l ≤ 1024 → all is_line (kept_words k l) ≡ true
 unfolding all kept_words
@@ -66,15 +69,19 @@ module _ (l t x ws₀ ws : List ℕ) (n h : ℕ) (r : Running l t x ws₀ ws n h
   pub emitted_ends : (n ≤ length l) × (all is_goto (take n ws) ≡ true)
   emitted_ends = (r.fewer, r.ahead.words)
 
-  module _ (more : h + 2 < n) (a : Answer) (vs : List ℕ) (d : TurnOf l t x (λ M. goto_turn M h) n h ws a vs) where
+  module _ (more : h + 2 < n) (a : Result ℕ Overflow) (vs : List ℕ) (d : TurnOf l t x (λ M. goto_turn M h) n h ws a vs) where
     left_more : (S : List Line) → h + 2 < length (render S (take n ws))
     left_more S = omega (arith, lines_left S)
 
-    pub running_overflows : a ≡ Beyond → (S : List Line) → Source S l t x → overflow ≡ recover_goto_loops S
-    running_overflows q S R =
-        sym (pass_overflows 2 goto_turn goto_turned (render S (take n ws)) h (left_more S) (sym (d.turn S R) ∙ rw q)) ∙ r.left S R
+    pub running_overflows : (o : Overflow) → a ≡ Err o → (b : Result ℕ Overflow) → IsErr b → (S : List Line) → Source S l t x → planned S vs b ≡ recover_goto_loops S
+    running_overflows o q b z S R =
+        planned_err S vs b z ∙ sym (pass_overflows 2 goto_turn goto_turned (render S (take n ws)) h (left_more S) (sym (d.turn S R) ∙ rw q)) ∙ r.left S R
 
-    pub running_goes : (m : ℕ) → a ≡ Go m → length vs ≡ length ws → Running l t x ws₀ vs m (h + 1)
+    pub emitted_overflows : (b : Result ℕ Overflow) → IsErr b → Emitted (length l) vs b
+    emitted_overflows (Ok m) z = absurd (clash z)
+    emitted_overflows (Err o) z = tt
+
+    pub running_goes : (m : ℕ) → a ≡ Ok m → length vs ≡ length ws → Running l t x ws₀ vs m (h + 1)
     running_goes m q s =
         let after : (m ≤ n) × Ahead (h + 1) (take m vs) = subst (After n h vs) q d.after in
         record {

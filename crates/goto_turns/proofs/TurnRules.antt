@@ -3,7 +3,7 @@
 --   find_inside, find_none, find_at                       the back edge is looked for
 --   turn_plain, turn_beyond, turn_calls, turn_loop        a turn
 -- Assumes nothing.
-use Rattle.std.specs.Prelude.{Option, Some, None}
+use Rattle.std.specs.Prelude.{Option, Some, None, Result, Ok, Err}
 use Prim.Native.Nat.{ℕ, ◌+◌, ◌/◌, ◌≤◌, ◌<◌}
 use mathlib.Core.Path.{◌≡◌, refl, sym, ap, ap₂, ◌∙◌}
 use mathlib.Core.List.{List}
@@ -29,8 +29,7 @@ use Rattle.gotos.specs.Edges.{back_from}
 use Rattle.gotos.proofs.EdgeRules.{back_edge_is, line_at}
 use Rattle.goto_turns.specs.Loops.{Labelled, Loop}
 use Rattle.goto_turns.specs.Turns.{loop_at, TurnOf}
-use Rattle.goto_turns.specs.declared.turns.Turn.{Turn as Answer}
-use Rattle.goto_turns.specs.declared.turns.Turn.TheVariants.{Go, Beyond}
+use Rattle.plan.specs.declared.Overflow.{Overflow}
 use Rattle.goto_turns.proofs.Addresses.{bare_line, bare_render, label_bare, head_bare, back_bare, enters_bare}
 use Rattle.goto_turns.proofs.Bodies.{label_text}
 
@@ -41,7 +40,7 @@ stays n h ws ahead = (le_refl n, record { words = ahead.words; lines = all_from 
 -- The back edge is at b
 
 module _ (l t x ws : List ℕ) (n h b : ℕ) (p : Labelled l t x n h ws) where
-  pub loop_short : b ≤ h + 1 → TurnOf l t x (λ M. loop_at M h b) n h ws (Go n) ws
+  pub loop_short : b ≤ h + 1 → TurnOf l t x (λ M. loop_at M h b) n h ws (Ok n) ws
   unfolding loop_at
   loop_short ge = record { after = stays n h ws p.ahead; turn = λ S R. rw (le-ltb (h + 1) b ge) }
 
@@ -54,14 +53,14 @@ module _ (l t x ws : List ℕ) (n h b : ℕ) (p : Labelled l t x n h ws) where
         ap₂ (λ u v. cond (u && not v) (rewritten K h b) (go (h + 1) K)) (lt-ltb (h + 1) b far)
         (enters_bare K (render (listing l t x) (take n ws)) (bare_render S l t x R (take n ws)) h b ∙ sym e)
 
-    pub loop_entered : y ≡ true → TurnOf l t x (λ M. loop_at M h b) n h ws (Go n) ws
+    pub loop_entered : y ≡ true → TurnOf l t x (λ M. loop_at M h b) n h ws (Ok n) ws
     loop_entered f = record { after = stays n h ws p.ahead; turn = λ S R. sym (loop_by S R ∙ rw f) }
 
     module _ (f : y ≡ false) where
       pub loop_calls : b < n → indent_at (get_or ws h 0) < 255 → Loop l t x n h b ws
       loop_calls bn room = record { labelled = p; far = far; within = bn; alone = sym e ∙ f; room = room }
 
-      pub loop_rebuilt : (r : Answer) (vs : List ℕ) → TurnOf l t x (λ M. rewritten M h b) n h ws r vs → TurnOf l t x (λ M. loop_at M h b) n h ws r vs
+      pub loop_rebuilt : (r : Result ℕ Overflow) (vs : List ℕ) → TurnOf l t x (λ M. rewritten M h b) n h ws r vs → TurnOf l t x (λ M. loop_at M h b) n h ws r vs
       loop_rebuilt r vs d = record { after = d.after; turn = λ S R. d.turn S R ∙ sym (loop_by S R ∙ rw f) }
 
 -- The back edge is looked for
@@ -97,11 +96,11 @@ module _ (l t x ws : List ℕ) (n h : ℕ) (p : Labelled l t x n h ws) (s : ℕ)
       let z = back_edge_inside K h b (edge_of K name_of (indent_of (listing l t x)) (λ j. refl) ∙ rw q) in
       (z.0, omega (arith, z.1, length_render (listing l t x) (take n ws), length-take-le n ws p.fits))
 
-  pub find_none : r ≡ None → TurnOf l t x (λ M. looped M h) n h ws (Go n) ws
+  pub find_none : r ≡ None → TurnOf l t x (λ M. looped M h) n h ws (Ok n) ws
   unfolding looped
   find_none q = record { after = stays n h ws p.ahead; turn = λ S R. rw (edge_lines S R, q, looped) }
 
-  pub find_at : (b : ℕ) → r ≡ Some b → (a : Answer) (vs : List ℕ) → TurnOf l t x (λ M. loop_at M h b) n h ws a vs
+  pub find_at : (b : ℕ) → r ≡ Some b → (a : Result ℕ Overflow) (vs : List ℕ) → TurnOf l t x (λ M. loop_at M h b) n h ws a vs
       → TurnOf l t x (λ M. looped M h) n h ws a vs
   unfolding looped loop_at
   find_at b q a vs z = record { after = z.after; turn = λ S R. z.turn S R ∙ rw (edge_lines S R, q, looped) }
@@ -115,7 +114,7 @@ module _ (l t x ws : List ℕ) (n h : ℕ) (lt : h < n) (le : n ≤ length ws) (
       ap is_label (line_at S ws n h lt le)
       ∙ (label_bare (line_of S (get_or ws h 0)) (line_of (listing l t x) (get_or ws h 0)) (bare_line S l t x R (get_or ws h 0)) ∙ sym e)
 
-  pub turn_plain : y ≡ false → TurnOf l t x (λ M. goto_turn M h) n h ws (Go n) ws
+  pub turn_plain : y ≡ false → TurnOf l t x (λ M. goto_turn M h) n h ws (Ok n) ws
   unfolding goto_turn
   turn_plain f = record { after = stays n h ws ahead; turn = λ S R. rw (label_of S R, f) }
 
@@ -123,14 +122,14 @@ module _ (l t x ws : List ℕ) (n h : ℕ) (lt : h < n) (le : n ≤ length ws) (
     depth_of : (S : List Line) → (line (render S (take n ws)) h).indent ≡ i
     depth_of S = ap (λ m. m.indent) (line_at S ws n h lt le) ∙ (indent_line S (get_or ws h 0) ∙ sym d)
 
-    pub turn_beyond : i ≡ 255 → (vs : List ℕ) → TurnOf l t x (λ M. goto_turn M h) n h ws Beyond vs
+    pub turn_beyond : i ≡ 255 → (o : Overflow) (vs : List ℕ) → TurnOf l t x (λ M. goto_turn M h) n h ws (Err o) vs
     unfolding goto_turn
-    turn_beyond q vs = record { after = tt; turn = λ S R. rw (label_of S R, f, depth_of S, eq-eqb i 255 q) }
+    turn_beyond q o vs = record { after = tt; turn = λ S R. rw (label_of S R, f, depth_of S, eq-eqb i 255 q) }
 
     module _ (q : i ≡ 255 → ⊥) where
       pub turn_calls : n ≤ 1024 → question_2 l t x ≡ true → Labelled l t x n h ws × (indent_at (get_or ws h 0) < 255)
       turn_calls few ok = (record { inside = lt; few = few; fits = le; formed = ok; label = sym e ∙ f; ahead = ahead }, omega arith)
 
-      pub turn_loop : (r : Answer) (vs : List ℕ) → TurnOf l t x (λ M. looped M h) n h ws r vs → TurnOf l t x (λ M. goto_turn M h) n h ws r vs
+      pub turn_loop : (r : Result ℕ Overflow) (vs : List ℕ) → TurnOf l t x (λ M. looped M h) n h ws r vs → TurnOf l t x (λ M. goto_turn M h) n h ws r vs
       unfolding goto_turn
       turn_loop r vs z = record { after = z.after; turn = λ S R. z.turn S R ∙ rw (label_of S R, f, depth_of S, ne_eqb i 255 q) }

@@ -5,7 +5,7 @@
 --   TurnOf l t x f n h ws r vs    the answer r says what f gives of the lines
 --   Emitted n vs r             the words that the pass answers, no more than n, have headers of this pass only
 -- Assumes nothing.
-use Rattle.std.specs.Prelude.{if◌then◌else◌, ℕ, ◌+◌, ◌≤◌, ◌≡◌, true, ◌&&◌, not, List, ltb, take}
+use Rattle.std.specs.Prelude.{if◌then◌else◌, ℕ, ◌+◌, ◌≤◌, ◌≡◌, true, ◌&&◌, not, List, ltb, take, Result, Ok, Err}
 use Rattle.definitions.specs.Lists.{all}
 use Rattle.definitions.specs.Model.{Line}
 use Rattle.definitions.specs.Passes.{Turn, go, beyond}
@@ -13,27 +13,24 @@ use Rattle.definitions.specs.RecoverGotoLoops.{enters, rewritten}
 use Rattle.plan.specs.Plan.{render}
 use Rattle.plan.specs.Changes.{is_goto, Ahead}
 use Rattle.plan.specs.Source.{Source}
-use Rattle.loops.specs.declared.turns.Planned.{Planned}
-use Rattle.loops.specs.declared.turns.Planned.TheVariants.{Lines, Overflow}
-use Rattle.goto_turns.specs.declared.turns.Turn.{Turn as Answer}
-use Rattle.goto_turns.specs.declared.turns.Turn.TheVariants.{Go, Beyond}
+use Rattle.plan.specs.declared.Overflow.{Overflow}
 
 -- what `looped` makes of the back edge
 unfoldable pub loop_at : List Line → ℕ → ℕ → Turn
 loop_at M h b = if ltb (h + 1) b && not (enters M h b) then rewritten M h b else go (h + 1) M
 
-abbrev pub turned : List Line → ℕ → List ℕ → Answer → Turn
-turned S h vs (Go m) = go (h + 1) (render S (take m vs))
-turned S h vs Beyond = beyond
+abbrev pub turned : List Line → ℕ → List ℕ → Result ℕ Overflow → Turn
+turned S h vs (Ok m) = go (h + 1) (render S (take m vs))
+turned S h vs (Err e) = beyond
 
-abbrev pub After : ℕ → ℕ → List ℕ → Answer → Type 0
-After n h vs (Go m) = (m ≤ n) × Ahead (h + 1) (take m vs)
-After n h vs Beyond = Unit {0}
+abbrev pub After : ℕ → ℕ → List ℕ → Result ℕ Overflow → Type 0
+After n h vs (Ok m) = (m ≤ n) × Ahead (h + 1) (take m vs)
+After n h vs (Err e) = Unit {0}
 
-pub record TurnOf (l t x : List ℕ) (f : List Line → Turn) (n h : ℕ) (ws : List ℕ) (r : Answer) (vs : List ℕ) : Type 0 where
+pub record TurnOf (l t x : List ℕ) (f : List Line → Turn) (n h : ℕ) (ws : List ℕ) (r : Result ℕ Overflow) (vs : List ℕ) : Type 0 where
   pub after : After n h vs r
   pub turn : (S : List Line) → Source S l t x → turned S h vs r ≡ f (render S (take n ws))
 
-abbrev pub Emitted : ℕ → List ℕ → Planned → Type 0
-Emitted n vs (Lines m) = (m ≤ n) × (all is_goto (take m vs) ≡ true)
-Emitted n vs Overflow = Unit {0}
+abbrev pub Emitted : ℕ → List ℕ → Result ℕ Overflow → Type 0
+Emitted n vs (Ok m) = (m ≤ n) × (all is_goto (take m vs) ≡ true)
+Emitted n vs (Err e) = Unit {0}

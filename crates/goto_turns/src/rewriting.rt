@@ -2,10 +2,11 @@
 ghost use Rattle.std.specs.Prelude.{◌≡◌, true, ◌+◌, ◌≤◌, ◌<◌, length, get_or, take};
 ghost use Rattle.definitions.specs.Lists.{all, part};
 ghost use Rattle.definitions.specs.Questions.{question_2};
+ghost use Rattle.definitions.specs.RecoverGotoLoops.{exit_label};
 ghost use Rattle.model.specs.Listings.{listing_of};
-ghost use Rattle.plan.specs.Plan.{indent_at};
+ghost use Rattle.plan.specs.Plan.{indent_at, render};
 ghost use Rattle.plan.specs.Changes.{Ahead};
-ghost use Rattle.gotos.specs.Body.{moves_in};
+ghost use Rattle.gotos.specs.Body.{name_of, moves_in};
 ghost use Rattle.goto_turns.specs.Loops.{close_word, jumped_words, body_words, Loop, Headed};
 
 use goto_for::to_for;
@@ -13,6 +14,7 @@ use gotos::body::rewrite_body;
 use gotos::headers::{leads, make_header};
 use gotos::words::label_word;
 use model::listing::Listing;
+use pieces::piece::Piece;
 use plan::{indent, source};
 
 // The word of a closing brace at indent d in place of the line of w.
@@ -20,7 +22,25 @@ fn close_word(w: usize, d: usize) -> usize
     requires { d < 256 }
     ensures { result ≡ close_word w d }
 {
-    d + 2048 * (3 + 4 * source(w))
+    d + 2048 * Piece::Closed(source(w)).word()
+}
+
+// The name of the label right behind place b, where there is one.
+#[tactic(auto, using(crate::proofs::Bodies::exits))]
+fn exit_name<'a>(code: &Listing<'a>, plan: &[usize], n: usize, b: usize) -> Option<&'a [u8]>
+    requires { (b < n) × (n ≤ length plan.now) }
+    ensures { let C = listing_of code.now in
+        name_of result ≡ exit_label (render C (take n plan.now)) b }
+{
+    if b + 1 == n {
+        return None;
+    }
+    let w = plan[b + 1];
+    if label_word(code, w) {
+        Some(code.text_at(source(w), 0))
+    } else {
+        None
+    }
 }
 
 // The body of the loop from the label at place h to its back edge at place b: gotos to the label become `continue;`, gotos to a label right
@@ -31,16 +51,9 @@ fn rewrite_jumps(code: &Listing, plan: &mut [usize], n: usize, h: usize, b: usiz
     ensures plan_after { let C = listing_of code.now in
         result ≡ true → take n plan.new ≡ jumped_words C (take n plan.old) h b }
 {
-    let v = plan[h];
-    let head = code.text_at(source(v), 0);
-    if b + 1 < n {
-        let w = plan[b + 1];
-        let leaves = label_word(code, w);
-        let exit = code.text_at(source(w), 0);
-        rewrite_body(code, plan, n, h + 1, b, head, exit, leaves)
-    } else {
-        rewrite_body(code, plan, n, h + 1, b, head, head, false)
-    }
+    let head = code.text_at(source(plan[h]), 0);
+    let exit = exit_name(code, plan, n, b);
+    rewrite_body(code, plan, n, h + 1, b, head, exit)
 }
 
 // The same, and the back edge becomes a closing brace.

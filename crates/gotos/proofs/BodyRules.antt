@@ -16,6 +16,7 @@ use native.Mathlib.Decide.{dec_le}
 use borrow.Author.Tests.{lt-ltb, le-ltb}
 use lib.ListN.{length, get_or, take, set, length-set, length-take}
 use lib.Seq.{take-set-lt, get_or-take}
+use Rattle.std.specs.Borrow.{Bor}
 use Rattle.definitions.specs.Lists.{all, part, on_part, ◌≟◌, ascii}
 use Rattle.definitions.specs.Model.{Line, pseudo_line, token, line}
 use Rattle.definitions.specs.Columns.{listing}
@@ -29,7 +30,7 @@ use Rattle.plan.proofs.Rendered.{kept_line}
 use Rattle.pseudo_opt.specs.Places.{text_at}
 use Rattle.pieces.specs.Pieces.{piece, origin}
 use Rattle.pieces.proofs.Forms.{target_other}
-use Rattle.gotos.specs.Body.{exit, leaves, jump_form, moves_in, body_word}
+use Rattle.gotos.specs.Body.{name_of, leaves, jump_form, moves_in, body_word}
 
 -- What a piece becomes
 
@@ -37,40 +38,50 @@ goes_by : (p : List ℕ → Bool) (l : Line) (o : Option (List ℕ)) → goto_ta
 unfolding goes_to
 goes_by p l o e = rw (e, goes_to)
 
-module _ (C : List Line) (p : ℕ) (h x : List ℕ) (b : Bool) (f : Option ℕ) (e : text_at (origin C p) f ≡ goto_target (piece C p)) where
-  pub form_none : f ≡ None → 0 ≡ jump_form h (exit b x) (piece C p)
+module _ (C : List Line) (p : ℕ) (h : List ℕ) (o : Option (Bor (List ℕ))) (f : Option ℕ) (e : text_at (origin C p) f ≡ goto_target (piece C p)) where
+  pub form_none : f ≡ None → p ≡ p + jump_form h (name_of o) (piece C p)
   unfolding jump_form
-  form_none q = let g : goto_target (piece C p) ≡ None = sym e ∙ rw q in rw (goes_by (λ t. t ≟ h) (piece C p) None g, goes_by (leaves (exit b x)) (piece C p) None g)
+  form_none q =
+      let g : goto_target (piece C p) ≡ None = sym e ∙ rw q in
+      rw (goes_by (λ t. t ≟ h) (piece C p) None g, goes_by (leaves (name_of o)) (piece C p) None g) (omega arith)
 
-  module _ (j : ℕ) (q : f ≡ Some j) (s : List ℕ) (t : s ≡ (token (origin C p) j).text) (y : Bool) (z : y ≡ (s ≟ h)) where
+  module _ (j : ℕ) (q : f ≡ Some j) (i : ℕ) (a : i ≡ p / 4) (s : List ℕ) (t : s ≡ (token (line C i) j).text) (y : Bool) (z : y ≡ (s ≟ h)) where
     target : goto_target (piece C p) ≡ Some s
-    target = sym e ∙ rw (q, t)
+    target = sym e ∙ rw (q, t, a)
 
-    pub form_continue : y ≡ true → 1 ≡ jump_form h (exit b x) (piece C p)
+    is_whole : p % 4 ≡ 0
+    is_whole = go (dec_le (p % 4) 0)
+      where
+        go : Dec (p % 4 ≤ 0) → p % 4 ≡ 0
+        go (yes k) = omega arith
+        go (no k) = let n : None ≡ Some s = target_other C p (λ z. k (omega arith)) ∙ target in cc
+
+    pub form_continue : y ≡ true → (r : ℕ) → r ≡ 4 * i + 1 → r ≡ p + jump_form h (name_of o) (piece C p)
     unfolding jump_form
-    form_continue g = rw (goes_by (λ t. t ≟ h) (piece C p) (Some s) target, ← z, g)
+    form_continue g r c =
+        let w : r ≡ p + 1 = omega (arith, is_whole) in
+        w ∙ rw (goes_by (λ t. t ≟ h) (piece C p) (Some s) target, ← z, g)
 
     module _ (g : y ≡ false) where
-      pub form_stays : b ≡ false → 0 ≡ jump_form h (exit b x) (piece C p)
+      pub form_stays : o ≡ None → p ≡ p + jump_form h (name_of o) (piece C p)
       unfolding jump_form
-      form_stays k = rw (goes_by (λ t. t ≟ h) (piece C p) (Some s) target, ← z, g, goes_by (leaves (exit b x)) (piece C p) (Some s) target, k)
+      form_stays k = rw (goes_by (λ t. t ≟ h) (piece C p) (Some s) target, ← z, g, goes_by (leaves (name_of o)) (piece C p) (Some s) target, k) (omega arith)
 
-      module _ (k : b ≡ true) (u : List ℕ) (v : u ≡ (token (origin C p) j).text) (m : Bool) (w : m ≡ (u ≟ x)) where
-        same : m ≡ (s ≟ x)
-        same = w ∙ ap (λ a. a ≟ x) (v ∙ sym t)
-
-        pub form_break : m ≡ true → 2 ≡ jump_form h (exit b x) (piece C p)
+      module _ (x : Bor (List ℕ)) (k : o ≡ Some x) (m : Bool) (w : m ≡ (s ≟ x.now)) where
+        pub form_break : m ≡ true → (r : ℕ) → r ≡ 4 * i + 2 → r ≡ p + jump_form h (name_of o) (piece C p)
         unfolding jump_form
-        form_break n = rw (goes_by (λ t. t ≟ h) (piece C p) (Some s) target, ← z, g, goes_by (leaves (exit b x)) (piece C p) (Some s) target, k, ← same, n)
+        form_break n r c =
+            let d : r ≡ p + 2 = omega (arith, is_whole) in
+            d ∙ rw (goes_by (λ t. t ≟ h) (piece C p) (Some s) target, ← z, g, goes_by (leaves (name_of o)) (piece C p) (Some s) target, k, ← w, n)
 
-        pub form_other : m ≡ false → 0 ≡ jump_form h (exit b x) (piece C p)
+        pub form_other : m ≡ false → p ≡ p + jump_form h (name_of o) (piece C p)
         unfolding jump_form
-        form_other n = rw (goes_by (λ t. t ≟ h) (piece C p) (Some s) target, ← z, g, goes_by (leaves (exit b x)) (piece C p) (Some s) target, k, ← same, n)
+        form_other n = rw (goes_by (λ t. t ≟ h) (piece C p) (Some s) target, ← z, g, goes_by (leaves (name_of o)) (piece C p) (Some s) target, k, ← w, n) (omega arith)
 
 pub ruleset forms = (form_none, form_continue, form_stays, form_break, form_other)
 
-pub word_of : (C : List Line) (h : List ℕ) (o : Option (List ℕ)) (w i p f : ℕ) → i ≡ indent_at w → p ≡ piece_at w → f ≡ jump_form h o (piece C p)
-    → i + 1 + 2048 * (p + f) ≡ body_word C h o w
+pub word_of : (C : List Line) (h : List ℕ) (o : Option (List ℕ)) (w i p f : ℕ) → i ≡ indent_at w → p ≡ piece_at w → f ≡ p + jump_form h o (piece C p)
+    → i + 1 + 2048 * f ≡ body_word C h o w
 unfolding body_word
 word_of C h o w i p f a b c = rw (c, b, a)
 
@@ -202,3 +213,5 @@ module _ (l t x : List ℕ) (S : List Line) (R : Source S l t x) where
         go true b e f = continued_line (whole (λ t. t ≟ h) e)
         go false true e f = broken_line (whole (leaves o) f)
         go false false e f = kept_as
+
+pub ruleset body = (forms, word_of, rewriting)

@@ -1,8 +1,7 @@
 -- The search for the back edge, as rules for `search`.
---   later_yes, later_no      the place so far
 --   line_at                  line j of the first n lines is that of word j
 --   back_edge_is             the search behind a label is `back_edge`
---   edge_start, edge_next, edge_left, edge_end    the loop: what is left to look at, or the place so far where that gives none
+--   edge_start, edge_found, edge_passed, edge_left, edge_end    the loop: what is left to look at, or the place so far where that gives none
 -- Assumes nothing.
 use Rattle.std.specs.Prelude.{Option, None, Some}
 use Rattle.std.specs.Option.{option_map}
@@ -26,15 +25,6 @@ use Rattle.gotos.specs.Edges.{later, or_later, back_from}
 pub back_edge_is : (L : List Line) (h : ℕ) → back_edge L h ≡ back_from L (label (line L h)) (line L h).indent ((line L h).indent + 1) (h + 1)
 unfolding back_from
 back_edge_is L h = refl
-
-module _ (o : Option ℕ) (b : Bool) (j : ℕ) where
-  pub later_yes : b ≡ true → Some j ≡ later o b j
-  later_yes e = rw e
-
-  pub later_no : b ≡ false → o ≡ later o b j
-  later_no e = rw e
-
-pub ruleset laters = (later_yes, later_no)
 
 module _ (C : List Line) (ws : List ℕ) (n j : ℕ) (h : j < n) (le : n ≤ length ws) where
   pub line_at : line (render C (take n ws)) j ≡ line_of C (get_or ws j 0)
@@ -77,12 +67,19 @@ module _ (C : List Line) (ws : List ℕ) (n : ℕ) (le : n ≤ length ws) (g : L
       inside : in_block ind (line (render C (take n ws)) j) ≡ b
       inside = ap (in_block ind) (line_at C ws n j h le) ∙ sym e
 
-      pub edge_next : b ≡ true → (x : Bool) (o : Option ℕ) → x ≡ is_back g d (line_of C (get_or ws j 0)) → o ≡ later best x j
+      edge_next : b ≡ true → (x : Bool) (o : Option ℕ) → x ≡ is_back g d (line_of C (get_or ws j 0)) → o ≡ later best x j
           → back_from (render C (take n ws)) g ind d from ≡ or_later o (back_from (render C (take n ws)) g ind d (j + 1))
       unfolding back_from seek
       edge_next f x o y z =
           inv ∙ seek_next (in_block ind) (is_back g d) (render C (take n ws)) j (long_enough C ws n j h le) (inside ∙ f) best
           ∙ rw (line_at C ws n j h le, ← y, ← z)
+
+      module _ (f : b ≡ true) (x : Bool) (y : x ≡ is_back g d (line_of C (get_or ws j 0))) where
+        pub edge_found : x ≡ true → back_from (render C (take n ws)) g ind d from ≡ or_later (Some j) (back_from (render C (take n ws)) g ind d (j + 1))
+        edge_found z = edge_next f x (Some j) y (rw z)
+
+        pub edge_passed : x ≡ false → back_from (render C (take n ws)) g ind d from ≡ or_later best (back_from (render C (take n ws)) g ind d (j + 1))
+        edge_passed z = edge_next f x best y (rw z)
 
       pub edge_left : b ≡ false → best ≡ back_from (render C (take n ws)) g ind d from
       unfolding back_from seek
@@ -101,4 +98,4 @@ module _ (C : List Line) (ws : List ℕ) (n : ℕ) (le : n ≤ length ws) (g : L
       go None = refl
       go (Some k) = refl
 
-pub ruleset edges = (edge_start, edge_next, edge_left, edge_end)
+pub ruleset edges = (edge_start, edge_found, edge_passed, edge_left, edge_end)

@@ -106,3 +106,5 @@ module _ (S : List Line) (v : ℕ) (hd : header_at v ≡ 0) (room : indent_at v 
       → line_of S (head_word v 3 t) ≡ pseudo_line (line_of S v).address ((line_of S v).indent + 1) (merge (while_head (or_else (leading_test (piece_line S (piece_of t)) 0) one)))
   unfolding planned plan_of header_tokens while_tokens test_tokens header_of
   head_line_leading t h = head_line 3 t (omega arith) h
+
+pub ruleset headers = (leads, head_is)

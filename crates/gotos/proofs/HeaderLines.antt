@@ -208,3 +208,5 @@ module _ (C : List Line) (w ind i : ℕ) (k : i ≡ indent_at w) where
         level = unfold planned plan_of in rw k
 
 pub ruleset insides = (inside_deeper, inside_other, inside_label)
+
+pub ruleset lines = (labels, backs, insides)

@@ -1,19 +1,15 @@
 // The back edge of a label: one look at each line behind it.
+
+#![tactic(auto, using(crate::proofs::EdgeRules::edges))]
+
 ghost use Rattle.std.specs.Prelude.{◌≡◌, true, ◌≤◌, ◌<◌, length, take};
 ghost use Rattle.definitions.specs.Questions.{question_2};
 ghost use Rattle.model.specs.Listings.{listing_of};
 ghost use Rattle.plan.specs.Plan.{render};
-ghost use Rattle.gotos.specs.Edges.{later, back_from};
+ghost use Rattle.gotos.specs.Edges.{back_from};
 
 use crate::words::{back_word, inside_word};
 use model::listing::Listing;
-
-// The place j where b is true, else the place f.
-fn later(f: Option<usize>, b: bool, j: usize) -> Option<usize>
-    ensures { result ≡ later (f) b j }
-{
-    if b { Some(j) } else { f }
-}
 
 // The last of the first n lines, from place `from` on, that stands at indent d and reads `goto h;`, before the first that is not inside
 // a block at indent `ind`.
@@ -36,7 +32,9 @@ pub fn back_edge(
         if !inside_word(code, ind, w) {
             return best;
         }
-        best = later(best, back_word(code, h, d, w), j);
+        if back_word(code, h, d, w) {
+            best = Some(j);
+        }
     }
     best
 }

@@ -1,4 +1,7 @@
 // The header of a goto loop: it takes the label's place, and the leading test's. `make_header` takes a step for each line behind it.
+
+#![tactic(auto, using(crate::proofs::HeadedRules::headers))]
+
 ghost use Rattle.std.specs.Prelude.{◌≡◌, true, ◌+◌, ◌-◌, ◌≤◌, ◌<◌, length, take};
 ghost use Rattle.definitions.specs.Lists.{is_some};
 ghost use Rattle.definitions.specs.Questions.{question_2};
@@ -8,6 +11,7 @@ ghost use Rattle.plan.specs.Plan.{header_at, line_of};
 ghost use Rattle.gotos.specs.Headed.{head_word, headed_words, fewer};
 
 use model::listing::Listing;
+use pieces::leading::leading_test;
 use plan::{indent, piece};
 
 // The line of w, which is no header, is a leading test of a header at indent d.
@@ -15,13 +19,7 @@ pub fn leads(code: &Listing, w: usize, d: usize) -> bool
     requires { (header_at w ≡ 0) × (d < 256) × (question_2 code.now.lines.now code.now.tokens.now code.now.text.now ≡ true) }
     ensures { result ≡ is_some (leading_test (line_of (listing_of code.now) w) d) }
 {
-    if indent(w) != d + 1 {
-        return false;
-    }
-    match pieces::leading::leading_test(code, piece(w)) {
-        Some(_) => true,
-        None => false,
-    }
+    indent(w) == d + 1 && leading_test(code, piece(w)).is_some()
 }
 
 // The label's word v made a while header, one deeper: k is 2 for the condition 1, and 3 for the leading test of the piece t.

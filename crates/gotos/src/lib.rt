@@ -1,4 +1,4 @@
-// The plan of `recover_goto_loops`: label and goto loops made while or for loops, as words of crate `plan`. Nothing of the listing is copied.
+// Back edges, the gotos of a body, and the header of a loop, over the words of crate `plan`. Nothing of the listing is copied.
 //
 // Contracts cite the definitions of Rattle.definitions.specs.RecoverGotoLoops, of the lines that the words stand for.
 

@@ -1,4 +1,7 @@
 // What `recover_goto_loops` asks of the line of a word.
+
+#![tactic(auto, using(crate::proofs::HeaderLines::lines))]
+
 ghost use Rattle.std.specs.Prelude.{◌≡◌, true, ◌&&◌, ◌+◌, eqb};
 ghost use Rattle.definitions.specs.Questions.{question_2};
 ghost use Rattle.definitions.specs.Statements.{is_label};
@@ -7,13 +10,13 @@ ghost use Rattle.model.specs.Listings.{listing_of};
 ghost use Rattle.plan.specs.Plan.{line_of};
 
 use model::listing::Listing;
-use plan::{header, indent, piece};
+use plan::{indent, is_line, piece};
 
 // The line of w is a label.
 pub fn label_word(code: &Listing, w: usize) -> bool
     ensures { result ≡ is_label (line_of (listing_of code.now) w) }
 {
-    header(w) == 0 && pieces::reading::is_label(code, piece(w))
+    is_line(w) && pieces::reading::is_label(code, piece(w))
 }
 
 // The line of w is deeper than `ind`, or as deep and a label.
@@ -29,5 +32,5 @@ pub fn back_word(code: &Listing, h: &[u8], d: usize, w: usize) -> bool
     requires { question_2 code.now.lines.now code.now.tokens.now code.now.text.now ≡ true }
     ensures { result ≡ is_back h.now d (line_of (listing_of code.now) w) }
 {
-    indent(w) == d && header(w) == 0 && pieces::back::is_back(code, piece(w), h)
+    indent(w) == d && is_line(w) && pieces::back::is_back(code, piece(w), h)
 }

@@ -1,5 +1,5 @@
 -- The command as a function from the bytes that it reads to what it prints, or to the number of its refusal.
---   told r out                    what the answer r says, with what stands in the slice `out`
+--   text_of s out, told r out     what is said, and what the answer r says, with what stands in the slice `out`
 --   rows_of l t x c               the rows of the answer c of a call that numbers the tokens of the columns l, t, x
 --   chosen_line a                 the first line of the chooser's answer
 --   webs_answer, splits_answer, choose_answer    what a word answers to a listing in columns
@@ -15,7 +15,7 @@
 --   word_answer w out c           what the word w answers; `check` prints as it goes, and nothing after that
 --   answer w out n                what the word w answers to the first n bytes of the slice
 -- Assumes nothing.
-use Rattle.std.specs.Prelude.{if◌then◌else◌, ℕ, ◌≡◌, true, List, [], ◌++◌, leb, length, take}
+use Rattle.std.specs.Prelude.{if◌then◌else◌, ℕ, ◌≡◌, true, List, [], ◌++◌, leb, length, take, Result, Ok, Err}
 use Rattle.definitions.specs.Lists.{ascii}
 use Rattle.definitions.specs.Columns.{listing}
 use Rattle.definitions.specs.Questions.{Limits, limits, question_1, question_2}
@@ -23,20 +23,24 @@ use Rattle.definitions.specs.Model.{Line}
 use Rattle.definitions.specs.Answers.{Answer, refused, accepted, loops, goto_loops}
 use Rattle.definitions.specs.Calls.{Columns, Passed, Called, Chosen, by_webs, by_splits, pass_call, web_call, split_call, choose_call}
 use Rattle.questions.specs.Refusals.{number}
+use Rattle.questions.specs.declared.Refusal.{Refusal}
 use Rattle.json_definitions.specs.JsonCalls.{Written, read_call, write_call}
 use Rattle.rows.specs.Rows.{all_rows}
 use Rattle.dot.specs.Dot.{dot_text}
 use Rattle.javrenzu.specs.Room.{room, lent_room, split_room, pass_room}
 use Rattle.javrenzu.specs.declared.calls.Said.{Said}
-use Rattle.javrenzu.specs.declared.calls.Said.TheVariants.{Text, ByWebs, BySplits, Refused}
+use Rattle.javrenzu.specs.declared.calls.Said.TheVariants.{Text, ByWebs, BySplits}
 use Rattle.javrenzu.specs.declared.command_words.Word.{Word}
-use Rattle.javrenzu.specs.declared.command_words.Word.TheVariants.{Webs, Splits, Choose, RecoverLoops, RecoverGotoLoops, Passes, Dot, Check, Help, Unknown}
+use Rattle.javrenzu.specs.declared.command_words.Word.TheVariants.{Webs, Splits, Choose, RecoverLoops, RecoverGotoLoops, Passes, Dot, Check, Help}
 
-abbrev pub told : Said → List ℕ → Answer (List ℕ)
-told (Text e) out = accepted (take e out)
-told (ByWebs e) out = accepted (ascii "webs\n" ++ take e out)
-told (BySplits e) out = accepted (ascii "splits\n" ++ take e out)
-told (Refused r) out = refused (number r)
+abbrev pub text_of : Said → List ℕ → List ℕ
+text_of (Text e) out = take e out
+text_of (ByWebs e) out = ascii "webs\n" ++ take e out
+text_of (BySplits e) out = ascii "splits\n" ++ take e out
+
+abbrev pub told : Result Said Refusal → List ℕ → Answer (List ℕ)
+told (Ok s) out = accepted (text_of s out)
+told (Err r) out = refused (number r)
 
 -- Rows
 
@@ -112,7 +116,6 @@ word_answer Passes out c = passes_answer out c
 word_answer Dot out c = dot_answer c.lines c.tokens c.text
 word_answer Check out c = accepted []
 word_answer Help out c = accepted []
-word_answer Unknown out c = accepted []
 
 unfoldable pub read_answer : Word → List ℕ → Passed → Answer (List ℕ)
 read_answer w out p = elim p.answer [ refused n ↦ refused n | accepted n ↦ word_answer w out (cut n p.out) ]

@@ -1,4 +1,5 @@
 -- What the command lends: question 1's limits and what follows from them. Each array is one name, so that no proof writes it out.
+--   zeros n a    n words a
 --   token_zeros, text_zeros, mark_zeros, space_zeros, word_zeros, byte_zeros    the arrays
 --   room         the columns that the reader fills
 --   lent_room    what the web call and the chooser fill; split_room, the split call
@@ -7,26 +8,29 @@
 use Rattle.std.specs.Prelude.{ℕ, List, [], replicate}
 use Rattle.definitions.specs.Calls.{Columns, Lent}
 
-unfoldable pub token_zeros : List ℕ
-token_zeros = replicate 16384 0
+unfoldable pub zeros : {A : Type 0} → ℕ → A → List A
+zeros n a = replicate n a
 
-unfoldable pub text_zeros : List ℕ
-text_zeros = replicate 262144 0
+abbrev pub token_zeros : List ℕ
+token_zeros = zeros 16384 0
 
-unfoldable pub mark_zeros : List ℕ
-mark_zeros = replicate 16384 0
+abbrev pub text_zeros : List ℕ
+text_zeros = zeros 262144 0
 
-unfoldable pub space_zeros : List ℕ
-space_zeros = replicate 73792 0
+abbrev pub mark_zeros : List ℕ
+mark_zeros = zeros 16384 0
 
-unfoldable pub word_zeros : List ℕ
-word_zeros = replicate 24576 0
+abbrev pub space_zeros : List ℕ
+space_zeros = zeros 73792 0
 
-unfoldable pub byte_zeros : List ℕ
-byte_zeros = replicate 294912 0
+abbrev pub word_zeros : List ℕ
+word_zeros = zeros 24576 0
+
+abbrev pub byte_zeros : List ℕ
+byte_zeros = zeros 294912 0
 
 abbrev pub room : Columns
-room = record { lines = replicate 1024 0; addresses = replicate 1024 0; tokens = token_zeros; text = text_zeros }
+room = record { lines = zeros 1024 0; addresses = zeros 1024 0; tokens = token_zeros; text = text_zeros }
 
 abbrev pub lent_room : Lent
 lent_room = record { numbers = token_zeros; marks = mark_zeros; space = space_zeros }
@@ -35,4 +39,4 @@ abbrev pub split_room : Lent
 split_room = record { numbers = token_zeros; marks = mark_zeros; space = [] }
 
 abbrev pub pass_room : Columns
-pass_room = record { lines = replicate 1024 0; addresses = replicate 1024 0; tokens = word_zeros; text = byte_zeros }
+pass_room = record { lines = zeros 1024 0; addresses = zeros 1024 0; tokens = word_zeros; text = byte_zeros }

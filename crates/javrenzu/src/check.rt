@@ -1,31 +1,33 @@
 // `check`: the size of the listing, and what each call says to it, printed call by call.
 ghost use Rattle.std.specs.Prelude.{◌≤◌, length};
 
-use crate::calls;
-use crate::calls::Said;
+use crate::calls::{self, Said};
+use crate::passes::{self, GotoLoops, Loops};
 use crate::print::refused;
 use model::listing::Listing;
+use questions::Refusal;
 use std::rt::Stdout;
 use streams::Output;
 
 // `NAME: accepted`, or `NAME: refused N: why`.
-fn outcome(to: &mut Output<Stdout>, name: &[u8], r: Said) {
+fn outcome(to: &mut Output<Stdout>, name: &[u8], answer: Result<Said, Refusal>) {
     to.text(name);
-    match r {
-        Said::Refused(refusal) => refused(to, refusal),
-        _ => to.text(b"accepted\n"),
+    match answer {
+        Ok(_) => to.text(b"accepted\n"),
+        Err(refusal) => refused(to, refusal),
     }
 }
 
 fn size(to: &mut Output<Stdout>, n: usize, what: &[u8]) {
+    // A cast: std has no `From` of `usize` to 64 bits.
     to.number(n as u64);
     to.text(what);
 }
 
-pub fn sizes(to: &mut Output<Stdout>, lines: usize, tokens: usize, bytes: usize) {
-    size(to, lines, b" lines, ");
-    size(to, tokens, b" tokens, ");
-    size(to, bytes, b" bytes of text\n");
+pub fn sizes(to: &mut Output<Stdout>, code: &Listing) {
+    size(to, code.lines.len(), b" lines, ");
+    size(to, code.tokens.len(), b" tokens, ");
+    size(to, code.text.len(), b" bytes of text\n");
 }
 
 // The calls that number tokens. They make their answers in `out`.
@@ -42,12 +44,12 @@ pub fn passes(to: &mut Output<Stdout>, out: &mut [u8], code: &Listing, addresses
     outcome(
         to,
         b"recover_loops: ",
-        calls::loops_json(out, code, addresses),
+        passes::pass_json::<Loops>(out, code, addresses),
     );
     outcome(
         to,
         b"recover_goto_loops: ",
-        calls::goto_loops_json(out, code, addresses),
+        passes::pass_json::<GotoLoops>(out, code, addresses),
     );
-    outcome(to, b"passes: ", calls::passes_json(out, code, addresses));
+    outcome(to, b"passes: ", passes::passes_json(out, code, addresses));
 }

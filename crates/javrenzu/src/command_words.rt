@@ -1,7 +1,7 @@
 // The words of the command.
 use std::rt::Env;
 
-#[derive(Drop)]
+#[derive(Clone, Copy)]
 pub enum Word {
     Webs,
     Splits,
@@ -12,47 +12,28 @@ pub enum Word {
     Dot,
     Check,
     Help,
-    Unknown,
 }
 
 // The word with this name.
-fn named(s: &[u8]) -> Word {
-    if text::equal(s, b"webs") {
-        return Word::Webs;
+fn named(name: &[u8]) -> Option<Word> {
+    match name {
+        b"webs" => Some(Word::Webs),
+        b"splits" => Some(Word::Splits),
+        b"choose" => Some(Word::Choose),
+        b"recover_loops" => Some(Word::RecoverLoops),
+        b"recover_goto_loops" => Some(Word::RecoverGotoLoops),
+        b"passes" => Some(Word::Passes),
+        b"dot" => Some(Word::Dot),
+        b"check" => Some(Word::Check),
+        b"--help" => Some(Word::Help),
+        _ => None,
     }
-    if text::equal(s, b"splits") {
-        return Word::Splits;
-    }
-    if text::equal(s, b"choose") {
-        return Word::Choose;
-    }
-    if text::equal(s, b"recover_loops") {
-        return Word::RecoverLoops;
-    }
-    if text::equal(s, b"recover_goto_loops") {
-        return Word::RecoverGotoLoops;
-    }
-    if text::equal(s, b"passes") {
-        return Word::Passes;
-    }
-    if text::equal(s, b"dot") {
-        return Word::Dot;
-    }
-    if text::equal(s, b"check") {
-        return Word::Check;
-    }
-    if text::equal(s, b"--help") {
-        return Word::Help;
-    }
-    Word::Unknown
 }
 
-// The word that the program was started with.
-pub fn asked(rt: &impl Env) -> Word {
+// The word that the program was started with. None where there is no word, or one that has no meaning.
+pub fn asked(rt: &impl Env) -> Option<Word> {
+    // A word that is longer than this is longer than any of these.
     let mut name = [0u8; 32];
-    match rt.arg(1, &mut name) {
-        Ok(n) => named(&name[..n]),
-        // No word, or one that is longer than any of these.
-        Err(_) => Word::Unknown,
-    }
+    let n = rt.arg(1, &mut name).ok()?;
+    named(&name[..n])
 }

@@ -9,16 +9,20 @@ mod answers;
 mod calls;
 mod check;
 mod command_words;
+mod cut;
 mod input;
+mod passes;
 mod print;
 mod room;
 
 use command_words::Word;
-use input::Input;
 use questions::Refusal;
 use std::io;
 use std::rt::{Env, Files, Stderr, Stdout};
 use streams::Output;
+
+// The most bytes of input, 4 MiB, and one byte more, so that a longer input shows. What is printed is made in the same bytes.
+const ROOM: usize = 4194305;
 
 // The answer to a word that asks for one.
 fn run(
@@ -27,27 +31,26 @@ fn run(
     errors: &mut Output<Stderr>,
     word: Word,
 ) -> io::Result<()> {
-    let mut buffer = room::buffer();
-    let Input::Bytes(n) = input::read(rt, errors, &mut buffer)? else {
+    let mut buffer = room::zeros::<u8, ROOM>();
+    let Some(n) = input::read(rt, errors, &mut buffer)? else {
         return Ok(());
     };
-    if n == 4194305 {
-        print::refused(errors, Refusal::NotJson);
-        return Ok(());
-    }
-    let r = answers::answer(out, &mut buffer, n, word);
-    print::said(out, errors, &buffer, r);
+    let answer = if n == ROOM {
+        Err(Refusal::NotJson)
+    } else {
+        answers::answer(out, &mut buffer, n, word)
+    };
+    print::said(out, errors, &buffer, answer);
     Ok(())
 }
 
 fn main(rt: HostRuntime) -> io::Result<()> {
     let mut out = Output::new(rt.stdout());
     let mut errors = Output::new(rt.stderr());
-    let word = command_words::asked(&rt);
-    match word {
-        Word::Help => print::help(&mut out),
-        Word::Unknown => print::unknown(&mut errors),
-        _ => run(&rt, &mut out, &mut errors, word)?,
+    match command_words::asked(&rt) {
+        None => print::unknown(&mut errors),
+        Some(Word::Help) => print::help(&mut out),
+        Some(word) => run(&rt, &mut out, &mut errors, word)?,
     }
     out.outcome?;
     errors.outcome

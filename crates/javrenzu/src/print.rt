@@ -1,7 +1,7 @@
 // What the command writes: answers on standard output; what goes wrong, in one line, on standard error.
 use crate::calls::Said;
 use questions::Refusal;
-use rows::columns::first_bytes;
+use rows::columns::first;
 use std::io;
 use std::io::{Cursor, Write};
 use std::rt::{Stderr, Stdout};
@@ -35,6 +35,7 @@ fn meaning<W: Write>(to: &mut Output<W>, refusal: Refusal) {
 // `refused N: ` and what that means.
 pub fn refused<W: Write>(to: &mut Output<W>, refusal: Refusal) {
     to.text(b"refused ");
+    // A cast: std has no `From` of `usize` to 64 bits.
     to.number(refusal.number() as u64);
     to.text(b": ");
     meaning(to, refusal);
@@ -42,18 +43,23 @@ pub fn refused<W: Write>(to: &mut Output<W>, refusal: Refusal) {
 }
 
 // What `told` of specs/Command.antt has: the answer's text, or the refusal.
-pub fn said(out: &mut Output<Stdout>, errors: &mut Output<Stderr>, buffer: &[u8], r: Said) {
-    match r {
-        Said::Text(e) => out.text(first_bytes(buffer, e)),
-        Said::ByWebs(e) => {
+pub fn said(
+    out: &mut Output<Stdout>,
+    errors: &mut Output<Stderr>,
+    buffer: &[u8],
+    answer: Result<Said, Refusal>,
+) {
+    match answer {
+        Ok(Said::Text(e)) => out.text(first(buffer, e)),
+        Ok(Said::ByWebs(e)) => {
             out.text(b"webs\n");
-            out.text(first_bytes(buffer, e));
+            out.text(first(buffer, e));
         }
-        Said::BySplits(e) => {
+        Ok(Said::BySplits(e)) => {
             out.text(b"splits\n");
-            out.text(first_bytes(buffer, e));
+            out.text(first(buffer, e));
         }
-        Said::Refused(refusal) => refused(errors, refusal),
+        Err(refusal) => refused(errors, refusal),
     }
 }
 
@@ -103,9 +109,10 @@ pub fn failed(errors: &mut Output<Stderr>, what: &[u8], error: io::Error) {
     // The system's texts are shorter than this; what has no room is left out.
     let mut said = Cursor::new([0u8; 256]);
     let _ = write!(said, "{error}");
+    // A cast: std has no `From` of 64 bits to `usize`.
     let n = said.position() as usize;
     errors.text(what);
     errors.text(b": ");
-    errors.text(without_number(first_bytes(&said.into_inner(), n)));
+    errors.text(without_number(first(&said.into_inner(), n)));
     errors.text(b"\n");
 }

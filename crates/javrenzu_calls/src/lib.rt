@@ -4,7 +4,7 @@
 // Contracts cite `web_call`, `split_call`, `choose_call` and `pass_call` of Rattle.definitions.specs.Calls,
 // `read_call` and `write_call` of Rattle.json_definitions.specs.JsonCalls.
 
-#![tactic(auto)]
+#![tactic(auto, using(crate::proofs::Crossed::crossings), unfolding(crate::specs::Crossing::refusal_number, crate::specs::Crossing::number_of, crate::specs::Crossing::choice_of, crate::specs::Crossing::chosen_sweeps, crate::specs::Crossing::counts_of))]
 
 ghost use Rattle.std.specs.Prelude.{◌≡◌};
 ghost use Rattle.definitions.specs.Calls.{web_call, split_call, choose_call, pass_call};
@@ -15,8 +15,10 @@ ghost use Rattle.write.specs.Holds.{columns};
 ghost use Rattle.pass_call.specs.Answers.{answered};
 ghost use Rattle.splits.specs.Call.{lent as split_lent};
 ghost use Rattle.json_definitions.specs.JsonCalls.{read_call, write_call};
+ghost use Rattle.json_read.specs.Answers.{answer_of as read_answer};
 
 use choose::Choice;
+use json_listing::Counts;
 use model::listing::Listing;
 use questions::{Limits, Refusal};
 
@@ -112,9 +114,8 @@ pub fn javrenzu_choose(
     }
 }
 
-// The number of a pass's refusal, 0 where it is accepted. The counts of lines, tokens and bytes are 0 on refusal.
-#[tactic(auto, unfolding(crate::specs::Crossing::refusal_number, crate::specs::Crossing::counts_of))]
-fn pass_number(
+// The number of the refusal, 0 where there is none. The counts of lines, tokens and bytes are 0 on refusal.
+fn counted(
     answer: Result<Limits, Refusal>,
     nlines: &mut usize,
     ntokens: &mut usize,
@@ -161,7 +162,7 @@ pub fn javrenzu_recover_loops(
         text,
     };
     let answer = recover_loops::recover_loops(&code, addresses, rows, places, words, bytes);
-    pass_number(answer, nlines, ntokens, nbytes)
+    counted(answer, nlines, ntokens, nbytes)
 }
 
 // `recover_goto_loops`.
@@ -190,7 +191,21 @@ pub fn javrenzu_recover_goto_loops(
     let answer = recover_goto_loops::recover_goto_loops(
         &code, addresses, rows, places, words, bytes,
     );
-    pass_number(answer, nlines, ntokens, nbytes)
+    counted(answer, nlines, ntokens, nbytes)
+}
+
+// What the reader answers, as a pass does.
+fn limits(counts: Option<Counts>) -> Result<Limits, Refusal>
+    ensures { answered result ≡ read_answer counts }
+{
+    match counts {
+        Some(n) => Ok(Limits {
+            lines: n.lines,
+            tokens: n.tokens,
+            text: n.text,
+        }),
+        None => Err(Refusal::NotJson),
+    }
 }
 
 // The JSON reader. The counts of lines, tokens and bytes are 0 on refusal.
@@ -208,18 +223,8 @@ pub fn javrenzu_read_json(
     ensures nbytes_after { counts nlines.new ntokens.new nbytes.new ≡ counts_of (read_call json.now (columns lines.old addresses.old tokens.old text.old)).answer }
     ensures text_after { columns lines.new addresses.new tokens.new text.new ≡ (read_call json.now (columns lines.old addresses.old tokens.old text.old)).out }
 {
-    *nlines = 0;
-    *ntokens = 0;
-    *nbytes = 0;
-    match json_read::read_json(json, lines, addresses, tokens, text) {
-        Some(n) => {
-            *nlines = n.lines;
-            *ntokens = n.tokens;
-            *nbytes = n.text;
-            0
-        }
-        None => 10,
-    }
+    let counts = json_read::read_json(json, lines, addresses, tokens, text);
+    counted(limits(counts), nlines, ntokens, nbytes)
 }
 
 // The JSON writer. The length of the text is 0 on refusal.

@@ -1,4 +1,5 @@
-// The exports of the crate `javrenzu_calls`, for C and Rust: each function calls that crate's function of its name, with its contract.
+// The exports of the crate `javrenzu_calls`, for C and Rust: each function calls that crate's function of its name, with its contract. A crate of
+// its own, and each contract once more: no Rattle crate can depend on a static library, and what is exported is a function that stands in it.
 //
 // Contracts cite `web_call`, `split_call`, `choose_call` and `pass_call` of Rattle.definitions.specs.Calls,
 // `read_call` and `write_call` of Rattle.json_definitions.specs.JsonCalls.

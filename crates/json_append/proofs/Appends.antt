@@ -1,24 +1,18 @@
--- Laws of `Appended`, as rules for `search`: each premise is a field of what a need is handed.
---   append_nothing, append_then    nothing; one text behind another
---   append_2, append_3, append_5   two, three and five texts in a row
---   append_short                   no room
---   append_copied, append_stored   bytes that were copied; a byte that was stored
---   append_as                      the same bytes, said otherwise
+-- Laws of `Wrote` and `Begun`.
+--   wrote_nothing, wrote_as          nothing; the same bytes, said otherwise
+--   wrote_then                       one text behind another
+--   wrote_2, wrote_3, wrote_5        two, three and five texts in a row
+--   begun_start, begun_next, begun_then, begun_end, begun_last     a text that is written piece by piece
 -- Assumes nothing.
-use Prim.Native.Nat.{ℕ, ◌+◌, ◌-◌, ◌≤◌, ◌<◌, min}
+use Prim.Native.Nat.{ℕ}
 use mathlib.Core.Path.{◌≡◌, refl, sym, ap, ◌∙◌}
-use mathlib.Core.List.{List, [], ◌∷◌, ◌++◌, append_assoc, append-nil}
-use native.Mathlib.Numerals.{add-one}
+use mathlib.Core.List.{List, [], ◌++◌, append_assoc, append-nil}
 use native.Mathlib.Omega.{arith}
-use lib.ListN.{length, take, set, length-append, length-set}
-use lib.Seq.{take-suc-set}
-use Rattle.write.specs.Holds.{Filled}
-use Rattle.json_append.specs.Appended.{most, Appended}
+use lib.ListN.{take, length-append}
+use Rattle.json_append.specs.Appended.{Appended, Wrote, Begun}
+use Rattle.json_append.specs.declared.writer.Writer.{Writer}
 
-pub append_nothing : (out : List ℕ) (at : ℕ) → at ≤ most → Appended out at [] out at
-append_nothing out at h = record { long = refl; end = omega arith; bytes = λ g. sym (append-nil (take at out)) }
-
-pub append_then : (out : List ℕ) (at : ℕ) (b out' : List ℕ) (m : ℕ) (c out'' : List ℕ) (e : ℕ) → Appended out at b out' m → Appended out' m c out'' e → Appended out at (b ++ c) out'' e
+append_then : (out : List ℕ) (at : ℕ) (b out' : List ℕ) (m : ℕ) (c out'' : List ℕ) (e : ℕ) → Appended out at b out' m → Appended out' m c out'' e → Appended out at (b ++ c) out'' e
 append_then out at b out' m c out'' e f g =
     let l = f.long in let k = g.long in let p = f.end in let q = g.end in
     let n = length-append b c in
@@ -28,40 +22,45 @@ append_then out at b out' m c out'' e f g =
       bytes = λ h. g.bytes (omega arith) ∙ ap (λ (u : List ℕ). u ++ c) (f.bytes (omega arith)) ∙ append_assoc (take at out) b c;
     }
 
-pub append_as : (out : List ℕ) (at : ℕ) (b c out' : List ℕ) (e : ℕ) → b ≡ c → Appended out at b out' e → Appended out at c out' e
-append_as out at b c out' e q f = rw q at f
+pub wrote_nothing : (w : Writer) → Wrote w [] w
+wrote_nothing w = let h = w.fits in record { same = refl; text = record { long = refl; end = omega arith; bytes = λ g. sym (append-nil (take w.at w.out.now)) } }
+
+pub wrote_as : (w : Writer) (b c : List ℕ) (w' : Writer) → b ≡ c → Wrote w b w' → Wrote w c w'
+wrote_as w b c w' q f = rw q at f
+
+pub wrote_then : (w : Writer) (b : List ℕ) (m : Writer) → Wrote w b m → (c : List ℕ) (w' : Writer) → Wrote m c w' → Wrote w (b ++ c) w'
+wrote_then w b m f c w' g = record { same = g.same ∙ f.same; text = append_then w.out.now w.at b m.out.now m.at c w'.out.now w'.at f.text g.text }
 
 -- the texts of calls in a row
-module _ (out : List ℕ) (at : ℕ) (b out₁ : List ℕ) (m₁ : ℕ) (f₁ : Appended out at b out₁ m₁) (c out₂ : List ℕ) (m₂ : ℕ) (f₂ : Appended out₁ m₁ c out₂ m₂) where
-  pub append_2 : (t : List ℕ) → b ++ c ≡ t → Appended out at t out₂ m₂
-  append_2 t e = append_as out at (b ++ c) t out₂ m₂ e (append_then out at b out₁ m₁ c out₂ m₂ f₁ f₂)
+module _ (w : Writer) (b : List ℕ) (w₁ : Writer) (f₁ : Wrote w b w₁) (c : List ℕ) (w₂ : Writer) (f₂ : Wrote w₁ c w₂) where
+  pub wrote_2 : (t : List ℕ) → b ++ c ≡ t → Wrote w t w₂
+  wrote_2 t e = wrote_as w (b ++ c) t w₂ e (wrote_then w b w₁ f₁ c w₂ f₂)
 
-  module _ (d out₃ : List ℕ) (m₃ : ℕ) (f₃ : Appended out₂ m₂ d out₃ m₃) where
-    pub append_3 : (t : List ℕ) → b ++ (c ++ d) ≡ t → Appended out at t out₃ m₃
-    append_3 t e = append_as out at (b ++ (c ++ d)) t out₃ m₃ e (append_then out at b out₁ m₁ (c ++ d) out₃ m₃ f₁ (append_then out₁ m₁ c out₂ m₂ d out₃ m₃ f₂ f₃))
+  module _ (d : List ℕ) (w₃ : Writer) (f₃ : Wrote w₂ d w₃) where
+    pub wrote_3 : (t : List ℕ) → b ++ (c ++ d) ≡ t → Wrote w t w₃
+    wrote_3 t e = wrote_as w (b ++ (c ++ d)) t w₃ e (wrote_then w b w₁ f₁ (c ++ d) w₃ (wrote_then w₁ c w₂ f₂ d w₃ f₃))
 
-    module _ (g out₄ : List ℕ) (m₄ : ℕ) (f₄ : Appended out₃ m₃ g out₄ m₄) where
-      pub append_5 : (h out₅ : List ℕ) (m₅ : ℕ) (f₅ : Appended out₄ m₄ h out₅ m₅) (t : List ℕ) → b ++ (c ++ (d ++ (g ++ h))) ≡ t → Appended out at t out₅ m₅
-      append_5 h out₅ m₅ f₅ t e =
-          append_as out at (b ++ (c ++ (d ++ (g ++ h)))) t out₅ m₅ e
-          (append_then out at b out₁ m₁ (c ++ (d ++ (g ++ h))) out₅ m₅ f₁ (append_then out₁ m₁ c out₂ m₂ (d ++ (g ++ h)) out₅ m₅ f₂
-          (append_then out₂ m₂ d out₃ m₃ (g ++ h) out₅ m₅ f₃ (append_then out₃ m₃ g out₄ m₄ h out₅ m₅ f₄ f₅))))
+    module _ (g : List ℕ) (w₄ : Writer) (f₄ : Wrote w₃ g w₄) where
+      pub wrote_5 : (h : List ℕ) (w₅ : Writer) (f₅ : Wrote w₄ h w₅) (t : List ℕ) → b ++ (c ++ (d ++ (g ++ h))) ≡ t → Wrote w t w₅
+      wrote_5 h w₅ f₅ t e =
+          wrote_as w (b ++ (c ++ (d ++ (g ++ h)))) t w₅ e
+          (wrote_then w b w₁ f₁ (c ++ (d ++ (g ++ h))) w₅ (wrote_then w₁ c w₂ f₂ (d ++ (g ++ h)) w₅
+          (wrote_then w₂ d w₃ f₃ (g ++ h) w₅ (wrote_then w₃ g w₄ f₄ h w₅ f₅))))
 
-module _ (out : List ℕ) (at : ℕ) (b : List ℕ) (r : ℕ) where
-  pub append_short : r ≡ min (at + length b) most → length out < at → Appended out at b out r
-  append_short e h = record { long = refl; end = e; bytes = λ g. absurd (omega arith) }
+-- a text that is written piece by piece
+pub begun_start : (w : Writer) (t : List ℕ) → Begun w t w t
+begun_start w t = record { done = []; written = wrote_nothing w; whole = refl }
 
-  pub append_shorter : (n : ℕ) → n ≡ length b → r ≡ min (at + n) most → at ≤ length out → length out - at < n → Appended out at b out r
-  append_shorter n q e k h = record { long = refl; end = rw q at e; bytes = λ g. absurd (omega arith) }
+module _ (w : Writer) (t : List ℕ) (m : Writer) (r : List ℕ) (g : Begun w t m r) where
+  pub begun_next : (b : List ℕ) (w' : Writer) → Wrote m b w' → (r' : List ℕ) → b ++ r' ≡ r → Begun w t w' r'
+  begun_next b w' f r' e =
+      record { done = g.done ++ b; written = wrote_then w g.done m g.written b w' f; whole = append_assoc g.done b r' ∙ (rw (← e) at g.whole) }
 
-pub append_copied : (out : List ℕ) (at : ℕ) (b out' : List ℕ) → Filled (take at out ++ b) (at + length b) out' → length out' ≡ length out → at + length b ≤ most → Appended out at b out' (at + length b)
-append_copied out at b out' f l h = record { long = l; end = omega arith; bytes = λ g. f.is }
+  pub begun_then : (w' : Writer) (r' : List ℕ) → Begun m r w' r' → Begun w t w' r'
+  begun_then w' r' f = begun_next f.done w' f.written r' f.whole
 
-module _ (out : List ℕ) (at c : ℕ) where
-  pub append_no_byte : (r : ℕ) → r ≡ min (at + 1) most → length out ≤ at → Appended out at (c ∷ []) out r
-  append_no_byte r e h = record { long = refl; end = e; bytes = λ g. absurd (omega arith) }
+  pub begun_end : r ≡ [] → Wrote w t m
+  begun_end e = wrote_as w g.done t m (sym (append-nil g.done) ∙ (rw e at g.whole)) g.written
 
-  pub append_stored : at < length out → at + 1 ≤ most → Appended out at (c ∷ []) (set out at c) (at + 1)
-  append_stored h k = record { long = length-set out at c; end = omega arith; bytes = λ g. rw (add-one, take-suc-set out at c h) }
-
-pub ruleset appends = (append_short, append_shorter, append_copied, append_no_byte, append_stored)
+  pub begun_last : (w' : Writer) → Wrote m r w' → Wrote w t w'
+  begun_last w' f = wrote_2 w g.done m g.written r w' f t g.whole

@@ -1,4 +1,4 @@
 pub mod Appends
 pub mod StringRules
-pub mod ValueRules
 pub mod Sums
+pub mod ValueRules

@@ -1,24 +1,22 @@
 -- Rules for the needs of the strings.
---   and_not_no, and_not_go                   the test of a byte
---   plain_start, plain_next                  the loop over bytes that are written as they stand
---   Going                                    the loop over runs: `done` is written, and with what is left at i it is the whole
---   going_start, going_run, going_next, going_end
+--   plain_start, plain_next, plain_then      the loops over bytes that are written as they stand
+--   letters, marked, alone                   one byte
+--   run_put, run_next, run_none              a run of them, and what is left behind it
 -- Assumes nothing.
-use Prim.Native.Nat.{ℕ, ◌+◌, ◌/◌, ◌%◌, ◌≤◌, ◌<◌}
-use native.Mathlib.Nat.{le_refl}
+use Prim.Native.Nat.{ℕ, ◌-◌, ◌/◌, ◌%◌, ◌≤◌, ◌<◌}
 use mathlib.Core.Path.{◌≡◌, refl, sym, ap, ◌∙◌}
-use mathlib.Core.Bool.{Bool, true, false, ◌&&◌, ◌||◌, not}
-use mathlib.Core.List.{List, [], ◌∷◌, ◌++◌, append_assoc, append-nil}
+use mathlib.Core.Bool.{Bool, true, ◌&&◌, ◌||◌, not}
+use mathlib.Core.List.{List, [], ◌∷◌, ◌++◌, append_assoc}
 use native.Mathlib.Omega.{arith}
-use borrow.Author.Tests.{eq-eqb, ne_eqb, leb-true, lt-ltb, le-ltb, not-true}
+use borrow.Author.Tests.{ne_eqb, leb-true, lt-ltb, le-ltb, not-true}
 use lib.Dec.{eqb, leb}
-use lib.ListN.{length, get_or, drop}
-use Rattle.definitions.specs.Lists.{part}
-use Rattle.text.proofs.Parts.{drop_step, drop_end, part_step, part_none, part_join}
+use lib.ListN.{length, take, length-append}
+use Rattle.std.proofs.Math.Seq.{take-append_seam}
 use Rattle.loop_theory.proofs.Cases.{and_split}
 use Rattle.json_definitions.specs.Writer.{hex_letter, escaped, characters_text}
-use Rattle.json_append.specs.Appended.{most, Appended, Plain}
-use Rattle.json_append.proofs.Appends.{append_nothing, append_then, append_as}
+use Rattle.json_append.specs.Appended.{Plain, Wrote, Begun}
+use Rattle.json_append.specs.declared.writer.Writer.{Writer}
+use Rattle.json_append.proofs.Appends.{wrote_nothing, wrote_then, wrote_as, wrote_2}
 
 -- Bytes that are written as they stand
 
@@ -29,85 +27,52 @@ plain_byte c e =
     let q = and_split (not (eqb c 92)) _ p.1 in
     rw (not-true (eqb c 34) p.0, not-true (eqb c 92) q.0, le-ltb c 32 (leb-true 32 c q.1))
 
-pub and_not_no : (c k : ℕ) (y : Bool) → c ≡ k → false ≡ (not (eqb c k) && y)
-and_not_no c k y e = rw (eq-eqb c k e)
+pub plain_start : (s : List ℕ) → Plain s s
+plain_start s = record { front = []; cut = refl; same = refl }
 
-pub and_not_go : (c k : ℕ) (y r : Bool) → (c ≡ k → ⊥) → r ≡ y → r ≡ (not (eqb c k) && y)
-and_not_go c k y r e g = rw (ne_eqb c k e) g
-
-pub plain_start : (s : List ℕ) (i : ℕ) → i ≤ length s → Plain s i i
-plain_start s i h = record { low = le_refl i; high = h; same = rw (part_none s i i (le_refl i)) }
-
-pub plain_next : (s : List ℕ) (i j : ℕ) (b : Bool) → Plain s i j → j < length s → b ≡ (not (eqb (get_or s j 0) 34) && (not (eqb (get_or s j 0) 92) && leb 32 (get_or s j 0))) → b ≡ true → Plain s i (j + 1)
-unfolding characters_text
-plain_next s i j b p h e f =
-    let l = p.low in
-    let c : ℕ = get_or s j 0 in
-    let one : part j (j + 1) s ≡ c ∷ [] = part_step 0 s j (j + 1) (omega arith) (omega arith) ∙ ap (λ (r : List ℕ). c ∷ r) (part_none s (j + 1) (j + 1) (omega arith)) in
+pub plain_then : (s t r : List ℕ) → Plain s t → Plain t r → Plain s r
+plain_then s t r f g =
     record {
-      low = omega arith;
-      high = omega arith;
-      same = p.same ∙ rw (drop_step 0 s j h, plain_byte c (sym e ∙ f), ← part_join s i j (j + 1) l (omega arith), one, append_assoc (part i j s) (c ∷ []) (characters_text (drop (j + 1) s)));
+      front = f.front ++ g.front;
+      cut = f.cut ∙ rw g.cut (sym (append_assoc f.front g.front r));
+      same = f.same ∙ rw g.same (sym (append_assoc f.front g.front (characters_text r)));
     }
+
+pub plain_next : (s rest : List ℕ) (c : ℕ) (t : List ℕ) (b : Bool) → Plain s rest → rest ≡ c ∷ t → b ≡ (not (eqb c 34) && (not (eqb c 92) && leb 32 c)) → b ≡ true → Plain s t
+unfolding characters_text
+plain_next s rest c t b f q e h =
+    plain_then s rest t f (record { front = c ∷ []; cut = q; same = rw (q, plain_byte c (sym e ∙ h)) })
 
 -- One byte
 
-pub letters : (c a b : ℕ) → a ≡ hex_letter (c / 16) → b ≡ hex_letter (c % 16) → c < 32 → 92 ∷ 117 ∷ 48 ∷ 48 ∷ a ∷ b ∷ [] ≡ escaped c
+pub letters : (c a b : ℕ) → a ≡ hex_letter (c / 16) → b ≡ hex_letter (c % 16) → c < 32 → (92 ∷ 117 ∷ 48 ∷ 48 ∷ []) ++ (a ∷ b ∷ []) ≡ escaped c
 unfolding escaped
 letters c a b p q h = rw (p, q, ne_eqb c 34 (λ e. omega arith), ne_eqb c 92 (λ e. omega arith), lt-ltb c 32 h)
 
-pub marked : (c : ℕ) → (eqb c 34 || eqb c 92) ≡ true → 92 ∷ c ∷ [] ≡ escaped c
+pub marked : (c : ℕ) (b : Bool) → b ≡ (eqb c 34 || eqb c 92) → b ≡ true → 92 ∷ c ∷ [] ≡ escaped c
 unfolding escaped
-marked c e = rw e
+marked c b e h = rw (← e, h)
 
-pub alone : (c : ℕ) (out : List ℕ) (at : ℕ) (out' : List ℕ) (e : ℕ) → (c ≡ 34 → ⊥) → (c ≡ 92 → ⊥) → 32 ≤ c → Appended out at (c ∷ []) out' e → Appended out at (escaped c) out' e
+pub alone : (c : ℕ) → (c ≡ 34 → ⊥) → (c ≡ 92 → ⊥) → 32 ≤ c → c ∷ [] ≡ escaped c
 unfolding escaped
-alone c out at out' e p q h f = rw (ne_eqb c 34 p, ne_eqb c 92 q, le-ltb c 32 h) f
+alone c p q h = rw (ne_eqb c 34 p, ne_eqb c 92 q, le-ltb c 32 h)
 
-pub quote_marked : (c : ℕ) → c ≡ 34 → (eqb c 34 || eqb c 92) ≡ true
-quote_marked c e = rw (eq-eqb c 34 e)
+-- Runs
 
-pub slash_marked : (c : ℕ) → (c ≡ 34 → ⊥) → c ≡ 92 → (eqb c 34 || eqb c 92) ≡ true
-slash_marked c n e = rw (ne_eqb c 34 n, eq-eqb c 92 e)
+pub run_put : (w w' : Writer) (s rest : List ℕ) → Plain s rest → Wrote w (take (length s - length rest) s) w' → Begun w (characters_text s) w' (characters_text rest)
+run_put w w' s rest p f =
+    let n = ap length p.cut in
+    let k : length s - length rest ≡ length p.front = omega (arith, length-append p.front rest, n) in
+    let front : take (length s - length rest) s ≡ p.front = ap (λ m. take m s) k ∙ ap (take (length p.front)) p.cut ∙ take-append_seam p.front rest in
+    record { done = p.front; written = wrote_as w (take (length s - length rest) s) p.front w' front f; whole = sym p.same }
 
--- The loop over runs
+pub run_next : (c : ℕ) (s t : List ℕ) → s ≡ c ∷ t → escaped c ++ characters_text t ≡ characters_text s
+unfolding characters_text
+run_next c s t q = rw q
 
-pub record Going (out₀ : List ℕ) (at : ℕ) (s out : List ℕ) (to i : ℕ) : Type 0 where
-  pub done : List ℕ
-  pub written : Appended out₀ at done out to
-  pub rest : done ++ characters_text (drop i s) ≡ characters_text s
-  pub within : i ≤ length s
+pub run_none : (s : List ℕ) → length s ≡ 0 → characters_text s ≡ []
+unfolding characters_text
+run_none [] h = refl
+run_none (c ∷ s) h = absurd (omega arith)
 
-pub going_start : (out : List ℕ) (at : ℕ) (s : List ℕ) → at ≤ most → Going out at s out at 0
-going_start out at s h = record { done = []; written = append_nothing out at h; rest = refl; within = omega arith }
-
-pub going_end : (out₀ : List ℕ) (at : ℕ) (s out : List ℕ) (to i : ℕ) → Going out₀ at s out to i → length s ≤ i → Appended out₀ at (characters_text s) out to
-going_end out₀ at s out to i g h =
-    let e : g.done ≡ characters_text s = sym (append-nil g.done) ∙ (unfold characters_text in rw (drop_end s i h) at g.rest) in
-    append_as out₀ at g.done (characters_text s) out to e g.written
-
-module _ (out₀ : List ℕ) (at : ℕ) (s out : List ℕ) (to i : ℕ) (g : Going out₀ at s out to i) (j : ℕ) (p : Plain s i j) (out' : List ℕ) (m : ℕ) (f : Appended out to (part i j s) out' m) where
-  pub going_run : Going out₀ at s out' m j
-  going_run =
-      let h = p.high in
-      record {
-        done = g.done ++ part i j s;
-        written = append_then out₀ at g.done out to (part i j s) out' m g.written f;
-        rest = append_assoc g.done (part i j s) (characters_text (drop j s)) ∙ rw (← p.same) g.rest;
-        within = h;
-      }
-
-  pub going_last : length s ≤ j → Appended out₀ at (characters_text s) out' m
-  going_last h = going_end out₀ at s out' m j going_run h
-
-  pub going_next : j < length s → (out'' : List ℕ) (e : ℕ) → Appended out' m (escaped (get_or s j 0)) out'' e → Going out₀ at s out'' e (j + 1)
-  going_next h out'' e w =
-      let r = going_run in
-      record {
-        done = r.done ++ escaped (get_or s j 0);
-        written = append_then out₀ at r.done out' m (escaped (get_or s j 0)) out'' e r.written w;
-        rest = append_assoc r.done (escaped (get_or s j 0)) (characters_text (drop (j + 1) s)) ∙ (unfold characters_text in rw (drop_step 0 s j h) at r.rest);
-        within = omega arith;
-      }
-
-pub ruleset strings = (and_not_no, and_not_go, letters, marked, alone, plain_start, plain_next, quote_marked, slash_marked, going_start, going_end, going_last, going_next)
+pub ruleset strings = (wrote_as, wrote_2, plain_start, plain_then, plain_next, letters, marked, alone, run_put)

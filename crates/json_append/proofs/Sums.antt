@@ -4,7 +4,6 @@
 --   counted_start, counted_next, counted_wide, counted_end
 --   total_bytes                                         the length of the bytes of a string, as a sum
 --   characters_join, length_characters                  the bytes of two strings in a row, and their length
---   block_next, block_end                               eight bytes
 --   all_alone, plain_block                              bytes that are as long in a string as they are stand for themselves
 -- Assumes nothing.
 use Prim.Native.Nat.{ℕ, ◌+◌, ◌*◌, ◌≤◌, ◌<◌}
@@ -17,9 +16,9 @@ use native.Mathlib.Numerals.{add-one}
 use native.Mathlib.Omega.{arith}
 use borrow.Author.Tests.{eq-eqb, ne_eqb, lt-ltb, le-ltb}
 use lib.Dec.{eqb, ltb}
-use lib.ListN.{length, get_or, drop, length-append}
-use Rattle.definitions.specs.Lists.{part}
-use Rattle.text.proofs.Parts.{drop_step, drop_end, part_get, part_join, part_tail, length_part}
+use lib.ListN.{length, get_or, take, drop, length-append}
+use Rattle.std.proofs.lemmas.List.{take-append-drop}
+use Rattle.text.proofs.Parts.{drop_step, drop_end}
 use Rattle.json_definitions.specs.Writer.{escaped, characters_text}
 use Rattle.json_append.specs.Appended.{Plain}
 use Rattle.json_append.specs.Sizes.{total, byte_size, Sized}
@@ -86,21 +85,6 @@ characters_join (c ∷ a) b = ap (λ s. escaped c ++ s) (characters_join a b) �
 pub length_characters : (a b : List ℕ) → length (characters_text (a ++ b)) ≡ length (characters_text a) + length (characters_text b)
 length_characters a b = ap length (characters_join a b) ∙ length-append (characters_text a) (characters_text b)
 
--- Eight bytes from place i on
-
-module _ (s : List ℕ) (i : ℕ) (h : i + 8 ≤ length s) where
-  eight : length (part i (i + 8) s) ≡ 8
-  eight = omega (arith, length_part s i (i + 8))
-
-  module _ (n k : ℕ) (g : Counted byte_size 6 (part i (i + 8) s) n k) where
-    pub block_next : (r : ℕ) → k < 8 → Sized (byte_size (get_or s (i + k) 0)) 6 r → Counted byte_size 6 (part i (i + 8) s) (n + r) (k + 1)
-    block_next r l q =
-        let e : get_or (part i (i + 8) s) k 0 ≡ get_or s (i + k) 0 = part_get 0 s i (i + 8) k (omega arith) in
-        counted_next byte_size 6 (part i (i + 8) s) n k g 0 r (omega (arith, eight)) (rw e q)
-
-    pub block_end : 8 ≤ k → n ≡ length (characters_text (part i (i + 8) s))
-    block_end l = counted_end byte_size 6 (part i (i + 8) s) n k g (omega (arith, eight)) ∙ total_bytes (part i (i + 8) s)
-
 -- A byte is at least one byte long, and stands for itself if it is no longer
 
 alone_or_longer : (c : ℕ) → (escaped c ≡ c ∷ []) ⊎ (2 ≤ length (escaped c))
@@ -133,15 +117,12 @@ all_alone (c ∷ s) h = go (alone_or_longer c) (all_alone s)
     go (inl e) ih = let m = ap length e in rw (e, ih (omega (arith, l)))
     go (inr g) ih = absurd (omega (arith, l, no_shorter s))
 
-pub plain_block : (s : List ℕ) (i j n : ℕ) → Plain s i j → j + 8 ≤ length s → n ≡ length (characters_text (part j (j + 8) s)) → n ≡ 8 → Plain s i (j + 8)
-plain_block s i j n p h e q =
-    let l = p.low in
-    let b = part j (j + 8) s in
-    let alone : characters_text b ≡ b = all_alone b (sym e ∙ q ∙ sym (eight s j h)) in
-    let cut : drop j s ≡ b ++ drop (j + 8) s = sym (rw (part_tail s (j + 8), part_tail s j) at (part_join s j (j + 8) (length s) (omega arith) h)) in
-    let rest : characters_text (drop j s) ≡ b ++ characters_text (drop (j + 8) s) = ap characters_text cut ∙ characters_join b (drop (j + 8) s) ∙ rw alone in
-    record {
-      low = omega arith;
-      high = h;
-      same = p.same ∙ rw (rest, ← part_join s i j (j + 8) l (omega arith), append_assoc (part i j s) b (characters_text (drop (j + 8) s)));
-    }
+pub plain_block : (s b t : List ℕ) (n : ℕ) → b ≡ take 8 s → t ≡ drop 8 s → length t + 8 ≡ length s → n ≡ length (characters_text b) → n ≡ 8 → Plain s t
+plain_block s b t n p q l e h =
+    let cut : b ++ t ≡ s = rw (p, q) (take-append-drop 8 s) in
+    let eight : length b ≡ 8 = omega (arith, ap length cut, length-append b t) in
+    record { front = b; cut = sym cut; same = ap characters_text (sym cut) ∙ characters_join b t ∙ rw (all_alone b (sym e ∙ h ∙ sym eight)) }
+
+pub ruleset byte_sizes = (size_control, size_quote, size_slash, size_alone)
+
+pub ruleset sums = (counted_start, counted_next, counted_wide, counted_end, total_bytes)

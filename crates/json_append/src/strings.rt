@@ -1,10 +1,12 @@
 // Strings.
-ghost use Rattle.std.specs.Prelude.{◌≡◌, ◌&&◌, ◌||◌, not, true, ◌≤◌, ◌<◌, eqb, leb, length};
-ghost use Rattle.json_definitions.specs.Writer.{hex_letter, escaped, characters_text};
-ghost use Rattle.json_append.specs.Appended.{Appended, Plain};
+#![tactic(auto, using(crate::proofs::StringRules::strings))]
 
-use crate::bytes::{put, put_byte};
+ghost use Rattle.std.specs.Prelude.{◌≡◌, ◌&&◌, not, ◌<◌, ◌≤◌, eqb, leb, length};
+ghost use Rattle.json_definitions.specs.Writer.{hex_letter, escaped, characters_text};
+ghost use Rattle.json_append.specs.Appended.{Plain};
+
 use crate::sizes::block_size;
+use crate::writer::Writer;
 
 // A byte that is written as it stands.
 fn is_plain(c: u8) -> bool
@@ -13,94 +15,77 @@ fn is_plain(c: u8) -> bool
     c != 0x22 && c != 0x5c && 0x20 <= c
 }
 
-// The place behind the blocks of eight bytes from i on that are written as they stand.
-fn plain_blocks(s: &[u8], i: usize) -> usize
-    requires { i ≤ length s.now }
-    ensures { Plain s.now i result }
+// What is left behind the blocks of eight bytes at the start that are written as they stand.
+fn skip_plain_blocks(s: &[u8]) -> &[u8]
+    ensures { Plain s.now result.now }
 {
-    let mut j = i;
-    while 8 <= s.len() - j {
-        if block_size(s, j) == 8 {
-            j += 8;
-        } else {
-            return j;
+    let mut rest = s;
+    while let Some((block, tail)) = rest.split_first_chunk::<8>() {
+        if block_size(block) != 8 {
+            break;
         }
+        rest = tail;
     }
-    j
+    rest
 }
 
-// The place behind the bytes from i on that are written as they stand.
-fn plain_end(s: &[u8], i: usize) -> usize
-    requires { i ≤ length s.now }
-    ensures { Plain s.now i result }
+// What is left behind the bytes at the start that are written as they stand.
+fn skip_plain(s: &[u8]) -> &[u8]
+    ensures { Plain s.now result.now }
 {
-    let mut j = plain_blocks(s, i);
-    while j < s.len() {
-        if is_plain(s[j]) {
-            j += 1;
-        } else {
-            return j;
+    let mut rest = skip_plain_blocks(s);
+    while let Some((c, tail)) = rest.split_first() {
+        if !is_plain(*c) {
+            break;
         }
+        rest = tail;
     }
-    j
+    rest
 }
 
+#[tactic(auto, unfolding(json_definitions::specs::Writer::hex_letter))]
 fn hex_letter(d: u8) -> u8
     requires { d < 16 }
     ensures { result ≡ hex_letter d }
 {
-    if d < 10 { 0x30 + d } else { 0x57 + d }
+    if d < 10 { b'0' + d } else { b'a' + (d - 10) }
 }
 
-// A code below 32.
-fn put_control(out: &mut [u8], at: usize, c: u8) -> usize
-    requires { c < 32 }
-    ensures { Appended out.old at (escaped c) out.new result }
-{
-    let i = put(out, at, b"\\u00");
-    let j = put_byte(out, i, hex_letter(c / 16));
-    put_byte(out, j, hex_letter(c % 16))
-}
+impl Writer<'_> {
+    ghost use Rattle.json_append.specs.Appended.{Wrote, Begun};
 
-// A backslash and c.
-fn put_escape(out: &mut [u8], at: usize, c: u8) -> usize
-    requires { (eqb c 34 || eqb c 92) ≡ true }
-    ensures { Appended out.old at (escaped c) out.new result }
-{
-    let i = put_byte(out, at, b'\\');
-    put_byte(out, i, c)
-}
-
-// One byte of a string.
-fn put_character(out: &mut [u8], at: usize, c: u8) -> usize
-    ensures { Appended out.old at (escaped c) out.new result }
-{
-    if c == b'"' {
-        return put_escape(out, at, c);
-    }
-    if c == b'\\' {
-        return put_escape(out, at, c);
-    }
-    if c < 0x20 {
-        return put_control(out, at, c);
-    }
-    put_byte(out, at, c)
-}
-
-// The bytes of a string, by runs of bytes that are written as they stand.
-pub fn put_characters(out: &mut [u8], at: usize, s: &[u8]) -> usize
-    ensures { Appended out.old at (characters_text s.now) out.new result }
-{
-    let mut to = at;
-    let mut i = 0;
-    while i < s.len() {
-        let j = plain_end(s, i);
-        to = put(out, to, &s[i..j]);
-        if s.len() <= j {
-            return to;
+    // One byte of a string.
+    fn put_character(&mut self, c: u8)
+        ensures { Wrote self.old (escaped c) self.new }
+    {
+        if c == b'"' || c == b'\\' {
+            self.put(&[b'\\', c]);
+        } else if c < 0x20 {
+            self.put(b"\\u00");
+            self.put(&[hex_letter(c / 16), hex_letter(c % 16)]);
+        } else {
+            self.put_byte(c);
         }
-        to = put_character(out, to, s[j]);
-        i = j + 1;
     }
-    to
+
+    // The bytes at the start that are written as they stand. What is left behind them is the answer.
+    fn put_plain<'a>(&mut self, s: &'a [u8]) -> &'a [u8]
+        ensures begun { Begun self.old (characters_text s.now) self.new (characters_text result.now) }
+        ensures shorter { length result.now ≤ length s.now }
+    {
+        let rest = skip_plain(s);
+        self.put(&s[..s.len() - rest.len()]);
+        rest
+    }
+
+    // The bytes of a string, by runs of bytes that are written as they stand.
+    pub fn put_characters(&mut self, s: &[u8])
+        ensures { Wrote self.old (characters_text s.now) self.new }
+    {
+        let mut rest = self.put_plain(s);
+        while let Some((c, tail)) = rest.split_first() {
+            self.put_character(*c);
+            rest = self.put_plain(tail);
+        }
+    }
 }

@@ -1,50 +1,46 @@
 // Kinds and numbers.
-ghost use Rattle.std.specs.Prelude.{◌≡◌, ◌+◌, ◌<◌};
+#![tactic(auto, using(crate::proofs::ValueRules::values), unfolding(json_definitions::specs::Writer::kind_text, json_definitions::specs::Writer::address_text))]
+
 ghost use Rattle.json_definitions.specs.Writer.{kind_text, decimal, address_text};
-ghost use Rattle.json_append.specs.Appended.{Appended};
 
-use crate::bytes::{put, put_byte};
+use crate::writer::Writer;
+use itoa::Buffer;
+use model::kind::Kind;
 
-// The name of a kind.
-pub fn put_kind(out: &mut [u8], at: usize, kind: usize) -> usize
-    ensures { Appended out.old at (kind_text kind) out.new result }
-{
-    match kind {
-        0 => put(out, at, b"\"text\""),
-        1 => put(out, at, b"\"register\""),
-        2 => put(out, at, b"\"number\""),
-        3 => put(out, at, b"\"keyword\""),
-        4 => put(out, at, b"\"symbol\""),
-        5 => put(out, at, b"\"address\""),
-        6 => put(out, at, b"\"punct\""),
-        7 => put(out, at, b"\"prefix\""),
-        _ => put(out, at, b""),
+impl Writer<'_> {
+    ghost use Rattle.json_append.specs.Appended.{Wrote};
+
+    // The name of a kind.
+    pub fn put_kind(&mut self, kind: usize)
+        ensures { Wrote self.old (kind_text kind) self.new }
+    {
+        match Kind::of(kind) {
+            Some(Kind::Text) => self.put(b"\"text\""),
+            Some(Kind::Register) => self.put(b"\"register\""),
+            Some(Kind::Number) => self.put(b"\"number\""),
+            Some(Kind::Keyword) => self.put(b"\"keyword\""),
+            Some(Kind::Symbol) => self.put(b"\"symbol\""),
+            Some(Kind::Address) => self.put(b"\"address\""),
+            Some(Kind::Punct) => self.put(b"\"punct\""),
+            Some(Kind::Prefix) => self.put(b"\"prefix\""),
+            None => self.put(b""),
+        }
     }
-}
 
-fn digit(d: u64) -> u8
-    requires { d < 10 }
-    ensures { result ≡ 48 + d }
-{
-    (d as u8) + 0x30
-}
-
-// The decimal digits of n.
-pub fn put_decimal(out: &mut [u8], at: usize, n: u64) -> usize
-    ensures { Appended out.old at (decimal n) out.new result }
-{
-    if n < 10 {
-        return put_byte(out, at, digit(n));
+    // The decimal digits of n.
+    pub fn put_decimal(&mut self, n: u64)
+        ensures { Wrote self.old (decimal n) self.new }
+    {
+        let mut digits = Buffer::new();
+        self.put(digits.format(n).as_bytes());
     }
-    let i = put_decimal(out, at, n / 10);
-    put_byte(out, i, digit(n % 10))
-}
 
-pub fn put_address(out: &mut [u8], at: usize, a: Option<u64>) -> usize
-    ensures { Appended out.old at (address_text a) out.new result }
-{
-    match a {
-        Some(v) => put_decimal(out, at, v),
-        None => put(out, at, b"null"),
+    pub fn put_address(&mut self, a: Option<u64>)
+        ensures { Wrote self.old (address_text a) self.new }
+    {
+        match a {
+            Some(v) => self.put_decimal(v),
+            None => self.put(b"null"),
+        }
     }
 }

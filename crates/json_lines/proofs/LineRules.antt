@@ -1,8 +1,8 @@
 -- A line, by what the code has read of it.
 --   line_no_head, line_no_tokens, line_no_end    no line
---   indent_small, line_whole                     a line
+--   indent_small, word_of, line_whole            a line
 -- Assumes nothing.
-use Rattle.std.specs.Prelude.{if◌then◌else◌, Option, None, Some}
+use Rattle.std.specs.Prelude.{if◌then◌else◌, Option, None, Some, unwrap_or}
 use mathlib.Core.Path.{◌≡◌, sym, ap, ◌∙◌}
 use mathlib.Core.List.{List, [], ◌∷◌}
 use Prim.Native.Nat.{ℕ, ◌≤◌, zero-le}
@@ -19,6 +19,10 @@ use Rattle.json_lines.specs.InColumns.{ReadTokens, NoTokens, low_word, ReadLine,
 flag_small : (a : Option ℕ) → (if is_some a then 256 else 0) ≤ 256
 flag_small None = zero-le
 flag_small (Some v) = le_refl 256
+
+pub word_of : (a : Option ℕ) (w : ℕ) → w ≡ unwrap_or a 0 → w ≡ or_else a 0
+word_of None w e = e
+word_of (Some v) w e = e
 
 stopped : {A B : Type 0} (o : Option (Got A)) (f : A → Parser B) → o ≡ None → after o f ≡ None
 unfolding after

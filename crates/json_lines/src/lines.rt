@@ -2,7 +2,6 @@
 #![tactic(auto, using(crate::proofs::MemberRules::members))]
 
 ghost use Rattle.std.specs.Prelude.{◌≡◌, ◌≤◌, length};
-ghost use Rattle.definitions.specs.Lists.{or_else};
 ghost use Rattle.json_definitions.specs.Reader.{line_indent, head, line};
 ghost use Rattle.json_scan.specs.Answers.{number_of};
 ghost use Rattle.json_lines.specs.Answers.{head_of};
@@ -57,15 +56,6 @@ fn low_word(a: Option<u64>, indent: u64) -> u64
     }
 }
 
-fn address_word(a: Option<u64>) -> u64
-    ensures { result ≡ or_else a 0 }
-{
-    match a {
-        Some(v) => v,
-        None => 0,
-    }
-}
-
 // A line, its tokens behind those that stand in the columns.
 pub fn line<'a>(
     s: &'a [u8],
@@ -82,7 +72,7 @@ pub fn line<'a>(
     let row = Row {
         filled,
         low: low_word(top.address, top.indent),
-        address: address_word(top.address),
+        address: top.address.unwrap_or(0),
     };
     Some((row, s))
 }

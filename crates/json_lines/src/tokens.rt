@@ -56,6 +56,7 @@ fn token_word(t: Packed) -> u32
     requires { (t.end ≤ 262144) × (t.kind ≤ 7) }
     ensures { result ≡ t.end * 256 + t.kind }
 {
+    // A cast: an end is at most 262,144, which `TryFrom` would ask again.
     (t.end as u32) * 256 + t.kind
 }
 

@@ -27,10 +27,12 @@ fn line_word(end: usize, low: u64) -> u32
     requires { (end ≤ 16384) × (low < 512) }
     ensures { result ≡ end * 512 + low }
 {
+    // Casts: an end is at most 16,384 and the rest below 512, which `TryFrom` would ask again.
     (end as u32) * 512 + (low as u32)
 }
 
-// The lines of an array, from its first element on, and what is left behind it.
+// The lines of an array, from its first element on, and what is left behind it. The columns go as slices, here and in the crates above: of a struct
+// that lends parts of slices, as the call would make one, proofs don't know what the parts hold at the end.
 fn lines_from<'a>(
     s: &'a [u8],
     lines: &mut [u32],

@@ -4,23 +4,21 @@
 -- Assumes nothing.
 use Rattle.std.specs.Prelude.{Ok, Err}
 use Prim.Native.Nat.{ℕ, ◌≤◌, ◌<◌}
-use mathlib.Core.Path.{◌≡◌, refl, sym, ap, ◌∙◌}
-use mathlib.Core.Bool.{Bool, true, false, cond, ◌&&◌}
-use mathlib.Core.List.{List, [], ◌∷◌}
+use mathlib.Core.Path.{◌≡◌, sym, ◌∙◌}
+use mathlib.Core.Bool.{Bool, true, ◌&&◌}
+use mathlib.Core.List.{List}
 use native.Mathlib.Omega.{arith}
-use borrow.Author.Tests.{eq-eqb, ne_eqb, le-leb, lt-leb, leb-true}
-use lib.Dec.{eqb, leb}
+use borrow.Author.Tests.{le-leb, lt-leb, leb-true}
+use lib.Dec.{leb}
 use lib.ListN.{length, take}
-use Rattle.definitions.specs.Questions.{limits, question_1, question_2, question_3, refusal}
-use Rattle.definitions.specs.Answers.{accepted, refused}
+use Rattle.definitions.specs.Questions.{limits, question_1, question_2}
+use Rattle.definitions.specs.Answers.{accepted}
 use Rattle.definitions.specs.Calls.{filled}
 use Rattle.loop_theory.proofs.Cases.{and_split}
 use Rattle.text.specs.Zeroed.{zeroed}
-use Rattle.json_definitions.specs.Writer.{write}
-use Rattle.json_definitions.specs.JsonCalls.{Written, write_call}
 use Rattle.json_append.specs.Appended.{most, Appended}
 use Rattle.questions.specs.declared.Refusal.TheVariants.{NoRoom}
-use Rattle.json_write.specs.Answers.{columns, lines_of, fourth, written}
+use Rattle.json_write.specs.Answers.{fourth, written}
 use Rattle.json_write.specs.Sizes.{Formed}
 
 -- Question 4, by the length of the text

@@ -6,7 +6,7 @@
 --   listing_none, listing_some    the text of a listing without lines, and with them
 -- Assumes nothing.
 use Rattle.std.specs.Prelude.{Option}
-use Prim.Native.Nat.{ℕ, zero, suc, ◌+◌, ◌/◌, ◌≤◌, ◌<◌}
+use Prim.Native.Nat.{ℕ, zero, suc, ◌/◌, ◌≤◌, ◌<◌}
 use native.Mathlib.Nat.{not-suc-le-zero, le_of_suc-le-suc}
 use mathlib.Core.Path.{◌≡◌, refl, sym, ap, ◌∙◌}
 use mathlib.Core.List.{List, [], ◌∷◌, ◌++◌, append_assoc}
@@ -20,7 +20,7 @@ use Rattle.text.proofs.Parts.{part_clamp, part_tail}
 use Rattle.model.specs.Places.{line_start, line_end}
 use Rattle.model.proofs.Decode.{line_at, length_listing, length_tokens, length_addresses}
 use Rattle.json_definitions.specs.Writer.{address_text, decimal, token_text, elements_text, array_text, line_text, write}
-use Rattle.json_append.specs.Appended.{Appended}
+use Rattle.json_append.proofs.Appends.{wrote_2, begun_start}
 use Rattle.json_write.specs.Answers.{lines_of, head_text}
 use Rattle.json_write.proofs.ElementRules.{array_none, array_some}
 
@@ -69,25 +69,27 @@ module _ (l a t x : List ℕ) (n : length a ≡ length l) where
 -- The text of a listing
 
 module _ (l a t x : List ℕ) (n : length a ≡ length l) where
-  pub listing_none : length l ≡ 0 → (out : List ℕ) (at : ℕ) (out' : List ℕ) (m : ℕ) → Appended out at (91 ∷ 93 ∷ []) out' m → Appended out at (write (lines_of l a t x)) out' m
+  pub listing_none : length l ≡ 0 → 91 ∷ 93 ∷ [] ≡ write (lines_of l a t x)
   unfolding write
-  listing_none h out at out' m w = rw (← lines_part l a t x n 0) (array_none line_text (lines_of l a t x) 0 (length l) (omega arith) out at out' m w)
+  listing_none h = rw (← lines_part l a t x n 0) (array_none line_text (lines_of l a t x) 0 (length l) (omega arith))
 
-  pub listing_some : (length l ≡ 0 → ⊥) → (out : List ℕ) (at : ℕ) (out₁ : List ℕ) (m₁ : ℕ) → Appended out at (91 ∷ []) out₁ m₁
-      → (out₂ : List ℕ) (m₂ : ℕ) → Appended out₁ m₁ (line_text (line (lines_of l a t x) 0)) out₂ m₂
-      → (out₃ : List ℕ) (m₃ : ℕ) → Appended out₂ m₂ (elements_text line_text (drop 1 (lines_of l a t x))) out₃ m₃ → Appended out at (write (lines_of l a t x)) out₃ m₃
+  pub listing_some : (length l ≡ 0 → ⊥)
+      → (91 ∷ []) ++ (line_text (line (lines_of l a t x) 0) ++ elements_text line_text (drop 1 (lines_of l a t x))) ≡ write (lines_of l a t x)
   unfolding write
-  listing_some h out at out₁ m₁ w₁ out₂ m₂ w₂ out₃ m₃ w₃ =
-      let z : length l ≤ length (lines_of l a t x) = omega (arith, length_lines l a t x n) in
-      let v : Appended out₂ m₂ (elements_text line_text (part (0 + 1) (length l) (lines_of l a t x))) out₃ m₃ = rw (lines_part l a t x n 1) w₃ in
-      rw (← lines_part l a t x n 0) (array_some line_text (lines_of l a t x) 0 (length l) no_line (omega arith) z out at out₁ m₁ w₁ out₂ m₂ w₂ out₃ m₃ v)
+  listing_some h =
+      let L = lines_of l a t x in
+      let z : length l ≤ length L = omega (arith, length_lines l a t x n) in
+      let whole : (91 ∷ []) ++ (line_text (line L 0) ++ elements_text line_text (part 1 (length l) L)) ≡ array_text line_text (part 0 (length l) L)
+      = array_some line_text L 0 (length l) no_line (omega arith) z in
+      let cut : (91 ∷ []) ++ (line_text (line L 0) ++ elements_text line_text (drop 1 L)) ≡ array_text line_text (part 0 (length l) L) = rw (lines_part l a t x n 1) at whole in
+      cut ∙ ap (array_text line_text) (lines_part l a t x n 0)
 
 -- The text of a line
 
-pub head_is : (l : Line) (a : Option ℕ) (d d' : ℕ) → a ≡ l.address → d' ≡ d → d ≡ l.indent
-    → ascii "{\"address\":" ++ (address_text a ++ (ascii ",\"indent\":" ++ (decimal d' ++ ascii ",\"tokens\":"))) ≡ head_text l
+pub head_is : (l : Line) (a : Option ℕ) (d : ℕ) → a ≡ l.address → d ≡ l.indent
+    → ascii "{\"address\":" ++ (address_text a ++ (ascii ",\"indent\":" ++ (decimal d ++ ascii ",\"tokens\":"))) ≡ head_text l
 unfolding head_text
-head_is l a d d' p r q = rw (p, r, q)
+head_is l a d p q = rw (p, q)
 
 pub line_is : (l : Line) (ts : List Token) → ts ≡ l.tokens → head_text l ++ (array_text token_text ts ++ ascii "}") ≡ line_text l
 unfolding head_text line_text
@@ -97,3 +99,5 @@ line_is l ts p =
       append_assoc (address_text l.address) (ascii ",\"indent\":" ++ (decimal l.indent ++ ascii ",\"tokens\":")) (array_text token_text l.tokens ++ ascii "}"),
       append_assoc (decimal l.indent) (ascii ",\"tokens\":") (array_text token_text l.tokens ++ ascii "}"),
     )
+
+pub ruleset lines = (wrote_2, begun_start)

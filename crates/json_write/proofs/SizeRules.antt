@@ -1,16 +1,16 @@
 -- Rules for the needs of the sizes: each premise is a field of what a need is handed.
 --   tokens_next, heads_next, heads_end                  the loops of the sums over tokens and lines
---   decimal_most, digits_next, digits_end               the digits of a number
+--   digits_sized                                        the digits of a number
 --   address_known, address_null                         an address, and none
 --   kind_sized, other_sized                             a token of a kind, and of none
 --   ends_none, ends_some                                an array without elements, and with them
 --   head_sized                                          a line without its tokens' texts
 -- Assumes nothing.
-use Rattle.std.specs.Prelude.{Some, None, Option}
-use Prim.Native.Nat.{ℕ, zero, suc, ◌+◌, ◌*◌, ◌/◌, ◌≤◌, ◌<◌}
+use Rattle.std.specs.Prelude.{Some, None, Option, IfSome, IfNone, unwrap_or}
+use Prim.Native.Nat.{ℕ, zero, suc, ◌+◌, ◌*◌, ◌/◌, ◌^◌, ◌≤◌, ◌<◌}
 use mathlib.Core.Path.{◌≡◌, refl, ap, ◌∙◌}
 use mathlib.Core.List.{List}
-use native.Mathlib.Decide.{dec_le}
+use Rattle.std.proofs.Math.Nat.{pow-succ'}
 use native.Mathlib.Omega.{arith}
 use lib.ListN.{length, get_or, length-append}
 use Rattle.definitions.specs.Model.{Line, line, no_token, no_line}
@@ -18,7 +18,7 @@ use Rattle.definitions.specs.Columns.{token_list}
 use Rattle.model.proofs.Decode.{length_tokens}
 use Rattle.json_definitions.specs.Writer.{decimal, kind_text, address_text}
 use Rattle.json_append.specs.Sizes.{total, Sized}
-use Rattle.json_append.proofs.Sums.{Counted, counted_next, counted_end}
+use Rattle.json_append.proofs.Sums.{Counted, counted_start, counted_next, counted_end}
 use Rattle.json_append.proofs.ValueRules.{one_digit, more_digits, no_kind}
 use Rattle.json_write.specs.Answers.{lines_of, head_text}
 use Rattle.json_write.specs.Sizes.{ends, token_size, head_size}
@@ -38,31 +38,24 @@ module _ (l a t x : List ℕ) (same : length a ≡ length l) (n i : ℕ) (g : Co
   pub heads_end : length l ≤ i → n ≡ total head_size (lines_of l a t x)
   heads_end h = counted_end head_size 75 (lines_of l a t x) n i g (rw (length_lines l a t x same) h)
 
--- Numbers: ten f is the first of f + 2 digits
+-- Numbers
 
-abbrev ten : ℕ → ℕ
-ten zero = 10
-ten (suc f) = 10 * ten f
-
-few_digits : (f n : ℕ) → n < ten f → length (decimal n) ≤ suc f
-few_digits zero n h = let e = ap length (one_digit n h) in omega arith
-few_digits (suc f) n h = go (dec_le 10 n) (few_digits f (n / 10))
+digits_long : (d n : ℕ) → 10 ^ d ≤ n → n < 10 * 10 ^ d → length (decimal n) ≡ d + 1
+digits_long zero n l h = let e = ap length (one_digit n (omega arith)) in omega arith
+digits_long (suc d) n l h =
+    let p : 10 ^ suc d ≡ 10 * 10 ^ d = pow-succ' 10 d in
+    let e = ap length (more_digits n (omega (arith, p, pow-pos d))) in
+    let f = digits_long d (n / 10) (omega (arith, p)) (omega (arith, p)) in
+    omega (arith, simp length-append at e)
   where
-    go : Dec (10 ≤ n) → (n / 10 < ten f → length (decimal (n / 10)) ≤ suc f) → length (decimal n) ≤ suc (suc f)
-    go (yes k) ih = let p = ih (omega arith) in let e = ap length (more_digits n k) in omega (arith, simp length-append at e)
-    go (no k) ih = let e = ap length (one_digit n (omega arith)) in omega arith
+    pow-pos : (d : ℕ) → 1 ≤ 10 ^ d
+    pow-pos zero = omega arith
+    pow-pos (suc d) = let e : 10 ^ suc d ≡ 10 * 10 ^ d = pow-succ' 10 d in let k = pow-pos d in omega arith
 
-pub decimal_most : (n : ℕ) → n < 18446744073709551616 → length (decimal n) ≤ 20
-decimal_most n h = few_digits 19 n (omega arith)
-
-module _ (n d v : ℕ) (inv : d + length (decimal v) ≡ 1 + length (decimal n)) where
-  pub digits_next : 10 ≤ v → d + 1 + length (decimal (v / 10)) ≡ 1 + length (decimal n)
-  digits_next h = let e = ap length (more_digits v h) in omega (arith, simp length-append at e)
-
-  pub digits_end : n < 18446744073709551616 → v < 10 → Sized (length (decimal n)) 20 d
-  digits_end g h =
-      let e = ap length (one_digit v h) in let m = decimal_most n g in
-      record { is = omega arith; most = omega arith }
+pub digits_sized : (n : ℕ) (o : Option ℕ) (d : ℕ) → IfNone o (n ≡ 0) → IfSome o (λ k. 10 ^ k ≤ n) → IfSome o (λ k. n < 10 * 10 ^ k) → IfSome o (λ k. k < 20) → d ≡ unwrap_or o 0
+    → Sized (length (decimal n)) 20 (d + 1)
+digits_sized n None d z l h m e = let o = ap length (one_digit n (omega arith)) in record { is = omega arith; most = omega arith }
+digits_sized n (Some k) d z l h m e = let o = digits_long k n l h in record { is = omega arith; most = omega arith }
 
 module _ (a : Option ℕ) where
   pub address_known : (v r : ℕ) → a ≡ Some v → Sized (length (decimal v)) 20 r → Sized (length (address_text a)) 20 r
@@ -91,12 +84,14 @@ unfolding ends
 ends_some zero e = absurd (e refl)
 ends_some (suc n) e = record { is = refl; most = omega arith }
 
-pub head_sized : (l : Line) (o : Option ℕ) (i i' n a d e : ℕ) → o ≡ l.address → Sized (length (address_text o)) 20 a → i' ≡ i → i ≡ l.indent → Sized (length (decimal i')) 20 d
+pub head_sized : (l : Line) (o : Option ℕ) (i n a d e : ℕ) → o ≡ l.address → Sized (length (address_text o)) 20 a → i ≡ l.indent → Sized (length (decimal i)) 20 d
     → n ≡ length l.tokens → Sized (ends n) 2 e → Sized (head_size l) 75 (33 + a + d + e)
 unfolding head_size head_text
-head_sized l o i i' n a d e p sa q' q sd r se =
+head_sized l o i n a d e p sa q sd r se =
     let ea : a ≡ length (address_text l.address) = sa.is ∙ rw p in
-    let ed : d ≡ length (decimal l.indent) = sd.is ∙ rw (q', q) in
+    let ed : d ≡ length (decimal l.indent) = sd.is ∙ rw q in
     let ee : e ≡ ends (length l.tokens) = se.is ∙ rw r in
     let ma = sa.most in let md = sd.most in let me = se.most in
     record { is = simp length-append (omega arith); most = omega arith }
+
+pub ruleset sizes = (counted_start, address_known, address_null, kind_sized, other_sized, ends_none, ends_some)

@@ -16,6 +16,7 @@ ghost use Rattle.json_write.specs.Sizes.{Formed};
 
 use crate::lines::put_listing;
 use crate::sizes::listing_size;
+use json_append::writer::Writer;
 use model::listing::Listing;
 use questions::{Limits, Refusal, question_1, question_2, question_3};
 
@@ -28,7 +29,9 @@ fn write_formed(code: &Listing, addresses: &[u64], out: &mut [u8]) -> Result<usi
     if out.len() < listing_size(code, addresses) {
         return Err(Refusal::NoRoom);
     }
-    let e = put_listing(out, code, addresses);
+    let mut to = Writer::new(out);
+    put_listing(&mut to, code, addresses);
+    let e = to.len();
     text::zero(out, e);
     Ok(e)
 }

@@ -1,77 +1,74 @@
 // Lines and listings.
+#![tactic(auto, using(crate::proofs::LineRules::lines))]
+
 ghost use Rattle.std.specs.Prelude.{◌≡◌, ◌++◌, ◌<◌, length, drop};
 ghost use Rattle.definitions.specs.Lists.{ascii};
 ghost use Rattle.definitions.specs.Model.{line};
 ghost use Rattle.json_definitions.specs.Writer.{line_text, elements_text, write};
-ghost use Rattle.json_append.specs.Appended.{Appended};
+ghost use Rattle.json_append.specs.Appended.{Wrote};
 ghost use Rattle.json_write.specs.Answers.{lines_of, head_text};
 
-use crate::sizes::wide;
 use crate::tokens::put_token_array;
-use json_append::bytes::{put, put_byte};
-use json_append::values::{put_address, put_decimal};
+use json_append::writer::Writer;
 use model::listing::Listing;
 
 // Line i up to its tokens.
-fn put_head(out: &mut [u8], at: usize, code: &Listing, addresses: &[u64], i: usize) -> usize
+fn put_head(to: &mut Writer, code: &Listing, addresses: &[u64], i: usize)
     requires { (i < length code.now.lines.now) × (length addresses.now ≡ length code.now.lines.now) }
-    ensures { Appended out.old at
-        (head_text (line (lines_of code.now.lines.now addresses.now code.now.tokens.now code.now.text.now) i)) out.new result }
+    ensures { Wrote to.old
+        (head_text (line (lines_of code.now.lines.now addresses.now code.now.tokens.now code.now.text.now) i)) to.new }
 {
-    let a = code.address_of(addresses, i);
-    let d = wide(code.indent(i));
-    let j = put(out, at, b"{\"address\":");
-    let k = put_address(out, j, a);
-    let m = put(out, k, b",\"indent\":");
-    let n = put_decimal(out, m, d);
-    put(out, n, b",\"tokens\":")
+    to.put(b"{\"address\":");
+    to.put_address(code.address_of(addresses, i));
+    to.put(b",\"indent\":");
+    // A cast: std has no `From` of `usize` to 64 bits.
+    to.put_decimal(code.indent(i) as u64);
+    to.put(b",\"tokens\":");
 }
 
-fn put_line(out: &mut [u8], at: usize, code: &Listing, addresses: &[u64], i: usize) -> usize
+fn put_line(to: &mut Writer, code: &Listing, addresses: &[u64], i: usize)
     requires { (i < length code.now.lines.now) × (length addresses.now ≡ length code.now.lines.now) }
-    ensures { Appended out.old at
-        (line_text (line (lines_of code.now.lines.now addresses.now code.now.tokens.now code.now.text.now) i)) out.new result }
+    ensures { Wrote to.old
+        (line_text (line (lines_of code.now.lines.now addresses.now code.now.tokens.now code.now.text.now) i)) to.new }
 {
-    let s = code.line_start(i);
-    let e = code.line_end(i);
-    let j = put_head(out, at, code, addresses, i);
-    let k = put_token_array(out, j, code, s, e);
-    put_byte(out, k, b'}')
+    put_head(to, code, addresses, i);
+    put_token_array(to, code, code.line_start(i), code.line_end(i));
+    to.put_byte(b'}');
 }
 
 // "," and line i.
-fn put_next_line(out: &mut [u8], at: usize, code: &Listing, addresses: &[u64], i: usize) -> usize
+fn put_next_line(to: &mut Writer, code: &Listing, addresses: &[u64], i: usize)
     requires { (i < length code.now.lines.now) × (length addresses.now ≡ length code.now.lines.now) }
-    ensures { Appended out.old at
-        (ascii "," ++ line_text (line (lines_of code.now.lines.now addresses.now code.now.tokens.now code.now.text.now) i)) out.new result }
+    ensures { Wrote to.old
+        (ascii "," ++ line_text (line (lines_of code.now.lines.now addresses.now code.now.tokens.now code.now.text.now) i)) to.new }
 {
-    let j = put_byte(out, at, b',');
-    put_line(out, j, code, addresses, i)
+    to.put_byte(b',');
+    put_line(to, code, addresses, i);
 }
 
 // The lines from `from` on, each behind a ",", and "]".
-fn put_lines(out: &mut [u8], at: usize, code: &Listing, addresses: &[u64], from: usize) -> usize
+fn put_lines(to: &mut Writer, code: &Listing, addresses: &[u64], from: usize)
     requires { length addresses.now ≡ length code.now.lines.now }
-    ensures { Appended out.old at
-        (elements_text line_text (drop from (lines_of code.now.lines.now addresses.now code.now.tokens.now code.now.text.now))) out.new result }
+    ensures { Wrote to.old
+        (elements_text line_text (drop from (lines_of code.now.lines.now addresses.now code.now.tokens.now code.now.text.now))) to.new }
 {
-    let mut to = at;
     for i in from..code.lines.len() {
-        to = put_next_line(out, to, code, addresses, i);
+        put_next_line(to, code, addresses, i);
     }
-    put_byte(out, to, b']')
+    to.put_byte(b']');
 }
 
-// The text of the listing, behind place 0.
-pub fn put_listing(out: &mut [u8], code: &Listing, addresses: &[u64]) -> usize
+// The text of the listing.
+pub fn put_listing(to: &mut Writer, code: &Listing, addresses: &[u64])
     requires { length addresses.now ≡ length code.now.lines.now }
-    ensures { Appended out.old 0
-        (write (lines_of code.now.lines.now addresses.now code.now.tokens.now code.now.text.now)) out.new result }
+    ensures { Wrote to.old
+        (write (lines_of code.now.lines.now addresses.now code.now.tokens.now code.now.text.now)) to.new }
 {
-    if code.lines.len() == 0 {
-        return put(out, 0, b"[]");
+    if code.lines.is_empty() {
+        to.put(b"[]");
+        return;
     }
-    let i = put_byte(out, 0, b'[');
-    let j = put_line(out, i, code, addresses, 0);
-    put_lines(out, j, code, addresses, 1)
+    to.put_byte(b'[');
+    put_line(to, code, addresses, 0);
+    put_lines(to, code, addresses, 1);
 }

@@ -7,7 +7,7 @@
 --   Follows L ns s p r      r is p, or that entry: either may be put behind it
 --   Indexed L hs ns i       the labels of the first i lines are in their buckets
 -- Assumes nothing.
-use Rattle.std.specs.Prelude.{if◌then◌else◌, ℕ, zero, suc, ◌%◌, ◌<◌, ◌≤◌, ◌≡◌, ◌⊎◌, List, ltb, length, get_or, take, Option, None, Some}
+use Rattle.std.specs.Prelude.{if◌then◌else◌, ℕ, zero, suc, ◌%◌, ◌<◌, ◌≤◌, ◌≡◌, ◌⊎◌, List, ltb, length, get_or, take, Option}
 use Rattle.definitions.specs.Lists.{find, ◌≟◌}
 use Rattle.definitions.specs.Model.{Line, line}
 use Rattle.definitions.specs.Statements.{label}

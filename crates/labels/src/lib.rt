@@ -5,10 +5,10 @@
 // one of its name in front; for any other label, all are put into their buckets anew, by a multiplier drawn from the text, at most 7 times. By
 // the first multiplier a bucket is full with 3 labels, so that names chosen against it cost little; by a drawn one with 10, which hardly any
 // names come to. `index` takes time linear in the tokens and in the bytes of the labels, and each further time once more that and the bytes of
-// the text; `label_line` in the name and in the labels of its bucket. That few labels share a bucket is measured, not proved. Contracts cite
+// the text; `Labels::label_line` in the name and in the labels of its bucket. That few labels share a bucket is measured, not proved. Contracts cite
 // `label_line` of Rattle.definitions.specs.FlowGraph.
 
-#![tactic(auto)]
+#![tactic(auto, using(crate::proofs::Buckets::buckets))]
 
 ghost use Rattle.std.specs.Prelude.{◌≡◌, true, false, ℕ, ◌+◌, ◌%◌, ◌≤◌, ◌<◌, length, get_or};
 ghost use Rattle.definitions.specs.Model.{line};
@@ -62,17 +62,11 @@ fn has_label(code: &Listing, i: usize) -> bool
 // From the entry p on there are `most` labels or more. Nothing is promised of it: by a wrong answer labels would only be found more slowly.
 fn is_long(nexts: &[u16], p: usize, most: usize) -> bool {
     let mut q = p;
-    let mut left = most;
-    while 0 < left {
-        if q == 0 {
+    for _ in 0..most {
+        if q == 0 || nexts.len() < q {
             return false;
         }
-        let h = q - 1;
-        if nexts.len() <= h {
-            return false;
-        }
-        q = nexts[h] as usize;
-        left -= 1;
+        q = usize::from(nexts[q - 1]);
     }
     true
 }
@@ -85,11 +79,12 @@ fn behind(code: &Listing, nexts: &[u16], s: &[u8], p: u16) -> u16
     if p == 0 {
         return 0;
     }
-    let h = p as usize - 1;
+    let h = usize::from(p) - 1;
     if text::equal(code.text_at(h, 0), s) {
-        return nexts[h];
+        nexts[h]
+    } else {
+        p
     }
-    p
 }
 
 // The entry to put there: that one where the bucket is full, else p, so that names are compared only in full ones.
@@ -97,10 +92,11 @@ fn link(code: &Listing, nexts: &[u16], s: &[u8], p: u16, most: usize) -> u16
     requires { p ≤ length nexts.now }
     ensures { Follows (listing_of code.now) nexts.now s.now p result }
 {
-    if is_long(nexts, p as usize, most) {
-        return behind(code, nexts, s, p);
+    if is_long(nexts, usize::from(p), most) {
+        behind(code, nexts, s, p)
+    } else {
+        p
     }
-    p
 }
 
 // The label of line i more; answers whether its bucket now holds more than `most` labels.
@@ -115,8 +111,9 @@ fn index_label(code: &Listing, heads: &mut [u16], nexts: &mut [u16], i: usize, m
     let b = bucket(heads, s);
     let p = link(code, nexts, s, heads[b], most);
     nexts[i] = p;
+    // A cast: a line's number is at most 1,024, which `TryFrom` would ask again.
     heads[b] = (i + 1) as u16;
-    is_long(nexts, p as usize, most)
+    is_long(nexts, usize::from(p), most)
 }
 
 // Line i more; answers the same.
@@ -152,29 +149,18 @@ fn index_all(
 {
     let c = size(heads);
     heads[c] = m;
+    // A copy, for speed: what is written does not change it, so that it is read once.
+    let code = *code;
     for i in 0..code.lines.len() {
-        if index_line(code, heads, nexts, i, most) {
-            if more {
-                return false;
-            }
+        if index_line(&code, heads, nexts, i, most) && more {
+            return false;
         }
     }
     true
 }
 
-// Empties the first n words.
-fn empty(heads: &mut [u16], n: usize)
-    requires { n ≤ length heads.old }
-    ensures { (b : ℕ) → b < n → get_or heads.new b 0 ≡ 0 }
-{
-    for k in 0..n {
-        heads[k] = 0;
-    }
-}
-
-// Puts every label into its bucket. The buckets are empty, and there is an entry for each line. By the first multiplier, 500 labels such as
-// label_12, L7 or loc_401a3c are at most 3 to a bucket of 1,023, and 64 at most 2 to a bucket of 255.
-pub fn index(code: &Listing, heads: &mut [u16], nexts: &mut [u16])
+// Puts every label into its bucket.
+fn index(code: &Listing, heads: &mut [u16], nexts: &mut [u16])
     requires in_bounds { (256 ≤ length heads.old) × (length code.now.lines.now ≤ length nexts.old) × (length code.now.lines.now ≤ 1024) }
     requires by_index { (b : ℕ) → get_or heads.old b 0 ≡ 0 }
     ensures { let L = listing_of code.now in
@@ -182,34 +168,58 @@ pub fn index(code: &Listing, heads: &mut [u16], nexts: &mut [u16])
 {
     let mut m = FIRST;
     let mut most: usize = 3;
-    let mut left: usize = 7;
-    while 0 < left {
+    for _ in 0..7 {
         if index_all(code, heads, nexts, m, most, true) {
             return;
         }
-        let c = size(heads);
-        empty(heads, c);
+        heads.fill(0);
         m = names::next(m, code.text);
         most = 10;
-        left -= 1;
     }
     index_all(code, heads, nexts, m, most, false);
 }
 
-// The line of the label s, of equal ones the last.
-pub fn label_line(code: &Listing, heads: &[u16], nexts: &[u16], s: &[u8]) -> Option<usize>
-    requires in_bounds { (256 ≤ length heads.now) × (length code.now.lines.now ≤ length nexts.now) }
-    requires indexed { Indexed (listing_of code.now) heads.now nexts.now (length code.now.lines.now) }
-    ensures { result ≡ label_line (listing_of code.now) s.now }
-{
-    let b = bucket(heads, s);
-    let mut p = heads[b] as usize;
-    while p != 0 {
-        let h = p - 1;
-        if text::equal(code.text_at(h, 0), s) {
-            return Some(h);
+// A listing whose labels are in their buckets.
+#[derive(Clone, Copy)]
+pub struct Labels<'a, 'm> {
+    pub code: Listing<'a>,
+    heads: &'m [u16],
+    nexts: &'m [u16],
+    ghost heads_room: { 256 ≤ length heads.now },
+    ghost nexts_room: { length code.lines.now ≤ length nexts.now },
+    ghost indexed: { Indexed (listing_of code) heads.now nexts.now (length code.lines.now) },
+}
+
+impl<'a, 'm> Labels<'a, 'm> {
+    // The buckets are empty, and there is an entry for each line. By the first multiplier, 500 labels such as label_12, L7 or loc_401a3c are at
+    // most 3 to a bucket of 1,023, and 64 at most 2 to a bucket of 255.
+    pub fn new(code: &Listing<'a>, heads: &'m mut [u16], nexts: &'m mut [u16]) -> Self
+        requires in_bounds { (256 ≤ length heads.old) × (length code.now.lines.now ≤ length nexts.old) × (length code.now.lines.now ≤ 1024) }
+        requires by_index { (b : ℕ) → get_or heads.old b 0 ≡ 0 }
+        ensures { result.code ≡ code.now }
+    {
+        index(code, heads, nexts);
+        Labels {
+            code: *code,
+            heads,
+            nexts,
         }
-        p = nexts[h] as usize;
     }
-    None
+
+    // The line of the label s, of equal ones the last.
+    pub fn label_line(&self, s: &[u8]) -> Option<usize>
+        ensures { result ≡ label_line (listing_of self.now.code) s.now }
+    {
+        let b = bucket(self.heads, s);
+        // A `while`: it goes from label to label of a bucket, which is no range.
+        let mut p = usize::from(self.heads[b]);
+        while p != 0 {
+            let h = p - 1;
+            if text::equal(self.code.text_at(h, 0), s) {
+                return Some(h);
+            }
+            p = usize::from(self.nexts[h]);
+        }
+        None
+    }
 }

@@ -11,6 +11,7 @@ use questions::Limits;
 
 fn put(out: &mut [u64], k: usize, v: usize) {
     if k < out.len() {
+        // A cast: std has no `From` of `usize` to 64 bits.
         out[k] = v as u64;
     }
 }
@@ -21,12 +22,12 @@ fn put_three(out: &mut [u64], a: usize, b: usize, c: usize) {
     put(out, 2, c);
 }
 
-fn put_register(out: &mut [u64], r: Register) {
+fn put_register(out: &mut [u64], r: Option<Register>) {
     match r {
-        Register::Legacy(i, w) => put_three(out, 1, i, w),
-        Register::Numbered(n, w) => put_three(out, 2, n, w),
-        Register::Var => put_three(out, 3, 0, 64),
-        Register::Nothing => put_three(out, 0, 0, 0),
+        Some(Register::Legacy { row, width }) => put_three(out, 1, row, width),
+        Some(Register::Numbered { length, width }) => put_three(out, 2, length, width),
+        Some(Register::Var) => put_three(out, 3, 0, 64),
+        None => put_three(out, 0, 0, 0),
     }
 }
 
@@ -37,17 +38,17 @@ fn put_found(out: &mut [u64], f: Option<usize>) {
     }
 }
 
-fn number(b: bool) -> usize {
-    if b { 1 } else { 0 }
+fn listing<'a>(lines: &'a [u32], tokens: &'a [u32], text: &'a [u8]) -> Listing<'a> {
+    Listing {
+        lines,
+        tokens,
+        text,
+    }
 }
 
 // The number of the first of questions 1 to 3 that is answered no, 0 for none.
 pub fn leaves_refusal(lines: &[u32], tokens: &[u32], text: &[u8]) -> usize {
-    let code = &Listing {
-        lines,
-        tokens,
-        text,
-    };
+    let code = &listing(lines, tokens, text);
     let most = Limits {
         lines: 1024,
         tokens: 16384,
@@ -61,7 +62,7 @@ pub fn leaves_refusal(lines: &[u32], tokens: &[u32], text: &[u8]) -> usize {
 
 // Question 3 alone, of the whole text as one token.
 pub fn leaves_is_utf8(text: &[u8]) -> usize {
-    number(text::is_utf8(text))
+    usize::from(text::is_utf8(text))
 }
 
 pub fn leaves_fam_of(kind: usize, s: &[u8], out: &mut [u64]) {
@@ -69,53 +70,33 @@ pub fn leaves_fam_of(kind: usize, s: &[u8], out: &mut [u64]) {
 }
 
 pub fn leaves_same_family(a: &[u8], b: &[u8]) -> usize {
-    number(family::same_family(a, family::family(a), b, family::family(b)))
+    usize::from(family::same_family(a, family::family(a), b, family::family(b)))
 }
 
 pub fn leaves_is_label(lines: &[u32], tokens: &[u32], text: &[u8], i: usize) -> usize {
-    let code = &Listing {
-        lines,
-        tokens,
-        text,
-    };
-    number(pseudo_opt::labels::is_label(code, i))
+    let code = &listing(lines, tokens, text);
+    usize::from(pseudo_opt::labels::is_label(code, i))
 }
 
 pub fn leaves_has_kw(lines: &[u32], tokens: &[u32], text: &[u8], i: usize, kw: &[u8]) -> usize {
-    let code = &Listing {
-        lines,
-        tokens,
-        text,
-    };
-    number(pseudo_opt::keywords::has_kw(code, i, kw))
+    let code = &listing(lines, tokens, text);
+    usize::from(pseudo_opt::keywords::has_kw(code, i, kw))
 }
 
 pub fn leaves_call_at(lines: &[u32], tokens: &[u32], text: &[u8], i: usize, out: &mut [u64]) {
-    let code = &Listing {
-        lines,
-        tokens,
-        text,
-    };
+    let code = &listing(lines, tokens, text);
     put_found(out, pseudo_opt::calls::call_at(code, i));
 }
 
 // The place of the symbol that is the first goto's target, and the length of its bytes.
 pub fn leaves_goto_target(lines: &[u32], tokens: &[u32], text: &[u8], i: usize, out: &mut [u64]) {
-    let code = &Listing {
-        lines,
-        tokens,
-        text,
-    };
+    let code = &listing(lines, tokens, text);
     put_found(out, pseudo_opt::labels::goto_symbol(code, i));
     put(out, 2, pseudo_opt::labels::goto_target(code, i).len());
 }
 
 pub fn leaves_assignment(lines: &[u32], tokens: &[u32], text: &[u8], i: usize, out: &mut [u64]) {
-    let code = &Listing {
-        lines,
-        tokens,
-        text,
-    };
+    let code = &listing(lines, tokens, text);
     let Some(side) = assignment::assignment(code, i) else {
         put_three(out, 0, 0, 0);
         return;
@@ -125,33 +106,18 @@ pub fn leaves_assignment(lines: &[u32], tokens: &[u32], text: &[u8], i: usize, o
 
 // The length of the text of token k of a right side.
 pub fn leaves_expr_length(lines: &[u32], tokens: &[u32], text: &[u8], i: usize, k: usize) -> usize {
-    let code = &Listing {
-        lines,
-        tokens,
-        text,
-    };
+    let code = &listing(lines, tokens, text);
     assignment::expr_text(code, i, k).len()
 }
 
 pub fn leaves_defines(lines: &[u32], tokens: &[u32], text: &[u8], i: usize, out: &mut [u64]) {
-    let code = &Listing {
-        lines,
-        tokens,
-        text,
-    };
-    match assignment::definition::defines(code, i) {
-        Some(r) => put_register(out, r),
-        None => put_three(out, 0, 0, 0),
-    }
+    let code = &listing(lines, tokens, text);
+    put_register(out, assignment::definition::defines(code, i));
 }
 
 // The blocks that line i opens and closes.
 pub fn leaves_braces(lines: &[u32], tokens: &[u32], text: &[u8], i: usize, out: &mut [u64]) {
-    let code = &Listing {
-        lines,
-        tokens,
-        text,
-    };
+    let code = &listing(lines, tokens, text);
     let b = braces::line_braces(code, i);
     put_three(out, 1, b.opens, b.closes);
 }
@@ -164,11 +130,7 @@ pub fn leaves_condition(
     kw: &[u8],
     out: &mut [u64],
 ) {
-    let code = &Listing {
-        lines,
-        tokens,
-        text,
-    };
+    let code = &listing(lines, tokens, text);
     let Some(cut) = condition::condition(code, i, kw) else {
         put_three(out, 0, 0, 0);
         return;

@@ -1,12 +1,18 @@
--- What the bits of a mask say, as rules for `search`: ms has the masks of L, and m is the one of line i.
+-- What the bits of a mask say, as rules for `search`: ms has the masks of L, and r the answer for line i.
 --   mask_goto, mask_else, mask_loop, mask_do, mask_switch, mask_leaves, mask_continue, mask_case
 -- Assumes nothing.
-use Prim.Native.Nat.{ℕ, ◌/◌, ◌%◌}
+use Prim.Native.Nat.{ℕ, ◌*◌, ◌/◌, ◌%◌, ◌^◌}
 use mathlib.Core.Path.{◌≡◌, refl, sym, ap, ◌∙◌, fun_ext}
-use mathlib.Core.Bool.{Bool, true, false, cond, ◌&&◌, ◌||◌, or-false, or_assoc}
+use mathlib.Core.Logic.{◌⊎◌, inl, inr}
+use mathlib.Core.Bool.{Bool, true, false, cond, not, ◌&&◌, ◌||◌, or-false, or_assoc}
 use mathlib.Core.List.{List, [], ◌∷◌}
-use native.Mathlib.Nat.{div-one}
-use lib.Bits.{bit_or}
+use native.Mathlib.Nat.{zero-mul, one-mul}
+use native.Mathlib.Decide.{dec_lt}
+use native.Mathlib.Omega.{arith}
+use borrow.Author.Tests.{ne_eqb}
+use lib.Pow.{pow_pos}
+use lib.Bits.{bit_and, bit_or}
+use Rattle.std.proofs.lemmas.Nat.Bits.{and_pow}
 use lib.Dec.{eqb}
 use lib.ListN.{get_or}
 use Rattle.definitions.specs.Lists.{any, fold, ◌≟◌, ascii}
@@ -89,46 +95,57 @@ any_or f g (t ∷ ts) =
     swap true false true false d = refl
     swap true false false c d = refl
 
-module _ (L : List Line) (ms : List ℕ) (M : Masks L ms) (m i : ℕ) (e : m ≡ get_or ms i 0) where
-  pub mask_goto : eqb (m / 2 % 2) 1 ≡ has_kw (line L i) (ascii "goto")
-  unfolding word_bit has_kw
-  mask_goto = rw (e, M.at i) (mask_bit 1 (◌≟ ascii "goto") refl (λ s. ap (λ (bs : List Bool). get_or bs 0 false) (class_bits s)) (line L i))
+-- the test that a byte and a power of two have a bit in common
+common : (m k : ℕ) → not (eqb (bit_and m (2 ^ k)) 0) ≡ word_bit m k
+unfolding word_bit
+common m k = rw (and_pow m k) (go (elim (dec_lt (m / 2 ^ k % 2) 1) [ yes h ↦ inl (omega arith) | no h ↦ inr (omega arith) ]))
+  where
+    go : (m / 2 ^ k % 2 ≡ 0) ⊎ (m / 2 ^ k % 2 ≡ 1) → not (eqb (m / 2 ^ k % 2 * 2 ^ k) 0) ≡ eqb (m / 2 ^ k % 2) 1
+    go (inl q) = rw (q, zero-mul (2 ^ k))
+    go (inr q) = rw (q, one-mul (2 ^ k), ne_eqb (2 ^ k) 0 (λ z. omega (arith, pow_pos k)))
 
-  pub mask_else : eqb (m / 4 % 2) 1 ≡ has_kw (line L i) (ascii "else")
-  unfolding word_bit has_kw
-  mask_else = rw (e, M.at i) (mask_bit 2 (◌≟ ascii "else") refl (λ s. ap (λ (bs : List Bool). get_or bs 1 false) (class_bits s)) (line L i))
+module _ (L : List Line) (ms : List ℕ) (M : Masks L ms) (i : ℕ) (r : Bool) where
+  asked : (k : ℕ) (f : List ℕ → Bool) → word_bit 0 k ≡ false → ((s : List ℕ) → word_bit (class s) k ≡ f s)
+      → r ≡ not (eqb (bit_and (get_or ms i 0) (2 ^ k)) 0) → r ≡ any (λ t. is_keyword t && f t.text) (line L i).tokens
+  asked k f z law e = e ∙ common (get_or ms i 0) k ∙ rw (M.at i) (mask_bit k f z law (line L i))
 
-  pub mask_loop : eqb (m / 8 % 2) 1 ≡ is_loop (line L i)
+  pub mask_goto : r ≡ not (eqb (bit_and (get_or ms i 0) 2) 0) → r ≡ has_kw (line L i) (ascii "goto")
   unfolding word_bit has_kw
-  mask_loop =
-      rw (e, M.at i) (mask_bit 3 (λ s. (s ≟ ascii "while") || (s ≟ ascii "for") || (s ≟ ascii "do")) refl (λ s. ap (λ (bs : List Bool). get_or bs 2 false) (class_bits s)) (line L i))
+  mask_goto = asked 1 (◌≟ ascii "goto") refl (λ s. ap (λ (bs : List Bool). get_or bs 0 false) (class_bits s))
+
+  pub mask_else : r ≡ not (eqb (bit_and (get_or ms i 0) 4) 0) → r ≡ has_kw (line L i) (ascii "else")
+  unfolding word_bit has_kw
+  mask_else = asked 2 (◌≟ ascii "else") refl (λ s. ap (λ (bs : List Bool). get_or bs 1 false) (class_bits s))
+
+  pub mask_loop : r ≡ not (eqb (bit_and (get_or ms i 0) 8) 0) → r ≡ is_loop (line L i)
+  unfolding word_bit has_kw
+  mask_loop e =
+      asked 3 (λ s. (s ≟ ascii "while") || (s ≟ ascii "for") || (s ≟ ascii "do")) refl (λ s. ap (λ (bs : List Bool). get_or bs 2 false) (class_bits s)) e
       ∙ any_or (λ s. (s ≟ ascii "while") || (s ≟ ascii "for")) (◌≟ ascii "do") (line L i).tokens
       ∙ ap (◌|| has_kw (line L i) (ascii "do")) (any_or (◌≟ ascii "while") (◌≟ ascii "for") (line L i).tokens)
 
-  pub mask_do : eqb (m % 2) 1 ≡ has_kw (line L i) (ascii "do")
+  pub mask_do : r ≡ not (eqb (bit_and (get_or ms i 0) 1) 0) → r ≡ has_kw (line L i) (ascii "do")
   unfolding word_bit has_kw
-  mask_do =
-      rw (e, M.at i, ← div-one (mask (line L i)))
-      (mask_bit 0 (◌≟ ascii "do") refl (λ s. ap (λ (bs : List Bool). get_or bs 6 false) (class_bits s)) (line L i))
+  mask_do = asked 0 (◌≟ ascii "do") refl (λ s. ap (λ (bs : List Bool). get_or bs 6 false) (class_bits s))
 
-  pub mask_switch : eqb (m / 16 % 2) 1 ≡ is_switch (line L i)
+  pub mask_switch : r ≡ not (eqb (bit_and (get_or ms i 0) 16) 0) → r ≡ is_switch (line L i)
   unfolding word_bit has_kw
-  mask_switch = rw (e, M.at i) (mask_bit 4 (◌≟ ascii "switch") refl (λ s. ap (λ (bs : List Bool). get_or bs 3 false) (class_bits s)) (line L i))
+  mask_switch = asked 4 (◌≟ ascii "switch") refl (λ s. ap (λ (bs : List Bool). get_or bs 3 false) (class_bits s))
 
-  pub mask_leaves : eqb (m / 32 % 2) 1 ≡ (has_kw (line L i) (ascii "break") || has_kw (line L i) (ascii "continue"))
+  pub mask_leaves : r ≡ not (eqb (bit_and (get_or ms i 0) 32) 0) → r ≡ (has_kw (line L i) (ascii "break") || has_kw (line L i) (ascii "continue"))
   unfolding word_bit has_kw
-  mask_leaves =
-      rw (e, M.at i) (mask_bit 5 (λ s. (s ≟ ascii "break") || (s ≟ ascii "continue")) refl (λ s. ap (λ (bs : List Bool). get_or bs 4 false) (class_bits s)) (line L i))
+  mask_leaves e =
+      asked 5 (λ s. (s ≟ ascii "break") || (s ≟ ascii "continue")) refl (λ s. ap (λ (bs : List Bool). get_or bs 4 false) (class_bits s)) e
       ∙ any_or (◌≟ ascii "break") (◌≟ ascii "continue") (line L i).tokens
 
-  pub mask_continue : eqb (m / 128 % 2) 1 ≡ has_kw (line L i) (ascii "continue")
+  pub mask_continue : r ≡ not (eqb (bit_and (get_or ms i 0) 128) 0) → r ≡ has_kw (line L i) (ascii "continue")
   unfolding word_bit has_kw
-  mask_continue = rw (e, M.at i) (mask_bit 7 (◌≟ ascii "continue") refl (λ s. ap (λ (bs : List Bool). get_or bs 7 false) (class_bits s)) (line L i))
+  mask_continue = asked 7 (◌≟ ascii "continue") refl (λ s. ap (λ (bs : List Bool). get_or bs 7 false) (class_bits s))
 
-  pub mask_case : eqb (m / 64 % 2) 1 ≡ (has_kw (line L i) (ascii "case") || has_kw (line L i) (ascii "default"))
+  pub mask_case : r ≡ not (eqb (bit_and (get_or ms i 0) 64) 0) → r ≡ (has_kw (line L i) (ascii "case") || has_kw (line L i) (ascii "default"))
   unfolding word_bit has_kw
-  mask_case =
-      rw (e, M.at i) (mask_bit 6 (λ s. (s ≟ ascii "case") || (s ≟ ascii "default")) refl (λ s. ap (λ (bs : List Bool). get_or bs 5 false) (class_bits s)) (line L i))
+  mask_case e =
+      asked 6 (λ s. (s ≟ ascii "case") || (s ≟ ascii "default")) refl (λ s. ap (λ (bs : List Bool). get_or bs 5 false) (class_bits s)) e
       ∙ any_or (◌≟ ascii "case") (◌≟ ascii "default") (line L i).tokens
 
 pub ruleset asking = (mask_goto, mask_else, mask_loop, mask_do, mask_switch, mask_leaves, mask_continue, mask_case)

@@ -2,15 +2,14 @@
 --   Drawn n r l₀ l f         l is l₀ with the edges f
 --   Drawing n r l₀ l f g     l with the edges g would be l₀ with the edges f: g is left to draw
 --   from i xs                the edges from line i to the lines xs
---   after p                  the line after the one that the entry p stands for
---   left L es h              where a break or continue in the block that line h opens steps to, es having the ends
---   lefts L es hs            the same of the blocks that the lines hs open
---   back L b h               the edges that lead back to line h, b being the blocks of L
+--   left L b h               where a break or continue in the block that line h opens steps to, b being the blocks of L
+--   lefts L b hs             the same of the blocks that the lines hs open
+--   back L b h               the edges that lead back to line h
 --   own L b i                where line i steps to, other than back
 --   line_edges L b i         the edges that line i draws: its own, and those that lead back to it
 --   rest L b i               the edges that lines i, i + 1, .. draw
 -- Assumes nothing.
-use Rattle.std.specs.Prelude.{if◌then◌else◌, ℕ, zero, suc, ◌+◌, ◌*◌, ◌<◌, ◌≤◌, ◌≡◌, Bool, ◌&&◌, ◌||◌, List, [], ◌∷◌, ◌++◌, map, eqb, leb, get_or}
+use Rattle.std.specs.Prelude.{if◌then◌else◌, ℕ, ◌+◌, ◌*◌, ◌<◌, ◌≤◌, ◌≡◌, Bool, ◌&&◌, ◌||◌, List, [], ◌∷◌, ◌++◌, map, eqb, leb, get_or}
 use Rattle.definitions.specs.Lists.{concat, member}
 use Rattle.definitions.specs.Model.{Line, line}
 use Rattle.definitions.specs.Blocks.{Blocks}
@@ -30,15 +29,11 @@ pub record Drawn (n r : ℕ) (l₀ l : List ℕ) (f : ℕ → ℕ → Bool) : Ty
 abbrev pub from : ℕ → List ℕ → ℕ → ℕ → Bool
 from i xs p q = eqb p i && member q xs
 
-abbrev pub after : ℕ → List ℕ
-after zero = []
-after (suc c) = suc c ∷ []
+unfoldable pub left : List Line → Blocks → ℕ → List ℕ
+left L b h = if is_loop (line L h) || is_switch (line L h) then h ∷ past_end b h else []
 
-unfoldable pub left : List Line → List ℕ → ℕ → List ℕ
-left L es h = if is_loop (line L h) || is_switch (line L h) then h ∷ after (get_or es h 0) else []
-
-unfoldable pub lefts : List Line → List ℕ → List ℕ → List ℕ
-lefts L es hs = concat (map (left L es) hs)
+unfoldable pub lefts : List Line → Blocks → List ℕ → List ℕ
+lefts L b hs = concat (map (left L b) hs)
 
 abbrev pub back : List Line → Blocks → ℕ → ℕ → ℕ → Bool
 back L b h p q = eqb q h && member q (loops_back L b p)

@@ -7,21 +7,19 @@ ghost use Rattle.definitions.specs.Lists.{any, contains};
 ghost use Rattle.definitions.specs.Model.{token, line, Punct};
 ghost use Rattle.definitions.specs.FlowGraph.{is_else_close, is_loop, is_switch, is_case};
 ghost use Rattle.model.specs.Listings.{listing_of};
-ghost use Rattle.line_keywords.specs.Masks.{Masks};
 
-use line_keywords::{has_case, has_else, is_loop, is_switch};
+use line_keywords::Keywords;
+use model::kind::Kind;
 use model::listing::Listing;
 use pseudo_opt::keywords::is_kw;
 
 // Token j of line i is a punct that contains `}`.
+#[tactic(auto, using(text::proofs::Bools::bools, crate::proofs::Tests::contains_of))]
 fn is_close(code: &Listing, i: usize, j: usize) -> bool
     ensures { let L = listing_of code.now in
         result ≡ (eqb (token (line L i) j).kind Punct && contains 125 (token (line L i) j).text) }
 {
-    if code.kind(i, j) != 6 {
-        return false;
-    }
-    text::contains(code.text_at(i, j), b'}')
+    code.is(i, j, Kind::Punct) && text::contains(code.text_at(i, j), b'}')
 }
 
 fn has_close(code: &Listing, i: usize) -> bool
@@ -37,20 +35,18 @@ fn has_close(code: &Listing, i: usize) -> bool
     false
 }
 
-pub fn is_else_close(code: &Listing, masks: &[u8], i: usize) -> bool
-    requires { Masks (listing_of code.now) masks.now }
-    ensures { result ≡ is_else_close (line (listing_of code.now) i) }
+pub fn is_else_close(keywords: &Keywords, i: usize) -> bool
+    ensures { result ≡ is_else_close (line (listing_of keywords.now.code) i) }
 {
-    has_else(code, masks, i) && has_close(code, i)
+    keywords.has_else(i) && has_close(&keywords.code, i)
 }
 
 // A loop or a switch: what a break or continue leaves.
-pub fn is_left(code: &Listing, masks: &[u8], i: usize) -> bool
-    requires { Masks (listing_of code.now) masks.now }
-    ensures { let L = listing_of code.now in
+pub fn is_left(keywords: &Keywords, i: usize) -> bool
+    ensures { let L = listing_of keywords.now.code in
         result ≡ (is_loop (line L i) || is_switch (line L i)) }
 {
-    is_loop(code, masks, i) || is_switch(code, masks, i)
+    keywords.is_loop(i) || keywords.is_switch(i)
 }
 
 // Line i starts with a case or default.
@@ -61,9 +57,8 @@ fn starts_case(code: &Listing, i: usize) -> bool
 }
 
 // The same, asked only of a line that has a case or default.
-pub fn is_case(code: &Listing, masks: &[u8], i: usize) -> bool
-    requires { Masks (listing_of code.now) masks.now }
-    ensures { result ≡ is_case (line (listing_of code.now) i) }
+pub fn is_case(keywords: &Keywords, i: usize) -> bool
+    ensures { result ≡ is_case (line (listing_of keywords.now.code) i) }
 {
-    has_case(code, masks, i) && starts_case(code, i)
+    keywords.has_case(i) && starts_case(&keywords.code, i)
 }

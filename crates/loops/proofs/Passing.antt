@@ -1,34 +1,36 @@
 -- The loop of the pass, as rules for `search`. What is left to do at place i of the plan is the whole pass.
 --   Running l t x ws₀ ws n i    the plan stands for lines of which the turns from i on are left
 --   running_start, running_goes, running_stops, running_overflows, running_ends
---   emitted_stops, emitted_ends    the words of the answer are plain
+--   emitted_stops, emitted_overflows, emitted_ends    the words of the answer are plain
 -- Assumes nothing.
+use Rattle.std.specs.Prelude.{None, Some, Result, Ok, Err}
+use Rattle.std.specs.Result.{IsErr}
 use Prim.Native.Nat.{ℕ, suc, ◌+◌, ◌*◌, ◌%◌, ◌≤◌, ◌<◌}
 use mathlib.Core.Path.{◌≡◌, refl, sym, ap, subst, ◌∙◌}
 use mathlib.Core.List.{List, [], ◌∷◌}
 use mathlib.Core.Bool.{true}
 use native.Mathlib.Nat.{le_refl}
 use native.Mathlib.Omega.{arith}
-use borrow.Author.Tests.{eq-eqb}
+use borrow.Author.Tests.{clash, eq-eqb}
 use lib.Dec.{eqb}
 use lib.ListN.{length, take}
 use lib.Seq.{length-take-le}
 use Rattle.definitions.specs.Lists.{all}
 use Rattle.definitions.specs.Model.{Line}
-use Rattle.definitions.specs.Passes.{lines, overflow, turns}
+use Rattle.definitions.specs.Passes.{lines, turns}
 use Rattle.definitions.specs.RecoverLoops.{loop_turn, recover_loops}
 use Rattle.loop_theory.proofs.Cases.{and_split}
 use Rattle.loop_theory.proofs.LoopSteps.{loop_turned}
 use Rattle.plan.specs.Plan.{header_at, piece_at, render}
 use Rattle.plan.specs.Changes.{is_plain, kept_words}
 use Rattle.plan.specs.Source.{Source}
+use Rattle.plan.specs.Planned.{planned}
+use Rattle.plan.specs.declared.Overflow.{Overflow}
 use Rattle.plan.proofs.Rendered.{length_render}
 use Rattle.plan.proofs.Sources.{kept_word, start_render}
-use Rattle.plan.proofs.PassLoop.{pass_ends, pass_stops, pass_overflows, pass_goes}
+use Rattle.plan.proofs.PassLoop.{planned_err, pass_ends, pass_stops, pass_overflows, pass_goes}
 use Rattle.loops.specs.Words.{is_kept, Ready}
-use Rattle.loops.specs.Turns.{TurnOf, After}
-use Rattle.loops.specs.declared.turns.Turn.{Turn as Answer}
-use Rattle.loops.specs.declared.turns.Turn.TheVariants.{Go, Stop, Beyond}
+use Rattle.loops.specs.Turns.{Answer, TurnOf, After, Emitted}
 
 all_kept : (k : ℕ) (l : List ℕ) → k + length l ≤ 1024 → all is_kept (kept_words k l) ≡ true
 unfolding all kept_words
@@ -78,20 +80,24 @@ module _ (l t x ws₀ ws : List ℕ) (n i : ℕ) (r : Running l t x ws₀ ws n i
     left_more : (S : List Line) → i + 1 < length (render S (take n ws))
     left_more S = omega (arith, lines_left S)
 
-    pub running_stops : a ≡ Stop → (S : List Line) → Source S l t x → lines (render S (take n vs)) ≡ recover_loops S
+    pub running_stops : a ≡ Ok None → (S : List Line) → Source S l t x → lines (render S (take n vs)) ≡ recover_loops S
     running_stops q S R =
         let same : take n vs ≡ take n ws = subst (After n i ws vs) q d.after in
         ap (λ ys. lines (render S ys)) same
         ∙ (sym (pass_stops 1 loop_turn loop_turned (render S (take n ws)) i (left_more S) (sym (d.turn S R) ∙ rw q)) ∙ r.left S R)
 
-    pub emitted_stops : a ≡ Stop → (n ≤ length l) × (all is_plain (take n vs) ≡ true)
+    pub emitted_stops : a ≡ Ok None → (n ≤ length l) × (all is_plain (take n vs) ≡ true)
     emitted_stops q = (r.fewer, subst (λ ys. all is_plain ys ≡ true) (sym (subst (After n i ws vs) q d.after)) r.ready.plain)
 
-    pub running_overflows : a ≡ Beyond → (S : List Line) → Source S l t x → overflow ≡ recover_loops S
-    running_overflows q S R =
-        sym (pass_overflows 1 loop_turn loop_turned (render S (take n ws)) i (left_more S) (sym (d.turn S R) ∙ rw q)) ∙ r.left S R
+    pub running_overflows : (e : Overflow) → a ≡ Err e → (b : Result ℕ Overflow) → IsErr b → (S : List Line) → Source S l t x → planned S vs b ≡ recover_loops S
+    running_overflows e q b z S R =
+        planned_err S vs b z ∙ sym (pass_overflows 1 loop_turn loop_turned (render S (take n ws)) i (left_more S) (sym (d.turn S R) ∙ rw q)) ∙ r.left S R
 
-    pub running_goes : (m : ℕ) → a ≡ Go m → length vs ≡ length ws → Running l t x ws₀ vs m (i + 1)
+    pub emitted_overflows : (b : Result ℕ Overflow) → IsErr b → Emitted (length l) vs b
+    emitted_overflows (Ok m) z = absurd (clash z)
+    emitted_overflows (Err e) z = tt
+
+    pub running_goes : (m : ℕ) → a ≡ Ok (Some m) → length vs ≡ length ws → Running l t x ws₀ vs m (i + 1)
     running_goes m q s =
         let after : (m ≤ n) × Ready (i + 1) (take m vs) = subst (After n i ws vs) q d.after in
         record {

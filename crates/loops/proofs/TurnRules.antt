@@ -5,7 +5,7 @@
 --   close_none, close_found            the close is looked for
 --   turn_do, turn_other, turn_beyond, turn_close a turn
 -- Assumes nothing.
-use Rattle.std.specs.Prelude.{Option, None, Some}
+use Rattle.std.specs.Prelude.{Option, None, Some, Ok, Err}
 use Prim.Native.Nat.{ℕ, ◌+◌, ◌-◌, ◌/◌, ◌≤◌, ◌<◌}
 use mathlib.Core.Path.{◌≡◌, refl, sym, ap, ap₂, subst, ◌∙◌}
 use mathlib.Core.List.{List, []}
@@ -32,9 +32,8 @@ use Rattle.plan.specs.ForLoop.{ends}
 use Rattle.plan.proofs.Rendered.{length_render, line_render, indent_line}
 use Rattle.pseudo_types.specs.Cuts.{same_text, same_condition}
 use Rattle.loops.specs.Words.{source_line, is_kept, Ready, ends_word, closes_words, guarded_words, do_word, opens_words}
-use Rattle.loops.specs.Turns.{ToFor, cleared, unwrapped_words, TurnOf}
-use Rattle.loops.specs.declared.turns.Turn.{Turn as Answer}
-use Rattle.loops.specs.declared.turns.Turn.TheVariants.{Go, Stop, Beyond}
+use Rattle.loops.specs.Turns.{Answer, ToFor, cleared, unwrapped_words, TurnOf}
+use Rattle.plan.specs.declared.Overflow.{Overflow}
 use Rattle.loops.proofs.Lists.{all_at, all_from}
 use Rattle.loops.proofs.Lines.{kept_parts, kept_reads, kw_same, condition_same}
 use Rattle.loops.proofs.ForPlans.{ends_render}
@@ -116,7 +115,7 @@ module _ (ws : List ℕ) (n i w : ℕ) (h : i + 2 ≤ w) (wn : w + 1 < n) (le : 
         )
 
     pub rebuilt_go : (l t x : List ℕ) (m : ℕ) (us : List ℕ) → ToFor l t x i (n - 2) vs m us
-        → TurnOf l t x (λ M. rebuilt (unwrapped M i w (or_else (condition (line M i) (ascii "if")) [])) i (w - 1)) n i ws (Go m) us
+        → TurnOf l t x (λ M. rebuilt (unwrapped M i w (or_else (condition (line M i) (ascii "if")) [])) i (w - 1)) n i ws (Ok (Some m)) us
     unfolding rebuilt
     rebuilt_go l t x m us d =
         record {
@@ -126,8 +125,8 @@ module _ (ws : List ℕ) (n i w : ℕ) (h : i + 2 ≤ w) (wn : w + 1 < n) (le : 
               ∙ rw (sym (out_lines (take n ws) i w h inside ready S l t x R) ∙ (sym e ∙ f));
         }
 
-  pub rebuilt_beyond : b ≡ false → (l t x us : List ℕ)
-      → TurnOf l t x (λ M. rebuilt (unwrapped M i w (or_else (condition (line M i) (ascii "if")) [])) i (w - 1)) n i ws Beyond us
+  pub rebuilt_beyond : {o : Overflow} → b ≡ false → (l t x us : List ℕ)
+      → TurnOf l t x (λ M. rebuilt (unwrapped M i w (or_else (condition (line M i) (ascii "if")) [])) i (w - 1)) n i ws (Err o) us
   unfolding rebuilt
   rebuilt_beyond f l t x us =
       record { after = tt; turn = λ S R. rw (sym (out_lines (take n ws) i w h inside ready S l t x R) ∙ (sym e ∙ f)) }
@@ -244,7 +243,7 @@ module _ (l t x ws : List ℕ) (n i w : ℕ) (h : i + 2 ≤ w) (wn : w < n) (le 
       let p = and_split (ltb (w + 1) (length (take n ws))) _ (sym e ∙ f) in
       omega (arith, ltb-true (w + 1) (length (take n ws)) p.0, length-take-le n ws le)
 
-  pub close_other : b ≡ false → TurnOf l t x (λ M. close_at M i w) n i ws (Go n) ws
+  pub close_other : b ≡ false → TurnOf l t x (λ M. close_at M i w) n i ws (Ok (Some n)) ws
   close_other f =
       record {
         after = (le_refl n, record { plain = ready.plain; kept = all_from is_kept i (i + 1) (take n ws) ready.kept (omega arith) });
@@ -272,7 +271,7 @@ module _ (l t x ws : List ℕ) (n i : ℕ) (lt : i + 1 < n) (le : n ≤ length w
       (ap (λ m. m.indent) (line_render S (take n ws) i z) ∙ (indent_line S (get_or (take n ws) i 0) ∙ (ap indent_at (get_or-take n ws i 0 (omega arith)) ∙ sym d)))
       ∙ (ends_render S l t x R (take n ws) (i + 2) (j + 1) (all_from is_kept i (i + 2) (take n ws) ready.kept (omega arith)) ∙ sym f)
 
-  pub close_none : r ≡ None → TurnOf l t x (λ M. close M i) n i ws Stop ws
+  pub close_none : r ≡ None → TurnOf l t x (λ M. close M i) n i ws (Ok None) ws
   unfolding close
   close_none q = record { after = refl; turn = λ S R. rw (looked S R, q, close) }
 
@@ -332,12 +331,12 @@ module _ (l t x ws : List ℕ) (n i : ℕ) (lt : i + 1 < n) (le : n ≤ length w
   same_plan : Ready (i + 1) (take n ws)
   same_plan = record { plain = ready.plain; kept = all_from is_kept i (i + 1) (take n ws) ready.kept (omega arith) }
 
-  pub turn_plain : b ≡ false → TurnOf l t x (λ M. loop_turn M i) n i ws (Go n) ws
+  pub turn_plain : b ≡ false → TurnOf l t x (λ M. loop_turn M i) n i ws (Ok (Some n)) ws
   unfolding loop_turn
   turn_plain f = record { after = (le_refl n, same_plan); turn = λ S R. rw (turn_do S R, f, and-false (is_guard (line (render S (take n ws)) i))) }
 
   module _ (f : b ≡ true) (j : ℕ) (d : j ≡ indent_at (get_or ws i 0)) where
-    pub turn_beyond : j ≡ 255 → (vs : List ℕ) → TurnOf l t x (λ M. loop_turn M i) n i ws Beyond vs
+    pub turn_beyond : {o : Overflow} → j ≡ 255 → (vs : List ℕ) → TurnOf l t x (λ M. loop_turn M i) n i ws (Err o) vs
     unfolding loop_turn
     turn_beyond q vs = record { after = tt; turn = λ S R. rw (turn_do S R, f, indent_i S R, ← d, eq-eqb j 255 q) }
 
@@ -354,7 +353,7 @@ module _ (l t x ws : List ℕ) (n i : ℕ) (lt : i + 1 < n) (le : n ≤ length w
           swap true = refl
           swap false = refl
 
-      pub turn_other : y ≡ false → TurnOf l t x (λ M. loop_turn M i) n i ws (Go n) ws
+      pub turn_other : y ≡ false → TurnOf l t x (λ M. loop_turn M i) n i ws (Ok (Some n)) ws
       turn_other q = record { after = (le_refl n, same_plan); turn = λ S R. sym (turn_by S R ∙ rw q) }
 
       pub turn_close : y ≡ true → (r : Answer) (vs : List ℕ) → TurnOf l t x (λ M. close M i) n i ws r vs → TurnOf l t x (λ M. loop_turn M i) n i ws r vs

@@ -5,13 +5,15 @@
 --   init_places      the same of a word, and the search for the initialiser
 --   for_words        the tests of a for header
 -- Assumes nothing.
-use Rattle.std.specs.Prelude.{Option, None, Some}
+use Rattle.std.specs.Prelude.{eqb, Option, None, Some}
 use mathlib.Core.Path.{◌≡◌, refl, sym, ap, ◌∙◌}
 use mathlib.Core.Bool.{Bool, true, false, ◌&&◌, ◌||◌, cond}
 use mathlib.Core.List.{List, [], ◌∷◌}
 use Prim.Native.Nat.{ℕ, suc, ◌+◌, ◌-◌, ◌/◌, ◌≤◌, ◌<◌}
+use native.Mathlib.Decide.{dec_le}
 use native.Mathlib.Omega.{arith}
 use borrow.Author.Tests.{le-leb, lt-leb, eq-eqb, ne_eqb}
+use Rattle.std.proofs.lemmas.Bool.{eqb-false}
 use lib.ListN.{length, get_or, take, drop}
 use lib.Seq.{get_or-take, length-take-le}
 use Rattle.definitions.specs.Lists.{or_else, any, part, position_from, ascii}
@@ -25,8 +27,7 @@ use Rattle.text.proofs.Parts.{part_step, part_none}
 use Rattle.text.proofs.Loops.{position_found, position_next, position_end}
 use Rattle.assignment.specs.Assignments.{side, assigned}
 use Rattle.assignment.specs.declared.Side.{Side}
-use Rattle.family.specs.Register.{family_of, names_family}
-use Rattle.family.specs.declared.Register.{Register}
+use Rattle.family.specs.Register.{names_family}
 use Rattle.pseudo_types.specs.Cuts.{text_from}
 use Rattle.plan.specs.Plan.{indent_at, piece_at}
 use Rattle.plan.specs.ForLoop.{inits, passes}
@@ -104,6 +105,9 @@ unfolding names
 names_other None t k e h = refl
 names_other (Some f) t k e h = rw (no_family t (λ z. h (e ∙ z)), names)
 
+pub names_kind : (o : Option Family) (t : Token) (b : Bool) → b ≡ eqb t.kind 1 → b ≡ false → b ≡ names_family o t
+names_kind o t b e f = f ∙ names_other o t t.kind refl (eqb-false t.kind 1 (sym e ∙ f))
+
 -- where the first token does not, the others do
 rest_whole : (p : Token → Bool) (ts : List Token) → p (get_or ts 0 no_token) ≡ false → any p (drop 1 ts) ≡ any p ts
 unfolding any
@@ -173,11 +177,11 @@ module _ (C : List Line) (p : Token → Bool) (ind w : ℕ) (b : Bool) (e : b �
     passes_there g = g ∙ rw (← e, f, q)
 
 module _ (C : List Line) (p : Token → Bool) (ws : List ℕ) (ind n k : ℕ) (r : Option ℕ) (inv : r ≡ init_words C p ws ind n k) where
-  pub init_over : n ≤ 0 → None ≡ r
+  init_over : n ≤ 0 → None ≡ r
   unfolding init_words
   init_over h = let z : n ≡ 0 = omega arith in sym (inv ∙ rw z)
 
-  pub init_top : 0 < n → k ≡ 0 → None ≡ r
+  init_top : 0 < n → k ≡ 0 → None ≡ r
   unfolding init_words
   init_top h e = let z : n ≡ suc (n - 1) = omega arith in sym (inv ∙ rw (z, e))
 
@@ -190,16 +194,42 @@ module _ (C : List Line) (p : Token → Bool) (ws : List ℕ) (ind n k : ℕ) (r
         let z : k ≡ suc (k - 1) = omega arith in
         inv ∙ ap (λ m. init_words C p ws ind m k) y ∙ ap (init_words C p ws ind (suc (n - 1))) z ∙ rw (← e, ← q)
 
-    pub init_here : a ≡ Init → Some (k - 1) ≡ r
+    init_here : a ≡ Init → Some (k - 1) ≡ r
     init_here f = sym (look ∙ rw f)
 
-    pub init_next : a ≡ Passing → r ≡ init_words C p ws ind (n - 1) (k - 1)
+    init_next : a ≡ Passing → r ≡ init_words C p ws ind (n - 1) (k - 1)
     init_next f = look ∙ rw f
 
-    pub init_stop : a ≡ Other → None ≡ r
+    init_stop : a ≡ Other → None ≡ r
     init_stop f = sym (look ∙ rw f)
 
-pub ruleset init_places = (inits_away, passes_away, inits_there, passes_there, init_over, init_top, init_here, init_next, init_stop)
+-- the search, line by line up to 4 before place w
+module _ (C : List Line) (p : Token → Bool) (ws : List ℕ) (ind w k : ℕ) (h : k ≤ w) (inv : init_words C p ws ind 4 w ≡ init_words C p ws ind (4 - (w - k)) k) where
+  module _ (lt : w - 4 < k) (a : Ahead) (e : is_init a ≡ (at_indent ind (get_or ws (k - 1) 0) && inits p (source_line C (get_or ws (k - 1) 0))))
+      (q : is_passing a ≡ (at_indent ind (get_or ws (k - 1) 0) && passes p (source_line C (get_or ws (k - 1) 0)))) where
+    pub place_here : a ≡ Init → Some (k - 1) ≡ init_words C p ws ind 4 w
+    place_here f = init_here C p ws ind (4 - (w - k)) k (init_words C p ws ind 4 w) inv (omega arith) (λ z. omega arith) a e q f
+
+    pub place_next : a ≡ Passing → init_words C p ws ind 4 w ≡ init_words C p ws ind (4 - (w - (k - 1))) (k - 1)
+    place_next f =
+        let z : 4 - (w - k) - 1 ≡ 4 - (w - (k - 1)) = omega arith in
+        init_next C p ws ind (4 - (w - k)) k (init_words C p ws ind 4 w) inv (omega arith) (λ z. omega arith) a e q f ∙ rw z
+
+    pub place_stop : a ≡ Other → None ≡ init_words C p ws ind 4 w
+    place_stop f = init_stop C p ws ind (4 - (w - k)) k (init_words C p ws ind 4 w) inv (omega arith) (λ z. omega arith) a e q f
+
+  pub place_over : k ≤ w - 4 → None ≡ init_words C p ws ind 4 w
+  place_over ge = go (dec_le k 0)
+    where
+      go : Dec (k ≤ 0) → None ≡ init_words C p ws ind 4 w
+      go (yes z) = go_top (dec_le (4 - (w - k)) 0)
+        where
+          go_top : Dec (4 - (w - k) ≤ 0) → None ≡ init_words C p ws ind 4 w
+          go_top (yes y) = init_over C p ws ind (4 - (w - k)) k (init_words C p ws ind 4 w) inv y
+          go_top (no y) = init_top C p ws ind (4 - (w - k)) k (init_words C p ws ind 4 w) inv (omega arith) (omega arith)
+      go (no z) = init_over C p ws ind (4 - (w - k)) k (init_words C p ws ind 4 w) inv (omega arith)
+
+pub ruleset init_places = (inits_away, passes_away, inits_there, passes_there, place_here, place_next, place_stop, place_over)
 
 -- The tests of a for header
 
@@ -241,28 +271,6 @@ module _ (C : List Line) (ws : List ℕ) (w e : ℕ) (p : Token → Bool) (s : �
     unfolding counts_words
     counts_is g = rw (← q, ← u, f, ← v, g)
 
-both_none : (b : Bool) → ◌≡◌ {A = Option ℕ} (cond b None None) None
-both_none true = refl
-both_none false = refl
-
-module _ (C : List Line) (ws : List ℕ) (w e : ℕ) (m : Line) (r : Register) (g : family_of (token m 0).text r ≡ fam_of (token m 0)) (s : List ℕ) (q : s ≡ (token m 0).text)
-    (i : ℕ) (d : i ≡ indent_at (get_or ws w 0)) (o : Option ℕ) (v : o ≡ init_words C (names_family (family_of s r)) ws i 4 w) where
-  same_family : family_of s r ≡ fam_of (token m 0)
-  same_family = ap (λ s. family_of s r) q ∙ g
-
-  placed : o ≡ init_words C (names_family (fam_of (token m 0))) ws (indent_at (get_or ws w 0)) 4 w
-  placed = v ∙ rw (← same_family, d)
-
-  pub counted_none : o ≡ None → None ≡ counted_words C ws w e (names_family (fam_of (token m 0)))
-  counted_none u = sym (rw (← placed, u) (both_none (counts_words C ws w e (names_family (fam_of (token m 0))))))
-
-  module _ (k : ℕ) (u : o ≡ Some k) (b : Bool) (t : b ≡ counts_words C ws w e (names_family (family_of s r))) where
-    pub counted_no : b ≡ false → None ≡ counted_words C ws w e (names_family (fam_of (token m 0)))
-    counted_no f = rw (← same_family, ← t, f)
-
-    pub counted_is : b ≡ true → Some k ≡ counted_words C ws w e (names_family (fam_of (token m 0)))
-    counted_is f = sym u ∙ placed ∙ rw (← same_family, ← t, f)
-
 module _ (C : List Line) (ws : List ℕ) (w e : ℕ) (b : Bool) (u : b ≡ closed_words C ws w e) where
   pub place_open : b ≡ false → None ≡ place_words C ws w e
   unfolding place_words
@@ -278,4 +286,4 @@ module _ (C : List Line) (ws : List ℕ) (w e : ℕ) (b : Bool) (u : b ≡ close
     unfolding place_words
     place_is g s q o d = d ∙ rw (← u, f, ← v, g, q)
 
-pub ruleset for_words = (closed_short, closed_other, closed_is, steps_other, steps_is, counts_no, counts_continue, counts_is, counted_none, counted_no, counted_is, place_open, place_still, place_is)
+pub ruleset for_words = (closed_short, closed_other, closed_is, steps_other, steps_is, counts_no, counts_continue, counts_is, place_open, place_still, place_is)

@@ -1,4 +1,6 @@
 // The turns of `recover_loops` over a plan.
+#![tactic(auto, using(crate::proofs::TurnRules::guard_words))]
+
 ghost use Rattle.std.specs.Prelude.{◌≡◌, true, List, [], ◌+◌, ◌-◌, ◌≤◌, ◌<◌, length, get_or, take};
 ghost use Rattle.definitions.specs.Lists.{all, part, or_else, ascii};
 ghost use Rattle.definitions.specs.Model.{Line, line};
@@ -6,31 +8,20 @@ ghost use Rattle.definitions.specs.Questions.{question_2};
 ghost use Rattle.definitions.specs.Condition.{condition};
 ghost use Rattle.definitions.specs.RecoverLoops.{unwrapped, rebuilt, close_at, close, loop_turn, recover_loops};
 ghost use Rattle.model.specs.Listings.{listing_of};
-ghost use Rattle.line_keywords.specs.Masks.{Masks};
 ghost use Rattle.plan.specs.Plan.{header_at};
 ghost use Rattle.plan.specs.Changes.{is_out};
 ghost use Rattle.plan.specs.Source.{Source};
+ghost use Rattle.plan.specs.Planned.{planned};
 ghost use Rattle.loops.specs.Words.{Ready, closes_words, guarded_words, do_word, opens_words};
-ghost use Rattle.loops.specs.Turns.{cleared, unwrapped_words, TurnOf, planned, Emitted};
+ghost use Rattle.loops.specs.Turns.{cleared, unwrapped_words, TurnOf, Emitted};
 
 use crate::for_loops::{first_end, to_for};
+use line_keywords::Keywords;
 use model::listing::Listing;
-use plan::{indent, source};
+use plan::{Overflow, indent, source};
 
-// What one turn does: go on at the next line with so many lines, stop the whole pass, or work out an indent beyond 0 to 255.
-#[derive(Drop)]
-pub enum Turn {
-    Go(usize),
-    Stop,
-    Beyond,
-}
-
-// What the pass answers: so many lines, or that overflow.
-#[derive(Drop)]
-pub enum Planned {
-    Lines(usize),
-    Overflow,
-}
+// What one turn does: go on at the next line with so many lines, or, where there is none, stop the whole pass.
+type Turn = Result<Option<usize>, Overflow>;
 
 // The guard g, the close c and the line b behind it belong together: the close one indent deeper, with the same condition text under while,
 // and b a lone `}` at the guard's indent.
@@ -74,47 +65,43 @@ fn unwrap(plan: &mut [usize], n: usize, i: usize, w: usize) -> bool
 }
 
 // The same, and the while header becomes a for header, where it can.
-fn rebuild(code: &Listing, masks: &[u8], plan: &mut [usize], n: usize, i: usize, w: usize) -> Turn
-    requires i_bound { (i + 2 ≤ w) × (w + 1 < n) × (n ≤ length plan.old) × (question_2 code.now.lines.now code.now.tokens.now code.now.text.now ≡ true) }
+fn rebuild(keywords: &Keywords, plan: &mut [usize], n: usize, i: usize, w: usize) -> Turn
+    requires i_bound { (i + 2 ≤ w) × (w + 1 < n) × (n ≤ length plan.old) × (question_2 keywords.now.code.lines.now keywords.now.code.tokens.now keywords.now.code.text.now ≡ true) }
     requires ready { Ready i (take n plan.old) }
-    requires masks { Masks (listing_of code.now) masks.now }
-    ensures { TurnOf code.now.lines.now code.now.tokens.now code.now.text.now
+    ensures { TurnOf keywords.now.code.lines.now keywords.now.code.tokens.now keywords.now.code.text.now
         (λ M. rebuilt (unwrapped M i w (or_else (condition (line M i) (ascii "if")) [])) i (w - 1)) n i plan.old result plan.new }
 {
-    if unwrap(plan, n, i, w) {
-        let m = to_for(code, masks, plan, n - 2, i);
-        Turn::Go(m)
-    } else {
-        Turn::Beyond
+    if !unwrap(plan, n, i, w) {
+        return Err(Overflow);
     }
+    let m = to_for(keywords, plan, n - 2, i);
+    Ok(Some(m))
 }
 
 // The close of the guard at place i is at w.
-fn close_at(code: &Listing, masks: &[u8], plan: &mut [usize], n: usize, i: usize, w: usize) -> Turn
-    requires i_bound { (i + 2 ≤ w) × (w < n) × (n ≤ length plan.old) × (question_2 code.now.lines.now code.now.tokens.now code.now.text.now ≡ true) }
+fn close_at(keywords: &Keywords, plan: &mut [usize], n: usize, i: usize, w: usize) -> Turn
+    requires i_bound { (i + 2 ≤ w) × (w < n) × (n ≤ length plan.old) × (question_2 keywords.now.code.lines.now keywords.now.code.tokens.now keywords.now.code.text.now ≡ true) }
     requires ready { Ready i (take n plan.old) }
-    requires masks { Masks (listing_of code.now) masks.now }
-    ensures { TurnOf code.now.lines.now code.now.tokens.now code.now.text.now (λ M. close_at M i w) n i plan.old result plan.new }
+    ensures { TurnOf keywords.now.code.lines.now keywords.now.code.tokens.now keywords.now.code.text.now (λ M. close_at M i w) n i plan.old result plan.new }
 {
-    if guarded(code, plan, n, i, w) {
-        rebuild(code, masks, plan, n, i, w)
+    if guarded(&keywords.code, plan, n, i, w) {
+        rebuild(keywords, plan, n, i, w)
     } else {
-        Turn::Go(n)
+        Ok(Some(n))
     }
 }
 
 // The close is the first non-label line from i + 2 with indent at most one above the guard's; if there is none the whole pass stops.
-fn close(code: &Listing, masks: &[u8], plan: &mut [usize], n: usize, i: usize) -> Turn
-    requires i_bound { (i + 1 < n) × (n ≤ length plan.old) × (question_2 code.now.lines.now code.now.tokens.now code.now.text.now ≡ true) }
+fn close(keywords: &Keywords, plan: &mut [usize], n: usize, i: usize) -> Turn
+    requires i_bound { (i + 1 < n) × (n ≤ length plan.old) × (question_2 keywords.now.code.lines.now keywords.now.code.tokens.now keywords.now.code.text.now ≡ true) }
     requires ready { Ready i (take n plan.old) }
-    requires masks { Masks (listing_of code.now) masks.now }
-    ensures { TurnOf code.now.lines.now code.now.tokens.now code.now.text.now (λ M. close M i) n i plan.old result plan.new }
+    ensures { TurnOf keywords.now.code.lines.now keywords.now.code.tokens.now keywords.now.code.text.now (λ M. close M i) n i plan.old result plan.new }
 {
     let g = plan[i];
-    let Some(w) = first_end(code, plan, n, i + 2, indent(g) + 1) else {
-        return Turn::Stop;
+    let Some(w) = first_end(&keywords.code, plan, n, i + 2, indent(g) + 1) else {
+        return Ok(None);
     };
-    close_at(code, masks, plan, n, i, w)
+    close_at(keywords, plan, n, i, w)
 }
 
 // The line of g is a guard, and the line of d one indent deeper.
@@ -126,52 +113,47 @@ fn opens(code: &Listing, g: usize, d: usize) -> bool
 }
 
 // The line of d has the keyword do.
-fn is_do(code: &Listing, masks: &[u8], d: usize) -> bool
-    requires { Masks (listing_of code.now) masks.now }
-    ensures { result ≡ do_word (listing_of code.now) d }
+fn is_do(keywords: &Keywords, d: usize) -> bool
+    ensures { result ≡ do_word (listing_of keywords.now.code) d }
 {
-    line_keywords::has_do(code, masks, source(d))
+    keywords.has_do(source(d))
 }
 
 // One turn at place i.
-fn loop_turn(code: &Listing, masks: &[u8], plan: &mut [usize], n: usize, i: usize) -> Turn
-    requires i_bound { (i + 1 < n) × (n ≤ length plan.old) × (question_2 code.now.lines.now code.now.tokens.now code.now.text.now ≡ true) }
+fn loop_turn(keywords: &Keywords, plan: &mut [usize], n: usize, i: usize) -> Turn
+    requires i_bound { (i + 1 < n) × (n ≤ length plan.old) × (question_2 keywords.now.code.lines.now keywords.now.code.tokens.now keywords.now.code.text.now ≡ true) }
     requires ready { Ready i (take n plan.old) }
-    requires masks { Masks (listing_of code.now) masks.now }
-    ensures { TurnOf code.now.lines.now code.now.tokens.now code.now.text.now (λ M. loop_turn M i) n i plan.old result plan.new }
+    ensures { TurnOf keywords.now.code.lines.now keywords.now.code.tokens.now keywords.now.code.text.now (λ M. loop_turn M i) n i plan.old result plan.new }
 {
     let g = plan[i];
     let d = plan[i + 1];
-    if is_do(code, masks, d) {
+    if is_do(keywords, d) {
         if indent(g) == 255 {
-            return Turn::Beyond;
+            return Err(Overflow);
         }
-        if opens(code, g, d) {
-            return close(code, masks, plan, n, i);
+        if opens(&keywords.code, g, d) {
+            return close(keywords, plan, n, i);
         }
     }
-    Turn::Go(n)
+    Ok(Some(n))
 }
 
 // The pass, turn by turn.
-pub fn plan_loops(code: &Listing, masks: &[u8], plan: &mut [usize]) -> Planned
-    requires lines_len_bound { (length code.now.lines.now ≤ 1024) × (length code.now.lines.now ≤ length plan.old) × (question_2 code.now.lines.now code.now.tokens.now code.now.text.now ≡ true) }
-    requires masks { Masks (listing_of code.now) masks.now }
-    ensures result_after { (S : List Line) → Source S code.now.lines.now code.now.tokens.now code.now.text.now → planned S plan.new result ≡ recover_loops S }
-    ensures emitted { Emitted (length code.now.lines.now) plan.new result }
+pub fn plan_loops(keywords: &Keywords, plan: &mut [usize]) -> Result<usize, Overflow>
+    requires lines_len_bound { (length keywords.now.code.lines.now ≤ 1024) × (length keywords.now.code.lines.now ≤ length plan.old) × (question_2 keywords.now.code.lines.now keywords.now.code.tokens.now keywords.now.code.text.now ≡ true) }
+    ensures result_after { (S : List Line) → Source S keywords.now.code.lines.now keywords.now.code.tokens.now keywords.now.code.text.now → planned S plan.new result ≡ recover_loops S }
+    ensures emitted { Emitted (length keywords.now.code.lines.now) plan.new result }
 {
-    plan::start(code.lines, plan);
-    let mut n = code.lines.len();
+    plan::start(keywords.code.lines, plan);
+    let mut n = keywords.code.lines.len();
     let mut i = 0;
+    // A `while`: the lines become fewer as loops are made.
     while i + 1 < n {
-        match loop_turn(code, masks, plan, n, i) {
-            Turn::Go(m) => {
-                n = m;
-            }
-            Turn::Stop => return Planned::Lines(n),
-            Turn::Beyond => return Planned::Overflow,
-        }
+        let Some(m) = loop_turn(keywords, plan, n, i)? else {
+            return Ok(n);
+        };
+        n = m;
         i += 1;
     }
-    Planned::Lines(n)
+    Ok(n)
 }

@@ -1,41 +1,41 @@
--- Texts that were looked up before, as rules for `search`.
+-- Texts that were looked up before, the last two as rules for `search`.
 --   memo_empty          nothing was looked up yet
---   memo_hit, memo_known    a text whose number is in its slot
+--   memo_hit            a text whose number is in its slot
 --   memo_keep           a text more
 -- Assumes nothing.
-use Prim.Native.Nat.{ℕ, ◌+◌, ◌<◌, ◌≤◌}
+use Rattle.std.specs.Prelude.{Option}
+use Prim.Native.Nat.{ℕ, ◌<◌}
 use mathlib.Core.Path.{◌≡◌, sym, ap, ◌∙◌}
 use mathlib.Core.List.{List}
 use native.Mathlib.Decide.{ℕ_discrete}
 use native.Mathlib.Omega.{arith}
-use lib.ListN.{length, get_or, set, length-set}
+use lib.ListN.{length, get_or, set, replicate}
 use lib.Seq.{get_or-set_same, get_or-set_other}
 use Rattle.definitions.specs.Family.{family}
+use Rattle.theory.proofs.ListLaws.{replicate_default}
 use Rattle.memo.specs.Found.{found}
-use Rattle.memo.specs.Memo.{pack, Bytes, Memo}
+use Rattle.memo.specs.Texts.{pack, Bytes}
+use Rattle.memo.specs.Memo.{no_slot, Memo}
+use Rattle.memo.specs.declared.slots.Slot.{Slot}
 use Rattle.memo.proofs.Packs.{pack_some, pack_same}
 
-pub memo_empty : (fs : List (List ℕ)) (m : List ℕ) → ((b : ℕ) → get_or m b 0 ≡ 0) → Memo fs m
-memo_empty fs m z = record { at = λ h l s B e. absurd (omega (arith, e, z h, pack_some s)) }
+pub memo_empty : (fs : List (List ℕ)) (m : List Slot) → m ≡ replicate 64 no_slot → Memo fs m
+memo_empty fs m z h s B e = absurd (omega (arith, e ∙ ap (λ (w : List Slot). (get_or w h no_slot).text) z ∙ ap (λ (w : Slot). w.text) (replicate_default 64 h no_slot), pack_some s))
 
-module _ (fs : List (List ℕ)) (m : List ℕ) (M : Memo fs m) (s : List ℕ) (B : Bytes s) (h p : ℕ) (l : h < 64) (q : p ≡ pack s) where
-  pub memo_hit : get_or m h 0 ≡ p → get_or m (64 + h) 0 ≡ found fs (family s)
-  memo_hit e = M.at h l s B (sym q ∙ sym e)
+module _ (fs : List (List ℕ)) (m : List Slot) (M : Memo fs m) (s : List ℕ) (B : Bytes s) (h p : ℕ) (q : p ≡ pack s) where
+  pub memo_hit : (get_or m h no_slot).text ≡ p → (get_or m h no_slot).place ≡ found fs (family s)
+  memo_hit e = M h s B (sym q ∙ sym e)
 
-  pub memo_known : get_or m h 0 ≡ p → (get_or m (64 + h) 0 ≡ 65535 → ⊥) → get_or m (64 + h) 0 ≡ found fs (family s)
-  memo_known e z = memo_hit e
-
-  pub memo_keep : (c : ℕ) → 128 ≤ length m → c ≡ found fs (family s) → Memo fs (set (set m h p) (64 + h) c)
-  memo_keep c w e = record {
-    at = λ k b t C f. elim (ℕ_discrete k h) [
-      | yes z ↦ (let y : pack t ≡ pack s = f ∙ key k b ∙ ap (λ (j : ℕ). get_or (set m h p) j 0) z ∙ get_or-set_same m h p 0 (omega arith) ∙ q in
-          ap (λ (j : ℕ). get_or (set (set m h p) (64 + h) c) (64 + j) 0) z ∙ get_or-set_same (set m h p) (64 + h) c 0 (rw length-set (omega arith)) ∙ e ∙ ap (λ (u : List ℕ). found fs (family u)) (sym (pack_same t s C B y)))
-      | no z ↦ get_or-set_other (set m h p) (64 + h) (64 + k) c 0 (λ y. z (omega arith)) ∙ get_or-set_other m h (64 + k) p 0 (λ y. omega arith)
-          ∙ M.at k b t C (f ∙ key k b ∙ get_or-set_other m h k p 0 z)
-    ];
-  }
+  pub memo_keep : (c : Option ℕ) → h < length m → c ≡ found fs (family s) → Memo fs (set m h (record { text = p; place = c }))
+  memo_keep c l e k t C f = elim (ℕ_discrete k h) [
+    | yes z ↦ (let r = get_or-set_same m h x no_slot l in
+        let y : pack t ≡ pack s = f ∙ ap (λ (j : ℕ). (get_or (set m h x) j no_slot).text) z ∙ ap (λ (w : Slot). w.text) r ∙ q in
+        ap (λ (j : ℕ). (get_or (set m h x) j no_slot).place) z ∙ ap (λ (w : Slot). w.place) r ∙ e ∙ ap (λ (u : List ℕ). found fs (family u)) (sym (pack_same t s C B y)))
+    | no z ↦ (let r = get_or-set_other m h k x no_slot z in
+        ap (λ (w : Slot). w.place) r ∙ M k t C (f ∙ ap (λ (w : Slot). w.text) r))
+  ]
     where
-      key : (k : ℕ) → k < 64 → get_or (set (set m h p) (64 + h) c) k 0 ≡ get_or (set m h p) k 0
-      key k b = get_or-set_other (set m h p) (64 + h) k c 0 (λ y. omega arith)
+      x : Slot
+      x = record { text = p; place = c }
 
-pub ruleset memos = (memo_hit, memo_known, memo_keep)
+pub ruleset memos = (memo_hit, memo_keep)

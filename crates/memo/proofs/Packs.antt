@@ -13,7 +13,7 @@ use mir.Val.{Fits}
 use lib.ListN.{length, get_or, drop}
 use Rattle.definitions.specs.Lists.{fold}
 use Rattle.text.proofs.Parts.{drop_step, drop_end}
-use Rattle.memo.specs.Memo.{digit, pack, Bytes}
+use Rattle.memo.specs.Texts.{digit, pack, Bytes}
 
 byte_low : (x : ℕ) (s : List ℕ) → Bytes (x ∷ s) → x < 256
 byte_low x s B = omega (arith, B 0)

@@ -1,13 +1,15 @@
 // Lines and tokens of the lent columns, by their places. Each function takes constant time, copies nothing, and is
-// total: behind the last line stands a line without tokens, behind a line's last token an empty text of kind 0.
+// total: behind the last line stands a line without tokens, behind a line's last token an empty text.
 //
 // Contracts cite `listing_of`, `tokens_of` and, for addresses, `with_addresses` of Rattle.definitions.specs.Columns.
-ghost use Rattle.std.specs.Prelude.{◌≡◌, ◌-◌, ◌/◌, ◌%◌, ◌<◌, length, get_or};
+ghost use Rattle.std.specs.Prelude.{◌≡◌, ◌-◌, ◌/◌, ◌%◌, ◌<◌, eqb, length, get_or};
 ghost use Rattle.definitions.specs.Model.{token, line, no_token};
 ghost use Rattle.definitions.specs.Columns.{with_addresses};
+ghost use Rattle.model.specs.Kinds.{number};
 ghost use Rattle.model.specs.Listings.{listing_of, tokens_of};
 ghost use Rattle.model.specs.Places.{start_from, line_start, line_end};
 
+use crate::kind::Kind;
 use crate::listing::Listing;
 
 // Where piece k of a column starts, a word over `by` being where its piece ends.
@@ -29,6 +31,13 @@ impl<'a> Listing<'a> {
         ensures { result ≡ (get_or (tokens_of self.now) k no_token).kind }
     {
         text::word(self.tokens, k) % 256
+    }
+
+    // Token k is of this kind.
+    pub fn token_is(&self, k: usize, kind: Kind) -> bool
+        ensures { result ≡ eqb (get_or (tokens_of self.now) k no_token).kind (number kind) }
+    {
+        self.token_kind(k) == kind.number()
     }
 
     pub fn token_text(&self, k: usize) -> &'a [u8]
@@ -90,8 +99,15 @@ impl<'a> Listing<'a> {
         if s < e && j < e - s {
             self.token_kind(s + j)
         } else {
-            0
+            Kind::Text.number()
         }
+    }
+
+    // Token j of line i is of this kind.
+    pub fn is(&self, i: usize, j: usize, kind: Kind) -> bool
+        ensures { result ≡ eqb (token (line (listing_of self.now) i) j).kind (number kind) }
+    {
+        self.kind(i, j) == kind.number()
     }
 
     // The text of token j of line i, as a part of the lent text.

@@ -5,4 +5,5 @@
 #![tactic(auto, using(crate::proofs::Access::access))]
 
 mod columns;
+pub mod kind;
 pub mod listing;

@@ -33,6 +33,7 @@ fn mix(f: usize, h: usize, c: usize) -> usize
 fn packed(a: u8, b: u8, c: u8, d: u8) -> usize
     ensures { (result ≡ packed a b c d) × (result < 4294967296) }
 {
+    // A cast: std has no `From` of 32 bits to `usize`.
     u32::from_le_bytes([a, b, c, d]) as usize
 }
 
@@ -41,6 +42,7 @@ fn hashed(f: usize, s: &[u8]) -> usize
     requires { f < 268435456 }
     ensures { result ≡ hashed f 1 s.now }
 {
+    // A `while`: what is left behind the last four bytes is read too.
     let mut h = 1;
     let mut rest = s;
     while let [a, b, c, d, more @ ..] = rest {
@@ -79,5 +81,6 @@ pub fn short_hash(m: u16, a: u8, b: u8, c: u8) -> usize
 
 // The multiplier after m: drawn from the text, so that whoever chooses names against it has to know the whole text. No contract depends on it.
 pub fn next(m: u16, text: &[u8]) -> u16 {
+    // A cast: a remainder by 65,536 has 16 bits.
     (siphash::hash(u64::from(m), text) % 65536) as u16
 }

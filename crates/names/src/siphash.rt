@@ -30,6 +30,7 @@ fn absorbed(s: State, w: u64) -> State {
 
 // At most seven bytes, and the length of the text.
 fn last(s: &[u8], length: usize) -> u64 {
+    // A cast: std has no `From` of `usize` to 64 bits.
     let mut w = (length as u64) << 56;
     for (k, b) in s.iter().take(7).enumerate() {
         w |= u64::from(*b) << (k * 8);

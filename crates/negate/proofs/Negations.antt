@@ -3,7 +3,7 @@
 --   negation_only          one comparison, which is flipped
 --   negation_count, negation_none    another number of comparisons, or none: `!(..)`
 -- Assumes nothing.
-use Rattle.std.specs.Prelude.{None, Some}
+use Rattle.std.specs.Prelude.{Option, None, Some}
 use Rattle.std.specs.Option.{option_map}
 use mathlib.Core.Path.{◌≡◌, refl, sym, ap, ap₂, ◌∙◌}
 use mathlib.Core.Bool.{Bool, true, false, not, cond}
@@ -25,11 +25,10 @@ use Rattle.loop_theory.proofs.Places.{on_part_one}
 use Rattle.loop_theory.proofs.Comparisons.{comparison_in, comparison_stands, find_among}
 use Rattle.negate.specs.Tests.{test, test_count, test_token, test_from, test_tokens}
 use Rattle.append.specs.Adds.{whole}
-use Rattle.negate.specs.Comparisons.{found_in, seen, negated_token, negation}
+use Rattle.negate.specs.Comparisons.{found_of, seen, negated_token, negation}
 use Rattle.negate.specs.declared.comparison.Seen.{Seen as Counts}
-use Rattle.negate.specs.declared.comparison.Only.TheVariants.{At, Nothing}
+use Rattle.negate.specs.declared.comparison.Found.{Found as Place}
 use Rattle.negate.proofs.TestTokens.{test_is}
-use Rattle.negate.proofs.Scanning.{numbered_some, numbered_none}
 use Rattle.negate.proofs.Places.{moved, relabelled, kept_place, scan_kept, kept_change}
 
 -- A text that is not empty
@@ -135,28 +134,26 @@ module _ (l : Line) (g m : ℕ) (n : Counts) (c : m ≡ test_count l g) (q : see
   condition_is : whole (test_tokens l m) ≡ test l g
   condition_is = rw c (test_is l g)
 
-  pub negation_only : n.count ≡ 1 → n.which < 6 → negation l (test_count l g) (At n.place n.byte n.which) ≡ negate_cond (test l g)
-  unfolding only_comparison negation negated_token test_from
-  negation_only one few =
-      let s = numbered_some n.which few in
-      let f : Found = found_in n.place n.byte s.0 in
-      let e : only_comparison (scan 0 (test_tokens l m) nothing_seen) ≡ Some f =
-      ap only_comparison (sym q) ∙ rw (eq-eqb n.count 1 one, s.1) in
-      let t : (k : ℕ) → negated_token l m (At n.place n.byte n.which) k ≡ cond (eqb k n.place) (flip f (test_token l m k)) (test_token l m k) =
-      λ k. rw s.1 in
-      rw (← c)
-      (ap whole (map_same (negated_token l m (At n.place n.byte n.which)) (λ (k : ℕ). cond (eqb k n.place) (flip f (test_token l m k)) (test_token l m k)) t (range 0 m)
-      ∙ sym (one_changed (test_token l m) (flip f) n.place m) ∙ ap (λ (k : ℕ). on_part n.place (n.place + 1) (flip f) (map (test_token l m) (range 0 k))) (sym (sub-zero m)))
-      ∙ sym (negated_only (test_tokens l m) f e) ∙ ap negate_cond condition_is)
-
-  nothing : only_comparison (seen n) ≡ None → negation l m Nothing ≡ negate_cond (test l g)
+  nothing : only_comparison (seen n) ≡ None → negation l m None ≡ negate_cond (test l g)
   unfolding negation
   nothing e = sym (negated_none (test_tokens l m) (ap only_comparison (sym q) ∙ e)) ∙ ap negate_cond condition_is
 
-  pub negation_count : (n.count ≡ 1 → ⊥) → negation l (test_count l g) Nothing ≡ negate_cond (test l g)
-  unfolding only_comparison
-  negation_count h = rw (← c) (nothing (rw (ne_eqb n.count 1 h)))
+  only : (f : Place) → n.count ≡ 1 → n.found ≡ Some f → negation l m (Some f) ≡ negate_cond (test l g)
+  unfolding only_comparison negation negated_token test_from
+  only f one is =
+      let o : Found = found_of f in
+      let e : only_comparison (scan 0 (test_tokens l m) nothing_seen) ≡ Some o = ap only_comparison (sym q) ∙ rw (eq-eqb n.count 1 one, is) in
+      ap whole (sym (one_changed (test_token l m) (flip o) f.place m) ∙ ap (λ (k : ℕ). on_part f.place (f.place + 1) (flip o) (map (test_token l m) (range 0 k))) (sym (sub-zero m)))
+      ∙ sym (negated_only (test_tokens l m) o e) ∙ ap negate_cond condition_is
 
-  pub negation_none : n.count ≡ 1 → 6 ≤ n.which → negation l (test_count l g) Nothing ≡ negate_cond (test l g)
+  pub negation_one : n.count ≡ 1 → negation l (test_count l g) n.found ≡ negate_cond (test l g)
   unfolding only_comparison
-  negation_none one h = rw (← c) (nothing (rw (eq-eqb n.count 1 one, numbered_none n.which h)))
+  negation_one one = rw (← c) (go n.found refl)
+    where
+      go : (o : Option Place) → n.found ≡ o → negation l m o ≡ negate_cond (test l g)
+      go (Some f) is = only f one is
+      go None is = nothing (rw (eq-eqb n.count 1 one, is))
+
+  pub negation_other : (n.count ≡ 1 → ⊥) → negation l (test_count l g) None ≡ negate_cond (test l g)
+  unfolding only_comparison
+  negation_other h = rw (← c) (nothing (rw (ne_eqb n.count 1 h)))

@@ -1,16 +1,16 @@
 -- The scan for comparisons, as rules for `search`.
 --   comparison_0 .. comparison_5, comparison_none    the comparison that a text starts with
---   width_of, width_none                             how many bytes it has
+--   width_of                                         how many bytes it has
 --   logical_yes, logical_no, logical_deep            ` && ` and ` || `
 --   counts_here, counts_deep                         a comparison counts at depth 0
 --   bracket_open, bracket_close, bracket_other       one byte
 --   byte_found, byte_passed, found_after, found_within            what stands at a byte, and where to go on
 --   text_next, text_end                              the loop over a text
---   count_start, count_add, count_all                the loop that counts a byte
+--   count_add, count_all                             the loop that counts a byte
 --   token_punct, token_keyword, token_other, token_none    what a token adds, by its kind
 --   within_of, grown_of                              bounds, said of the text that a part is
 --   scan_next, scan_end                              the loop over the condition's tokens
---   numbered_some, numbered_none                     which numbers are comparisons
+--   named_long                                       no comparison is empty, nor what it is flipped to
 -- Assumes nothing.
 use Rattle.std.specs.Option.{option_map}
 use Rattle.std.specs.Prelude.{if◌then◌else◌, Option, None, Some}
@@ -18,7 +18,7 @@ use mathlib.Core.Path.{◌≡◌, refl, sym, ap, ◌∙◌}
 use mathlib.Core.Bool.{Bool, true, false, ◌||◌, not, cond}
 use mathlib.Core.List.{List, [], ◌∷◌}
 use Prim.Native.Nat.{ℕ, zero, suc, ◌+◌, ◌-◌, ◌*◌, ◌≤◌, ◌<◌}
-use native.Mathlib.Nat.{add-zero, zero-add, add-suc, suc-add}
+use native.Mathlib.Nat.{add-zero, add-suc, suc-add}
 use native.Mathlib.Numerals.{add-one}
 use native.Mathlib.Decide.{dec_le}
 use native.Mathlib.Omega.{arith}
@@ -34,7 +34,9 @@ use Rattle.text.proofs.Texts.{starts_short}
 use Rattle.loop_theory.proofs.Cases.{none_some, true_false, if_has}
 use Rattle.loop_theory.proofs.Comparisons.{find_passes, comparison_in}
 use Rattle.negate.specs.Tests.{test_token, test_from, test_tokens}
-use Rattle.negate.specs.Comparisons.{numbered, comparison_of, occurs, width, found_in}
+use Rattle.negate.specs.Comparisons.{named, comparison_of, occurs, width, found_in}
+use Rattle.negate.specs.declared.comparison.Comparison.{Comparison as Which}
+use Rattle.negate.specs.declared.comparison.Comparison.TheVariants.{Equal, Unequal, AtMost, AtLeast, Less, Greater}
 use Rattle.negate.proofs.TestTokens.{test_first, test_past}
 
 T_not : (p : Bool) → T (not p) → p ≡ false
@@ -44,67 +46,52 @@ T_not false h = refl
 -- Which comparison
 
 module _ (s : List ℕ) (a : Bool) (p : a ≡ starts_with (ascii " == ") s) where
-  pub comparison_0 : a ≡ true → numbered 0 ≡ comparison_of s
-  unfolding numbered comparisons find comparison_of
+  pub comparison_0 : a ≡ true → option_map named (Some Equal) ≡ comparison_of s
+  unfolding named comparisons find comparison_of
   comparison_0 f = rw (← p, f)
 
   module _ (pf : a ≡ false) (b : Bool) (q : b ≡ starts_with (ascii " != ") s) where
-    pub comparison_1 : b ≡ true → numbered 1 ≡ comparison_of s
-    unfolding numbered comparisons find comparison_of
+    pub comparison_1 : b ≡ true → option_map named (Some Unequal) ≡ comparison_of s
+    unfolding named comparisons find comparison_of
     comparison_1 f = rw (← p, pf, ← q, f)
 
     module _ (qf : b ≡ false) (c : Bool) (r : c ≡ starts_with (ascii " <= ") s) where
-      pub comparison_2 : c ≡ true → numbered 2 ≡ comparison_of s
-      unfolding numbered comparisons find comparison_of
+      pub comparison_2 : c ≡ true → option_map named (Some AtMost) ≡ comparison_of s
+      unfolding named comparisons find comparison_of
       comparison_2 f = rw (← p, pf, ← q, qf, ← r, f)
 
       module _ (rf : c ≡ false) (d : Bool) (t : d ≡ starts_with (ascii " >= ") s) where
-        pub comparison_3 : d ≡ true → numbered 3 ≡ comparison_of s
-        unfolding numbered comparisons find comparison_of
+        pub comparison_3 : d ≡ true → option_map named (Some AtLeast) ≡ comparison_of s
+        unfolding named comparisons find comparison_of
         comparison_3 f = rw (← p, pf, ← q, qf, ← r, rf, ← t, f)
 
         module _ (tf : d ≡ false) (e : Bool) (u : e ≡ starts_with (ascii " < ") s) where
-          pub comparison_4 : e ≡ true → numbered 4 ≡ comparison_of s
-          unfolding numbered comparisons find comparison_of
+          pub comparison_4 : e ≡ true → option_map named (Some Less) ≡ comparison_of s
+          unfolding named comparisons find comparison_of
           comparison_4 f = rw (← p, pf, ← q, qf, ← r, rf, ← t, tf, ← u, f)
 
           module _ (uf : e ≡ false) (g : Bool) (v : g ≡ starts_with (ascii " > ") s) where
-            pub comparison_5 : g ≡ true → numbered 5 ≡ comparison_of s
-            unfolding numbered comparisons find comparison_of
+            pub comparison_5 : g ≡ true → option_map named (Some Greater) ≡ comparison_of s
+            unfolding named comparisons find comparison_of
             comparison_5 f = rw (← p, pf, ← q, qf, ← r, rf, ← t, tf, ← u, uf, ← v, f)
 
-            pub comparison_none : g ≡ false → numbered 6 ≡ comparison_of s
-            unfolding numbered comparisons find comparison_of
+            pub comparison_none : g ≡ false → option_map named None ≡ comparison_of s
+            unfolding named comparisons find comparison_of
             comparison_none f = rw (← p, pf, ← q, qf, ← r, rf, ← t, tf, ← u, uf, ← v, f)
 
 pub ruleset whiches = (comparison_0, comparison_1, comparison_2, comparison_3, comparison_4, comparison_5, comparison_none)
 
-pub width_of : (w v r : ℕ) → w ≡ v → r ≡ width v → r ≡ width w
+pub width_of : (w v : Which) (r : ℕ) → w ≡ v → r ≡ width v → r ≡ width w
 width_of w v r e f = rw e f
 
-pub numbered_none : (w : ℕ) → 6 ≤ w → numbered w ≡ None
-unfolding numbered comparisons
-numbered_none zero h = absurd (omega arith)
-numbered_none (suc zero) h = absurd (omega arith)
-numbered_none (suc (suc zero)) h = absurd (omega arith)
-numbered_none (suc (suc (suc zero))) h = absurd (omega arith)
-numbered_none (suc (suc (suc (suc zero)))) h = absurd (omega arith)
-numbered_none (suc (suc (suc (suc (suc zero))))) h = absurd (omega arith)
-numbered_none (suc (suc (suc (suc (suc (suc w)))))) h = refl
-
-pub width_none : (w : ℕ) → (w ≡ 0 → ⊥) → (w ≡ 1 → ⊥) → (w ≡ 2 → ⊥) → (w ≡ 3 → ⊥) → (w ≡ 4 → ⊥) → (w ≡ 5 → ⊥) → 0 ≡ width w
-unfolding width
-width_none w a b c d e f = rw (numbered_none w (omega arith))
-
-pub numbered_some : (w : ℕ) → w < 6 → (o : Comparison) × (numbered w ≡ Some o) × (width w ≡ length o.op) × (1 ≤ length o.op) × (1 ≤ length o.flipped)
-unfolding numbered comparisons width
-numbered_some zero h = (_, refl, refl, omega arith, omega arith)
-numbered_some (suc zero) h = (_, refl, refl, omega arith, omega arith)
-numbered_some (suc (suc zero)) h = (_, refl, refl, omega arith, omega arith)
-numbered_some (suc (suc (suc zero))) h = (_, refl, refl, omega arith, omega arith)
-numbered_some (suc (suc (suc (suc zero)))) h = (_, refl, refl, omega arith, omega arith)
-numbered_some (suc (suc (suc (suc (suc zero))))) h = (_, refl, refl, omega arith, omega arith)
-numbered_some (suc (suc (suc (suc (suc (suc w)))))) h = absurd (omega arith)
+pub named_long : (w : Which) → (1 ≤ length (named w).op) × (1 ≤ length (named w).flipped)
+unfolding named
+named_long Equal = (omega arith, omega arith)
+named_long Unequal = (omega arith, omega arith)
+named_long AtMost = (omega arith, omega arith)
+named_long AtLeast = (omega arith, omega arith)
+named_long Less = (omega arith, omega arith)
+named_long Greater = (omega arith, omega arith)
 
 -- What is seen
 
@@ -131,8 +118,8 @@ module _ (o c n : ℕ) (f : Option Found) (s : List ℕ) where
     unfolding see_logical
     logical_deep = rw (ne_eqb o c e)
 
-    pub counts_deep : numbered 6 ≡ comparison_at s state
-    unfolding numbered comparisons
+    pub counts_deep : option_map named None ≡ comparison_at s state
+    unfolding named comparisons
     counts_deep = rw (ne_eqb o c e)
 
 pub ruleset logicals = (logical_yes, logical_no, logical_deep)
@@ -173,21 +160,25 @@ module _ (place pos c : ℕ) (s : List ℕ) (r : Seen) where
   unfolding scan_text
   scan_none e = rw (e, scan_text)
 
-module _ (s : List ℕ) (i : ℕ) (h : i < length s) (rest : List ℕ) (e : rest ≡ part i (length s) s) (r n : Seen) (w : ℕ)
-    (c : numbered w ≡ comparison_at rest r) where
+module _ (s : List ℕ) (i : ℕ) (h : i < length s) (rest : List ℕ) (e : rest ≡ part i (length s) s) (r n : Seen) (w : Option Which)
+    (c : option_map named w ≡ comparison_at rest r) where
   here : rest ≡ get_or s i 0 ∷ drop (i + 1) s
   here = e ∙ part_tail s i ∙ drop_step 0 s i h
 
-  module _ (few : w < 6) where
-    within : (v : ℕ) → v ≡ width w → (i < i + v) × (i + v ≤ length s)
+  module _ (x : Which) (is : w ≡ Some x) where
+    abbrev o : Comparison
+    o = named x
+
+    there : comparison_at rest r ≡ Some o
+    there = sym c ∙ ap (option_map named) is
+
+    within : (v : ℕ) → v ≡ width x → (i < i + v) × (i + v ≤ length s)
     within v q =
-        let f = numbered_some w few in
-        let o = f.0 in
         let found : comparison_in rest ≡ Some o =
-        if_has (λ x. x ≡ Some o → comparison_in rest ≡ Some o) (at_depth_0 r) (λ _ q. q) (λ _ q. none_some q) (sym c ∙ f.1) in
+        if_has (λ x. x ≡ Some o → comparison_in rest ≡ Some o) (at_depth_0 r) (λ _ q. q) (λ _ q. none_some q) there in
         let starts : starts_with o.op rest ≡ true = find_passes (λ (k : Comparison). starts_with k.op rest) comparisons o found in
         let long : length rest ≡ length s - i = ap length (e ∙ part_tail s i) ∙ length-drop i s in
-        go o.op starts f.3 (q ∙ f.2) long
+        go o.op starts (named_long x).0 q long
       where
         go : (p : List ℕ) → starts_with p rest ≡ true → 1 ≤ length p → v ≡ length p → length rest ≡ length s - i → (i < i + v) × (i + v ≤ length s)
         go p starts one q long = by (dec_le (length p) (length rest))
@@ -196,36 +187,33 @@ module _ (s : List ℕ) (i : ℕ) (h : i < length s) (rest : List ℕ) (e : rest
             by (yes g) = (omega arith, omega arith)
             by (no g) = true_false starts (starts_short p rest (omega arith))
 
-    pub found_after : (v : ℕ) → v ≡ width w → i < i + v
+    pub found_after : (v : ℕ) → v ≡ width x → i < i + v
     found_after v q = (within v q).0
 
-    pub found_within : (v : ℕ) → v ≡ width w → i + v ≤ length s
+    pub found_within : (v : ℕ) → v ≡ width x → i + v ≤ length s
     found_within v q = (within v q).1
 
     module _ (place : ℕ) where
-      pub byte_found : n ≡ see_logical rest r → (v : ℕ) → v ≡ width w
+      pub byte_found : n ≡ see_logical rest r → (v : ℕ) → v ≡ width x
           → scan_text place i 0 (drop i s) r
-          ≡ scan_text place (i + v) 0 (drop (i + v) s) (record { opened = n.opened; closed = n.closed; count = n.count + 1; found = option_map (found_in place i) (numbered w) })
+          ≡ scan_text place (i + v) 0 (drop (i + v) s) (record { opened = n.opened; closed = n.closed; count = n.count + 1; found = Some (found_in place i (named x)) })
       byte_found g v q =
-          let f = numbered_some w few in
-          let o = f.0 in
+          let long = (named_long x).0 in
           let m = length o.op - 1 in
-          let at : comparison_at (get_or s i 0 ∷ drop (i + 1) s) r ≡ Some o = ap (λ (x : List ℕ). comparison_at x r) (sym here) ∙ sym c ∙ f.1 in
-          let a : suc i + m ≡ i + v = omega (arith, f.2, f.3) in
-          let b : i + 1 + m ≡ i + v = omega (arith, f.2, f.3) in
+          let at : comparison_at (get_or s i 0 ∷ drop (i + 1) s) r ≡ Some o = ap (λ (x : List ℕ). comparison_at x r) (sym here) ∙ there in
+          let a : suc i + m ≡ i + v = omega (arith, q, long) in
+          let b : i + 1 + m ≡ i + v = omega (arith, q, long) in
           ap (λ (x : List ℕ). scan_text place i 0 x r) (drop_step 0 s i h)
           ∙ (scan_some place i (get_or s i 0) (drop (i + 1) s) r o at
           ∙ (skipped place (suc i) m (drop (i + 1) s) (add_found (found_in place i o) (see_logical (get_or s i 0 ∷ drop (i + 1) s) r))
-          ∙ rw (drop-drop m (i + 1) s, a, b, g, here, f.1)))
+          ∙ rw (drop-drop m (i + 1) s, a, b, g, here)))
 
-  module _ (many : 6 ≤ w) (place : ℕ) where
+  module _ (is : w ≡ None) (place : ℕ) where
     pub byte_passed : n ≡ see_logical rest r → (m : Seen) → m ≡ see_bracket (get_or s i 0) n → scan_text place i 0 (drop i s) r ≡ scan_text place (i + 1) 0 (drop (i + 1) s) m
     byte_passed g m q =
-        let at : comparison_at (get_or s i 0 ∷ drop (i + 1) s) r ≡ None = ap (λ (x : List ℕ). comparison_at x r) (sym here) ∙ sym c ∙ numbered_none w many in
+        let at : comparison_at (get_or s i 0 ∷ drop (i + 1) s) r ≡ None = ap (λ (x : List ℕ). comparison_at x r) (sym here) ∙ sym c ∙ ap (option_map named) is in
         ap (λ (x : List ℕ). scan_text place i 0 x r) (drop_step 0 s i h)
         ∙ (scan_none place i (get_or s i 0) (drop (i + 1) s) r at ∙ rw (q, g, here, add-one i))
-
-pub ruleset bytes = (byte_found, byte_passed, found_after, found_within)
 
 -- A text
 
@@ -256,11 +244,6 @@ module _ (b : ℕ) (s : List ℕ) where
     pub count_all : length s ≤ k → n ≡ occurs b s
     unfolding occurs filter
     count_all h = let z : count (eqb b) s ≡ n + 0 = inv ∙ rw (drop_end s k h) in omega arith
-
-  pub count_start : occurs b s ≡ 0 + occurs b (drop 0 s)
-  count_start = sym (zero-add (occurs b s))
-
-pub ruleset counting = (count_start, count_add, count_all)
 
 -- A token, by its kind
 

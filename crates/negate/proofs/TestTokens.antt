@@ -2,14 +2,14 @@
 --   test_first, test_past       the tokens from place k on
 --   test_short                  a token has at most 24 bits of bytes
 --   kind_short                  a token's kind has 8 bits
---   text_cut, count_first, count_all    what the code works out of them
+--   text_cut                    the text that the code works out of one
 --   at_first, length_first      the elements of a list whose first is changed
 --   test_is                     without the empty ones they are `cut 2 2` of the line's tokens
 -- Assumes nothing.
 use mathlib.Core.Path.{◌≡◌, refl, sym, ap, ◌∙◌}
 use mathlib.Core.Bool.{Bool, true, false, cond}
 use mathlib.Core.List.{List, [], ◌∷◌, map}
-use Prim.Native.Nat.{ℕ, zero, suc, ◌+◌, ◌-◌, ◌≤◌, ◌<◌, min}
+use Prim.Native.Nat.{ℕ, zero, suc, ◌+◌, ◌-◌, ◌≤◌, ◌<◌}
 use native.Mathlib.Nat.{add-zero, add-suc, suc-add, zero-add, sub-zero, not-suc-le-zero, le_of_suc-le-suc}
 use native.Mathlib.Numerals.{add-one}
 use native.Mathlib.Decide.{dec_lt}
@@ -55,14 +55,6 @@ kind_short l t x i j = go (dec_lt j (line_end l t i - line_start l i))
 pub text_cut : (m k : ℕ) (r s t : List ℕ) (a b c : ℕ) → r ≡ part a b s → s ≡ t → a ≡ front k → b ≡ length s - c → c ≡ back m k
     → r ≡ part (front k) (length t - back m k) t
 text_cut m k r s t a b c e q f g h = rw (← f, ← h, ← q, ← g) e
-
-pub count_first : (g n r : ℕ) → r ≡ g - 1 → g < n → r ≡ min g n - 1
-count_first g n r e h = omega arith
-
-pub count_all : (g n m r : ℕ) → r ≡ n - 1 → n ≡ m → n ≤ g → r ≡ min g m - 1
-count_all g n m r e q h = omega arith
-
-pub ruleset tests = (text_cut, count_first, count_all)
 
 -- Elements by their places
 

@@ -2,79 +2,82 @@
 //
 // Contracts cite `see_logical`, `comparison_at`, `see_bracket`, `scan_text`, `scan_token` and `negate_cond` of
 // Rattle.definitions.specs.Condition; `seen` and `negation` of this crate's specs/ say what the answers stand for.
+#![tactic(auto, using(crate::proofs::Scanning::whiches, crate::proofs::Scanning::logicals, crate::proofs::Scanning::brackets, crate::proofs::Scanning::byte_passed))]
+
+ghost use Rattle.std.specs.Option.{option_map};
 ghost use Rattle.std.specs.Prelude.{if◌then◌else◌, ◌≡◌, ◌||◌, ◌+◌, ◌*◌, ◌≤◌, ◌<◌, eqb, length, drop};
 ghost use Rattle.definitions.specs.Lists.{starts_with, ascii};
 ghost use Rattle.definitions.specs.Model.{line};
 ghost use Rattle.definitions.specs.Condition.{nothing_seen, add_brackets, see_logical, comparison_at, see_bracket, scan_text, scan_token, scan, negate_cond};
 ghost use Rattle.model.specs.Listings.{listing_of};
 ghost use Rattle.negate.specs.Tests.{test, test_count, test_token, test_tokens};
-ghost use Rattle.negate.specs.Comparisons.{numbered, comparison_of, occurs, width, seen, weight, negation, Sound};
+ghost use Rattle.negate.specs.Comparisons.{named, comparison_of, occurs, width, seen, weight, negation};
 
 use crate::test::{test_count, test_kind, test_text};
+use model::kind::Kind;
 use model::listing::Listing;
 
+// The six comparisons.
+#[derive(Clone, Copy)]
+pub enum Comparison {
+    Equal,
+    Unequal,
+    AtMost,
+    AtLeast,
+    Less,
+    Greater,
+}
+
+// A comparison of the condition: at byte `byte` of token `place`.
+#[derive(Clone, Copy)]
+pub struct Found {
+    pub place: usize,
+    pub byte: usize,
+    pub which: Comparison,
+}
+
 // What the scan has seen: brackets opened and closed, whose difference is the depth and may go below 0; comparisons at depth 0, ` && ` and
-// ` || ` counting two; the last comparison, by the number of its token, the byte of it and its own number, NONE where there is none.
+// ` || ` counting two; the last comparison.
 #[derive(Clone, Copy)]
 pub struct Seen {
     pub opened: usize,
     pub closed: usize,
     pub count: usize,
-    pub place: usize,
-    pub byte: usize,
-    pub which: usize,
+    pub found: Option<Found>,
 }
 
-#[derive(Clone, Copy)]
-pub enum Only {
-    // Comparison `which` at byte `byte` of token `place` is the only one.
-    At {
-        place: usize,
-        byte: usize,
-        which: usize,
-    },
-    Nothing,
-}
-
-const NONE: usize = 6;
-
-// The number of the comparison that s starts with.
-fn comparison(s: &[u8]) -> usize
-    ensures { (numbered result ≡ comparison_of s.now) × (result ≤ 6) }
+// The comparison that s starts with.
+fn comparison_of(s: &[u8]) -> Option<Comparison>
+    ensures { option_map named result ≡ comparison_of s.now }
 {
     if text::starts_with(s, b" == ") {
-        return 0;
+        return Some(Comparison::Equal);
     }
     if text::starts_with(s, b" != ") {
-        return 1;
+        return Some(Comparison::Unequal);
     }
     if text::starts_with(s, b" <= ") {
-        return 2;
+        return Some(Comparison::AtMost);
     }
     if text::starts_with(s, b" >= ") {
-        return 3;
+        return Some(Comparison::AtLeast);
     }
     if text::starts_with(s, b" < ") {
-        return 4;
+        return Some(Comparison::Less);
     }
     if text::starts_with(s, b" > ") {
-        return 5;
+        return Some(Comparison::Greater);
     }
-    NONE
+    None
 }
 
 // How many bytes comparison w has.
-pub fn width(w: usize) -> usize
+pub fn width(w: Comparison) -> usize
     ensures { result ≡ width w }
 {
     match w {
-        0 => 4,
-        1 => 4,
-        2 => 4,
-        3 => 4,
-        4 => 3,
-        5 => 3,
-        _ => 0,
+        Comparison::Equal | Comparison::Unequal | Comparison::AtMost | Comparison::AtLeast => 4,
+        Comparison::Less | Comparison::Greater => 3,
     }
 }
 
@@ -91,26 +94,22 @@ fn see_logical(s: &[u8], r: Seen) -> Seen
     if r.opened == r.closed {
         if is_logical(s) {
             return Seen {
-                opened: r.opened,
-                closed: r.closed,
                 count: r.count + 2,
-                place: r.place,
-                byte: r.byte,
-                which: r.which,
+                ..r
             };
         }
     }
     r
 }
 
-// The number of the comparison that counts where s starts with one: at depth 0.
-fn comparison_at(s: &[u8], r: Seen) -> usize
-    ensures { (numbered result ≡ comparison_at s.now (seen r)) × (result ≤ 6) }
+// The comparison that counts where s starts with one: at depth 0.
+fn comparison_at(s: &[u8], r: Seen) -> Option<Comparison>
+    ensures { option_map named result ≡ comparison_at s.now (seen r) }
 {
     if r.opened == r.closed {
-        return comparison(s);
+        return comparison_of(s);
     }
-    NONE
+    None
 }
 
 fn see_bracket(c: u8, r: Seen) -> Seen
@@ -120,19 +119,11 @@ fn see_bracket(c: u8, r: Seen) -> Seen
     match c {
         b'(' => Seen {
             opened: r.opened + 1,
-            closed: r.closed,
-            count: r.count,
-            place: r.place,
-            byte: r.byte,
-            which: r.which,
+            ..r
         },
         b')' => Seen {
-            opened: r.opened,
             closed: r.closed + 1,
-            count: r.count,
-            place: r.place,
-            byte: r.byte,
-            which: r.which,
+            ..r
         },
         _ => r,
     }
@@ -152,24 +143,24 @@ fn see_byte(s: &[u8], place: usize, i: usize, r: Seen) -> Step
     ensures i_lt_next { (i < result.next) × (result.next ≤ length s.now) × (weight result.seen ≤ weight r + 3) }
 {
     let rest = text::part(s, i, s.len());
-    let w = comparison_at(rest, r);
     let n = see_logical(rest, r);
-    if w < NONE {
-        return Step {
+    match comparison_at(rest, r) {
+        Some(which) => Step {
             seen: Seen {
-                opened: n.opened,
-                closed: n.closed,
                 count: n.count + 1,
-                place,
-                byte: i,
-                which: w,
+                found: Some(Found {
+                    place,
+                    byte: i,
+                    which,
+                }),
+                ..n
             },
-            next: i + width(w),
-        };
-    }
-    Step {
-        seen: see_bracket(s[i], n),
-        next: i + 1,
+            next: i + width(which),
+        },
+        None => Step {
+            seen: see_bracket(s[i], n),
+            next: i + 1,
+        },
     }
 }
 
@@ -180,6 +171,7 @@ fn scan_text(s: &[u8], place: usize, r: Seen) -> Seen
 {
     let mut n = r;
     let mut i = 0;
+    // A `while`: a turn passes over one byte, or over a comparison of three or four, so the places are no range.
     while i < s.len() {
         let t = see_byte(s, place, i, n);
         n = t.seen;
@@ -215,14 +207,12 @@ fn see_brackets(s: &[u8], r: Seen) -> Seen
     Seen {
         opened: r.opened + count(s, b'('),
         closed: r.closed + count(s, b')'),
-        count: r.count,
-        place: r.place,
-        byte: r.byte,
-        which: r.which,
+        ..r
     }
 }
 
 // Token k of the m tokens of the condition: its kind decides.
+#[tactic(auto, using(crate::proofs::Scanning::tokens), unfolding(crate::specs::Tests::test_token))]
 fn scan_token(code: &Listing, i: usize, m: usize, k: usize, r: Seen) -> Seen
     requires k_lt_m { k < m }
     requires text_bound { let t = test_token (line (listing_of code.now) i) m k in
@@ -230,16 +220,18 @@ fn scan_token(code: &Listing, i: usize, m: usize, k: usize, r: Seen) -> Seen
     ensures { let t = test_token (line (listing_of code.now) i) m k in
         (seen result ≡ scan_token k t (seen r)) × (weight result ≤ weight r + 3 * length t.text) }
 {
-    match test_kind(code, i, m, k) {
-        0 => r,
-        1 => r,
-        2 => r,
-        3 => see_brackets(test_text(code, i, m, k), r),
-        4 => r,
-        5 => r,
-        6 => scan_text(test_text(code, i, m, k), k, r),
-        7 => r,
-        _ => r,
+    match Kind::of(test_kind(code, i, m, k)) {
+        Some(Kind::Keyword) => see_brackets(test_text(code, i, m, k), r),
+        Some(Kind::Punct) => scan_text(test_text(code, i, m, k), k, r),
+        Some(
+            Kind::Text
+            | Kind::Register
+            | Kind::Number
+            | Kind::Symbol
+            | Kind::Address
+            | Kind::Prefix,
+        )
+        | None => r,
     }
 }
 
@@ -252,9 +244,7 @@ fn scan(code: &Listing, i: usize, m: usize) -> Seen
         opened: 0,
         closed: 0,
         count: 0,
-        place: 0,
-        byte: 0,
-        which: NONE,
+        found: None,
     };
     for k in 0..m {
         r = scan_token(code, i, m, k, r);
@@ -263,22 +253,11 @@ fn scan(code: &Listing, i: usize, m: usize) -> Seen
 }
 
 // The only comparison of the condition, which negation flips.
-pub fn only_comparison(code: &Listing, i: usize, g: usize) -> Only
-    ensures result_value { let l = line (listing_of code.now) i in
+pub fn only_comparison(code: &Listing, i: usize, g: usize) -> Option<Found>
+    ensures { let l = line (listing_of code.now) i in
         negation l (test_count l g) result ≡ negate_cond (test l g) }
-    ensures sound { Sound result }
 {
     let m = test_count(code, i, g);
     let r = scan(code, i, m);
-    if r.count != 1 {
-        return Only::Nothing;
-    }
-    if r.which < NONE {
-        return Only::At {
-            place: r.place,
-            byte: r.byte,
-            which: r.which,
-        };
-    }
-    Only::Nothing
+    if r.count == 1 { r.found } else { None }
 }

@@ -1,6 +1,8 @@
 // The tokens of a leading test's condition, numbered from 0. Each function takes constant time.
 //
 // Contracts cite `test_count` and `test_token` of this crate's specs/; without the empty ones these tokens are the condition.
+#![tactic(auto, using(crate::proofs::TestTokens::text_cut), unfolding(crate::specs::Tests::test_token))]
+
 ghost use Rattle.std.specs.Prelude.{◌≡◌, ◌-◌, ◌<◌};
 ghost use Rattle.definitions.specs.Model.{line};
 ghost use Rattle.model.specs.Listings.{listing_of};

@@ -1,23 +1,23 @@
--- Rules for `number_defs`, `number_reads` and `line_numbers`.
+-- Rules for `number_defs`, `number_reads` and `family_lines`.
 --   own_start, own_next, own_end            the loop of `number_defs`
 --   reads_start, reads_next, reads_end      the loop of `number_reads`
 --   line_in                                 a line of a list is below n
---   lines_by                                `line_numbers`
+--   lines_by                                the numbers of a family after its sweeps
 --   answer_done, answer_over                an answer within the budget, and one over it
---   solved_swept, solved_done, solved_over  `solve_lines`
---   family_numbered, family_room, family_sized, family_by    `family_lines`
+--   solved_swept, solved_done, solved_over  its sweeps, within the budget and over it
+--   family_numbered, family_room, family_swept, family_by    `family_lines`
 -- Assumes nothing.
 use Prim.Native.Nat.{ℕ, ◌+◌, ◌-◌, ◌*◌, ◌/◌, ◌<◌, ◌≤◌}
 use mathlib.Core.Path.{◌≡◌, refl, sym, ap, ◌∙◌}
 use mathlib.Core.Logic.{inl, inr}
 use mathlib.Core.Bool.{Bool, true, false, cond, ◌||◌}
-use mathlib.Core.List.{List}
+use mathlib.Core.List.{List, ◌++◌}
 use native.Mathlib.Omega.{arith}
 use native.Mathlib.Numerals.{add-one}
 use lib.Dec.{eqb, leb}
 use borrow.Author.Tests.{eqb-true, eqb-false, leb-true, leb-false}
-use lib.ListN.{length, get_or, set, take, length-take}
-use lib.Seq.{take-suc, take_all, get_or-set_same, get_or-set_other}
+use lib.ListN.{length, get_or, set, take}
+use lib.Seq.{take-append_seam, take-suc, take_all, get_or-set_same, get_or-set_other}
 use Rattle.definitions.specs.Lists.{any, member, or_else, first}
 use Rattle.theory.proofs.Bools.{lt_or_ge}
 use Rattle.theory.proofs.ListLaws.{replicate_default}
@@ -25,13 +25,14 @@ use Rattle.text.specs.Zeroed.{zeroed}
 use Rattle.definitions.specs.Questions.{space_words}
 use Rattle.definitions.specs.Sweeps.{sweeps}
 use Rattle.bits.specs.Edges.{row_words, Agree, preds_of}
-use Rattle.visit.specs.Layout.{Room}
+use Rattle.visit.specs.Layout.{Fits, Room}
+use Rattle.visit.specs.declared.layout.Layout.{Layout}
 use Rattle.visit.specs.Numbers.{defining_lines, Numbered, Counted}
 use Rattle.sweep.specs.Solved.{Solved, answer}
 use Rattle.std.specs.Prelude.{Option, Some, None}
-use Rattle.visit.proofs.LayoutLaws.{room, room_same, kept_preds, kept_both}
+use Rattle.visit.proofs.LayoutLaws.{room, room_by, room_same, kept_preds, kept_both}
 use Rattle.recover.specs.Numbers.{earlier}
-use Rattle.recover.specs.Reaching.{Swept, Sized, reach_numbers, linked, FamilyReps, ReadWeb}
+use Rattle.recover.specs.Reaching.{Swept, reach_numbers, linked, FamilyReps, ReadWeb}
 use Rattle.families.proofs.Lists.{any_snoc}
 use Rattle.numbering.specs.Lines.{own_number, read_number, Below, Owned, Reads, LineNumbers, SolvedLines, FamilyLines}
 
@@ -95,7 +96,7 @@ module _ (n r w : ℕ) (nums l₀ rep is read₀ : List ℕ) where
 pub line_in : (n : ℕ) (is : List ℕ) → Below n is → (j i : ℕ) → j < length is → i ≡ get_or is j 0 → i < n
 line_in n is B j i h e = rw e (B.at j h)
 
--- `line_numbers`
+-- After the sweeps
 
 pub lines_by : (n r w : ℕ) (nums l₀ l₁ l rep rank is own zeros read₀ read : List ℕ) → FamilyReps n r w nums l₀ l₁ rep rank is → length own ≡ n
     → Owned nums rep (length own) own → zeros ≡ zeroed 0 read₀ → Reads n r w nums l₁ l rep is zeros read → LineNumbers n r w nums l₀ l is own read
@@ -109,7 +110,7 @@ lines_by n r w nums l₀ l₁ l rep rank is own zeros read₀ read F e O z R = r
   preds = R.preds ∙ F.preds;
 }
 
--- `solve_lines`
+-- With the sweeps
 
 pub lines_from : (n r w : ℕ) (nums l₀ l₁ l is own read : List ℕ) → preds_of n r l₁ ≡ preds_of n r l₀ → LineNumbers n r w nums l₁ l is own read → LineNumbers n r w nums l₀ l is own read
 unfolding linked reach_numbers read_number
@@ -166,20 +167,33 @@ module _ (n r w budget : ℕ) (nums l₀ l₁ : List ℕ) (a : Option ℕ) (S : 
 
 -- `family_lines`
 
-module _ (n c f : ℕ) (ds nums : List ℕ) (C : Counted n ds f nums c) (pos : 0 < n) (few : n ≤ 1024) where
-  pub family_numbered : Numbered n (c / 64 + 1) nums
-  family_numbered = C.numbered (c / 64 + 1) (omega arith)
+module _ (n c f : ℕ) (ds nums : List ℕ) (C : Counted n ds f nums c) (few : n ≤ 1024) (m : Layout) (e : (m.n ≡ n) × (m.r ≡ row_words n) × (m.w ≡ c / 64 + 1)) where
+  pub family_numbered : Numbered m.n m.w nums
+  family_numbered = rw (e.0, e.2) (C.numbered (c / 64 + 1) (omega arith))
 
-  pub family_room : (r : ℕ) (l₀ : List ℕ) → r ≡ row_words n → space_words n ≤ length l₀ → Room n r (c / 64 + 1) l₀
-  family_room r l₀ e h = rw e (room n (c / 64 + 1) l₀ pos few (omega arith) (omega (arith, C.below)) h)
+  pub family_room : (l₀ : List ℕ) → space_words n ≤ length l₀ → Agree n (row_words n) l₀ → Fits m.n m.r m.w l₀ × Agree m.n m.r l₀
+  family_room l₀ h A = (room n c m l₀ e few C.below h, rw (e.0, e.1) A)
 
-  pub family_sized : (rep set : List ℕ) → n ≤ length rep → n ≤ length set → Sized n nums (take (c + 1) rep) set
-  family_sized rep set h g =
-      let z : length (take (c + 1) rep) ≡ c + 1 = length-take (c + 1) rep ∙ omega (arith, C.below) in
-      let d : c ≡ length (defining_lines n nums) = C.count ∙ ap length (sym C.lines) in
-      record { size = omega arith; room = omega (arith, C.below); small = omega (arith, C.below) }
+  module _ (budget : ℕ) (l₀ l₁ : List ℕ) (a : Option ℕ) (S : Solved m.n m.r m.w nums budget l₀ l₁ a) (s : ℕ) (q : a ≡ Some s) where
+    pub family_swept : space_words n ≤ length l₀ → Agree n (row_words n) l₀ → length l₁ ≡ length l₀ → (is : List ℕ) → Below n is
+        → Swept m.n m.r m.w nums l₁ × ((j : ℕ) → j < length is → get_or is j 0 < m.n)
+    family_swept h A z is B =
+        let r = family_room l₀ h A in
+        (solved_swept m.n m.r m.w budget nums l₀ l₁ a S s q (room_by m l₀ r.0) family_numbered r.1 z, λ j b. rw e.0 (B.at j b))
 
-  pub family_by : (r k budget : ℕ) (l₀ l is own read : List ℕ) (a : Option ℕ) → f ≡ k + 1 → SolvedLines n r (c / 64 + 1) nums budget l₀ l is own read a → FamilyLines n r k ds budget l₀ l is own read a
-  family_by r k budget l₀ l is own read a e S = record { nums = nums; w = c / 64 + 1; numbered = family_numbered; lines = C.lines ∙ rw e; solved = S }
+    pub family_by : (k : ℕ) (l₂ l rep rank is own xs zeros read₀ read ys : List ℕ) → f ≡ k + 1 → FamilyReps m.n m.r m.w nums l₁ l₂ rep rank is → length own ≡ n
+        → Owned nums rep (length own) own → zeros ≡ zeroed 0 read₀ → length read ≡ n → Reads m.n m.r m.w nums l₂ l rep is zeros read
+        → FamilyLines n (row_words n) k ds budget l₀ l is (take n (own ++ xs)) (take n (read ++ ys)) (Some s)
+    family_by k l₂ l rep rank is own xs zeros read₀ read ys ek F x O z y R = rw (front own xs x, front read ys y) (record {
+      nums = nums;
+      w = m.w;
+      numbered = rw e.0 at family_numbered;
+      lines = C.lines ∙ rw ek;
+      solved = rw (e.0, e.1) at (solved_done m.n m.r m.w budget nums l₀ l₁ a S s q m.wide is l own read
+          (lines_by m.n m.r m.w nums l₁ l₂ l rep rank is own zeros read₀ read F (x ∙ sym e.0) O z R));
+    })
+      where
+        front : (zs ts : List ℕ) → length zs ≡ n → take n (zs ++ ts) ≡ zs
+        front zs ts v = rw (← v) (take-append_seam zs ts)
 
 pub ruleset line_rules = (line_in, own_start, own_next, own_end, reads_start, reads_next, reads_end, lines_by, solved_swept, solved_done, solved_over)

@@ -4,10 +4,9 @@
 --   Below n is                     each of the lines is below n
 --   Owned nums rep n own           own has the number of the definition on each of the first n lines
 --   Reads                          what `number_reads` does
---   LineNumbers                    what `line_numbers` does
---   SolvedLines                    what `solve_lines` does
+--   LineNumbers                    what is done of a family after its sweeps
+--   SolvedLines                    what is done of a family whose definitions are numbered
 --   FamilyLines                    what `family_lines` does
---   Scratch n ..                   the lent words have room for n lines
 -- Assumes nothing.
 use Rattle.std.specs.Prelude.{ℕ, suc, ◌+◌, ◌<◌, ◌≤◌, ◌≡◌, cond, List, length, get_or}
 use Rattle.definitions.specs.Lists.{up_to, member, or_else, first}
@@ -57,12 +56,3 @@ pub record FamilyLines (n r k : ℕ) (ds : List ℕ) (budget : ℕ) (l₀ l is o
   pub numbered : Numbered n w nums
   pub lines : defining_lines n nums ≡ lines_of n ds (k + 1)
   pub solved : SolvedLines n r w nums budget l₀ l is own read a
-
-pub record Scratch (n : ℕ) (nums rep rank set seen own read : List ℕ) : Type 0 where
-  pub nums_room : n ≤ length nums
-  pub rep_room : n ≤ length rep
-  pub rank_room : n ≤ length rank
-  pub set_room : n ≤ length set
-  pub seen_room : n ≤ length seen
-  pub own_room : length own ≡ n
-  pub read_room : length read ≡ n

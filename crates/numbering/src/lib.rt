@@ -3,19 +3,40 @@
 //
 // Contracts are by definition number and by the words that number the families; crate webs says what they are of a listing.
 
-#![tactic(auto)]
+#![tactic(auto, using(crate::proofs::LineRules::line_rules))]
 
-ghost use Rattle.std.specs.Prelude.{◌≡◌, suc, ◌+◌, ◌/◌, ◌<◌, ◌≤◌, length};
+ghost use Rattle.std.specs.Prelude.{◌≡◌, suc, ◌+◌, ◌/◌, ◌<◌, ◌≤◌, length, take};
 ghost use Rattle.definitions.specs.Questions.{space_words};
 ghost use Rattle.bits.specs.Edges.{row_words, Agree};
-ghost use Rattle.visit.specs.Layout.{Room};
-ghost use Rattle.visit.specs.Numbers.{defining_lines, Numbered};
+ghost use Rattle.visit.specs.Numbers.{defining_lines};
 ghost use Rattle.recover.specs.Numbers.{Ranked};
-ghost use Rattle.recover.specs.Reaching.{Swept, Sized};
-ghost use Rattle.numbering.specs.Lines.{Below, Owned, Reads, LineNumbers, SolvedLines, FamilyLines, Scratch};
+ghost use Rattle.recover.specs.Reaching.{Swept};
+ghost use Rattle.numbering.specs.Lines.{Below, Owned, Reads, FamilyLines};
 
 use recover::numbers::{family_reps, read_web, web_of};
+use visit::layout::{Definitions, Layout};
 use words::{narrow, number};
+
+// The words that one family after another uses, of a listing of at most N lines.
+#[derive(Drop)]
+pub struct Scratch<const N: usize> {
+    // The lines that read the family.
+    pub reads: [u16; N],
+    // A mark for each line, and for each definition.
+    pub seen: [u8; N],
+    // The number of the definition on each line, 0 where there is none.
+    pub nums: [u16; N],
+    // The representative of each definition.
+    pub rep: [u16; N],
+    // How many webs start before each definition.
+    pub rank: [u16; N],
+    // The definitions that reach one line.
+    pub set: [u16; N],
+    // The number of the web that is defined on each line.
+    pub own: [u16; N],
+    // The number of the web that is read on each line.
+    pub read: [u16; N],
+}
 
 // The number of the definition on each line.
 fn number_defs(nums: &[u16], rep: &[u16], rank: &[u16], own: &mut [u16])
@@ -29,114 +50,60 @@ fn number_defs(nums: &[u16], rep: &[u16], rank: &[u16], own: &mut [u16])
 
 // The number of the reads on each line of `reads`.
 fn number_reads(
+    family: &Definitions,
     space: &mut [u64],
-    nums: &[u16],
-    n: usize,
-    r: usize,
-    w: usize,
     reads: &[u16],
     rep: &[u16],
     rank: &[u16],
     read: &mut [u16],
 )
-    requires swept { Swept n r w nums.now space.old × Below n reads.now × (n ≤ length read.old) }
-    requires rep_len { (length rep.now ≡ suc (length (defining_lines n nums.now))) × Ranked rep.now rank.now }
-    ensures { Reads n r w nums.now space.old space.new rep.now reads.now read.old read.new }
+    requires swept { let m = family.now.layout in Swept m.n m.r m.w family.now.nums.now space.old × Below m.n reads.now × (m.n ≤ length read.old) }
+    requires rep_len { (length rep.now ≡ suc (length (defining_lines family.now.layout.n family.now.nums.now))) × Ranked rep.now rank.now }
+    ensures { let m = family.now.layout in Reads m.n m.r m.w family.now.nums.now space.old space.new rep.now reads.now read.old read.new }
 {
     for i in reads {
         let i = usize::from(*i);
-        let v = read_web(space, nums, n, r, w, i, rep, rank);
-        read[i] = v;
+        read[i] = read_web(family, space, i, rep, rank);
     }
 }
 
-// The numbers of the family's definitions and reads. `rep` and `rank` have a word for each definition, `own` and `read` one for each line.
-fn line_numbers(
-    space: &mut [u64],
-    nums: &[u16],
-    n: usize,
-    r: usize,
-    w: usize,
-    reads: &[u16],
-    rep: &mut [u16],
-    rank: &mut [u16],
-    set: &mut [u16],
-    marks: &mut [u8],
-    own: &mut [u16],
-    read: &mut [u16],
-)
-    requires swept { Swept n r w nums.now space.old × Below n reads.now }
-    requires sized { Sized n nums.now rep.old set.old × (length rep.old ≤ 65535) × (length rank.old ≡ length rep.old) × (length rep.old ≤ length marks.old) }
-    requires own_len { (length own.old ≡ n) × (length read.old ≡ n) }
-    ensures { LineNumbers n r w nums.now space.old space.new reads.now own.new read.new }
-{
-    family_reps(space, nums, n, r, w, reads, rep, rank, set, marks);
-    number_defs(nums, rep, rank, own);
-    text::zero(read, 0);
-    number_reads(space, nums, n, r, w, reads, rep, rank, read);
-}
-
-// The sweeps of the family, then the numbers.
-fn solve_lines(
-    space: &mut [u64],
-    nums: &[u16],
-    n: usize,
-    r: usize,
-    w: usize,
-    budget: usize,
-    reads: &[u16],
-    rep: &mut [u16],
-    rank: &mut [u16],
-    set: &mut [u16],
-    seen: &mut [u8],
-    own: &mut [u16],
-    read: &mut [u16],
-) -> Option<usize>
-    requires room { Room n r w space.old × Numbered n w nums.now × Agree n r space.old × Below n reads.now }
-    requires sized { Sized n nums.now rep.old set.old × (length rep.old ≤ 65535) × (length rank.old ≡ length rep.old) × (length rep.old ≤ length seen.old) }
-    requires own_len { (length own.old ≡ n) × (length read.old ≡ n) }
-    ensures { SolvedLines n r w nums.now budget space.old space.new reads.now own.new read.new result }
-{
-    let s = sweep::solve(space, nums, n, r, w, budget)?;
-    line_numbers(space, nums, n, r, w, reads, rep, rank, set, seen, own, read);
-    Some(s)
-}
-
-// The same of family k, whose definitions are numbered first.
-pub fn family_lines(
+// The sweeps of family k, then the numbers of its definitions and of its reads on n lines: `defs` has the family that each line defines, and m
+// lines read the family. Answers how many sweeps there were; none where the budget does not allow them.
+pub fn family_lines<const N: usize>(
     space: &mut [u64],
     defs: &[u16],
     k: usize,
     n: usize,
-    r: usize,
     budget: usize,
-    reads: &[u16],
-    nums: &mut [u16],
-    rep: &mut [u16],
-    rank: &mut [u16],
-    set: &mut [u16],
-    seen: &mut [u8],
-    own: &mut [u16],
-    read: &mut [u16],
+    m: usize,
+    scratch: &mut Scratch<N>,
 ) -> Option<usize>
-    requires n_nonzero { (0 < n) × (n ≤ 1024) × (r ≡ row_words n) × (space_words n ≤ length space.old) × Agree n r space.old × Below n reads.now }
-    requires k_bound { (k < 1024) × (n ≤ length defs.now) × Scratch n nums.old rep.old rank.old set.old seen.old own.old read.old }
-    ensures { FamilyLines n r k defs.now budget space.old space.new reads.now own.new read.new result }
+    requires n_nonzero { (0 < n) × (n ≤ N) × (N ≤ 1024) × (space_words n ≤ length space.old) × Agree n (row_words n) space.old }
+    requires reads_below { (m ≤ N) × Below n (take m scratch.old.reads) }
+    requires k_bound { (k < 1024) × (n ≤ length defs.now) }
+    ensures { FamilyLines n (row_words n) k defs.now budget space.old space.new (take m scratch.old.reads) (take n scratch.new.own) (take n scratch.new.read) result }
 {
-    let c = sweep::number(defs, narrow(k + 1), nums, n);
-    solve_lines(
+    let c = sweep::number(defs, narrow(k + 1), &mut scratch.nums, n);
+    let family = Definitions {
+        layout: Layout::new(n, c),
+        nums: &scratch.nums,
+    };
+    let sweeps = sweep::solve(&family, space, budget)?;
+    let reads = &scratch.reads[..m];
+    let rep = &mut scratch.rep[..c + 1];
+    let rank = &mut scratch.rank[..c + 1];
+    family_reps(
+        &family,
         space,
-        nums,
-        n,
-        r,
-        c / 64 + 1,
-        budget,
         reads,
-        &mut rep[..c + 1],
-        &mut rank[..c + 1],
-        set,
-        seen,
-        own,
-        read,
-    )
+        rep,
+        rank,
+        &mut scratch.set,
+        &mut scratch.seen,
+    );
+    number_defs(family.nums, rep, rank, &mut scratch.own[..n]);
+    let read = &mut scratch.read[..n];
+    text::zero(read, 0);
+    number_reads(&family, space, reads, rep, rank, read);
+    Some(sweeps)
 }

@@ -1,30 +1,31 @@
 -- The call of a pass by its parts.
 --   asked_all          what questions 1 to 4 say, where each is answered yes
 --   refusal_is         a refusal 1 to 4 writes nothing
---   call_overflows     a refusal 6 leaves every output zero
---   call_accepts       what was accepted is what the call gives
+--   made_lines         what the pass makes of the listing are the lines of the plan
+--   plan_overflows     an overflow leaves every output zero
+--   plan_accepts       the lines of the plan are what the call gives
 --   writable           what is not more than the room of the passes can be written
 --   written_is         what is written and zeroed is `packed`
 --   few_lines, small_columns, zeros_are    what each function shows
 -- Assumes nothing.
-use Rattle.std.specs.Prelude.{None, Some, Ok, Err}
-use Prim.Native.Nat.{ℕ, zero, suc, ◌≤◌, ◌<◌}
+use Rattle.std.specs.Prelude.{None, Some, Result, Ok, Err}
+use Prim.Native.Nat.{ℕ, suc, ◌≤◌}
 use mathlib.Core.Path.{◌≡◌, refl, sym, ap, ap₂, ◌∙◌}
-use mathlib.Core.Bool.{Bool, true, false, ◌&&◌}
+use mathlib.Core.Bool.{Bool, true, ◌&&◌}
 use mathlib.Core.List.{List, [], ◌∷◌, map}
 use native.Mathlib.Nat.{sub-zero}
 use native.Mathlib.Omega.{arith}
 use borrow.Author.Tests.{eqb-true, leb-true}
 use lib.Dec.{eqb, leb}
-use lib.ListN.{length}
+use lib.ListN.{length, take}
 use Rattle.definitions.specs.Lists.{concat, part}
 use Rattle.definitions.specs.Model.{Line, text}
 use Rattle.definitions.specs.Columns.{listing, with_addresses, token_list, all_tokens}
-use Rattle.definitions.specs.Questions.{Limits, limits, question_1, question_2, refusal}
-use Rattle.definitions.specs.Answers.{Answer, refused, accepted}
+use Rattle.definitions.specs.Questions.{limits, question_1, question_2}
+use Rattle.definitions.specs.Passes.{Pass, lines, overflow}
+use Rattle.definitions.specs.Answers.{Answer, refused, accepted, rewritten}
 use Rattle.definitions.specs.Calls.{Columns, Passed, has_room, pass_refusal, zero_columns, packed, passed, pass_call}
-use Rattle.loop_theory.proofs.Cases.{and_split, none_some}
-use Rattle.loop_theory.proofs.Room.{Fits}
+use Rattle.loop_theory.proofs.Cases.{and_split}
 use Rattle.text.proofs.Parts.{part_tail, length_part}
 use Rattle.text.specs.Zeroed.{zeroed}
 use Rattle.model.specs.Places.{token_start}
@@ -32,13 +33,18 @@ use Rattle.model.proofs.Decode.{length_listing, length_tokens}
 use Rattle.model.proofs.Formed.{formed_lines, formed_tokens, all_tokens_listing, run_text}
 use Rattle.questions.specs.Refusals.{number}
 use Rattle.questions.specs.declared.Refusal.{Refusal}
-use Rattle.questions.specs.declared.Refusal.TheVariants.{Overflow}
+use Rattle.questions.specs.declared.Refusal.TheVariants.{Overflow as TheRefusal}
 use Rattle.questions.proofs.Refusing.{refusal_yes}
+use Rattle.plan.specs.Plan.{render}
+use Rattle.plan.specs.Planned.{planned}
+use Rattle.plan.specs.declared.Overflow.{Overflow}
 use Rattle.write.specs.State.{done}
-use Rattle.write.specs.Holds.{columns, Holds, Room, Finished}
-use Rattle.write.specs.declared.Cursor.{Cursor}
+use Rattle.write.specs.Holds.{columns, columns_of, counted, Room, Finishes}
+use Rattle.write.specs.declared.Writer.{Writer}
+use Rattle.write.proofs.Steps.{same_more}
+use Rattle.emit.specs.Lines.{Emits}
 use Rattle.write.proofs.PassRoom.{pass_room_suffices}
-use Rattle.pass_call.specs.Answers.{passed_with, source, Writable}
+use Rattle.pass_call.specs.Answers.{passed_with, source, Writable, InRoom, Answers}
 
 -- The questions
 
@@ -69,18 +75,28 @@ module _ (pass : List Line → Answer (List Line)) (c out : Columns) where
   unfolding pass_call
   refusal_is r e = sym (rw (← e, pass_call))
 
-  module _ (e : pass_refusal c out ≡ None) where
-    pub call_overflows : pass (source c) ≡ refused 6 → (out' : Columns) → out' ≡ zero_columns out → passed_with (Err Overflow) out' ≡ pass_call pass c out
-    unfolding passed
-    call_overflows q out' z = sym (none_call pass c out e ∙ ap (λ a. passed a out) q ∙ ap (λ o. record { answer = refused 6; out = o }) (sym z))
+pub made_lines : (S : List Line) (vs : List ℕ) (r : Result ℕ Overflow) (p : Pass) → planned S vs r ≡ p → {n : ℕ} → r ≡ Ok n
+    → p ≡ lines (render S (take n vs))
+made_lines S vs r p e q = sym e ∙ ap (planned S vs) q
 
-    pub call_accepts : (M : List Line) → pass (source c) ≡ accepted M → (p : Passed) → p ≡ passed (accepted M) out → p ≡ pass_call pass c out
-    call_accepts M q p z = z ∙ sym (none_call pass c out e ∙ ap (λ a. passed a out) q)
+module _ (made : List Line → Pass) (c out : Columns) (e : pass_refusal c out ≡ None) (vs : List ℕ) (r : Result ℕ Overflow)
+    (z : planned (source c) vs r ≡ made (source c)) where
+  answer_is : (p : Pass) → made (source c) ≡ p → (q : Passed) → q ≡ passed (rewritten p) out → q ≡ pass_call (λ L. rewritten (made L)) c out
+  answer_is p m q f = f ∙ sym (none_call (λ L. rewritten (made L)) c out e ∙ ap (λ a. passed (rewritten a) out) m)
+
+  pub plan_overflows : {o : Overflow} → r ≡ Err o → (out' : Columns) → out' ≡ zero_columns out
+      → passed_with (Err TheRefusal) out' ≡ pass_call (λ L. rewritten (made L)) c out
+  unfolding passed
+  plan_overflows q out' f = answer_is overflow (sym z ∙ ap (planned (source c) vs) q) _ (ap (λ o. record { answer = refused 6; out = o }) f)
+
+  pub plan_accepts : (n : ℕ) → r ≡ Ok n → (p : Passed) → p ≡ passed (accepted (render (source c) (take n vs))) out
+      → p ≡ pass_call (λ L. rewritten (made L)) c out
+  plan_accepts n q p f = answer_is _ (made_lines (source c) vs r _ z q) p f
 
 -- Room
 
-pub writable : (c out : Columns) (M : List Line) → pass_refusal c out ≡ None → Fits (source c) M → Writable c out M
-writable c out M e f = record { asked = e; lines = f.lines; tokens = f.tokens; text = f.text }
+pub writable : (c out : Columns) (M : List Line) → pass_refusal c out ≡ None → InRoom (source c) M → Writable c out M
+writable c out M e f = record { asked = e; lines = f.0; tokens = f.1; text = f.2 }
 
 tokens_kept : (l a : List ℕ) (L : List Line) → length a ≡ length l → length L ≡ length l → map (λ m. m.tokens) (with_addresses l a L) ≡ map (λ m. m.tokens) L
 unfolding with_addresses
@@ -116,30 +132,32 @@ module _ (c out : Columns) (M : List Line) (w : Writable c out M) where
       pass_room_suffices M out c a.0 a.3 (omega (arith, w.lines)) (omega (arith, w.tokens, ap length same, length_tokens c.tokens c.text))
       (omega (arith, w.text, ap (λ ts. length (text ts)) same, all_text c.tokens c.text c.lines a.2))
 
-  -- the destination changed, but not in its lengths
-  module _ (out₁ : Columns) (l : length out₁.lines ≡ length out.lines) (a : length out₁.addresses ≡ length out.addresses)
-      (t : length out₁.tokens ≡ length out.tokens) (x : length out₁.text ≡ length out.text) where
-    room_still : Room (done M) out₁
-    room_still =
-        let r = room_enough in
-        record {
-          lines = rw l r.lines;
-          addresses = rw a r.addresses;
-          tokens = rw t r.tokens;
-          text = rw x r.text;
-          token_ends = r.token_ends;
-          line_ends = r.line_ends;
-        }
+-- the destination changed, but not in its lengths
+module _ (c : Columns) (M : List Line) {u v w : Writer} (r : Writable c (columns_of u) M) (e : Emits M u v) (f : Finishes v w) where
+  room_still : Room (done M) (columns_of v)
+  room_still =
+      let k = room_enough c (columns_of u) M r in
+      let s = e.same in
+      record {
+        lines = rw s.lines_length k.lines;
+        addresses = rw s.addresses_length k.addresses;
+        tokens = rw s.tokens_length k.tokens;
+        text = rw s.text_length k.text;
+        token_ends = k.token_ends;
+        line_ends = k.line_ends;
+      }
 
-    packed_same : packed M out₁ ≡ packed M out
-    packed_same = rw (l, a, t, x)
+  packed_same : packed M (columns_of v) ≡ packed M (columns_of u)
+  packed_same = let s = e.same in rw (s.lines_length, s.addresses_length, s.tokens_length, s.text_length)
 
-    pub written_is : (d : Cursor) (out' : Columns) → Holds (done M) out₁ d → ((M : List Line) → Holds (done M) out₁ d → Room (done M) out₁ → Finished M out₁ d out')
-        → passed_with (Ok (record { lines = d.lines; tokens = d.tokens; text = d.text })) out' ≡ passed (accepted M) out
-    unfolding passed
-    written_is d out' h f =
-        let z = f M h room_still in
-        ap₂ (λ n o. record { answer = accepted n; out = o }) z.counts (z.columns ∙ packed_same)
+  pub written_is : Answers (Ok (record { lines = w.written.lines; tokens = w.written.tokens; text = w.written.text })) (passed (accepted M) (columns_of u)) u w
+  unfolding passed
+  written_is =
+      let z = f.finished M e.holds room_still in
+      record {
+        same = same_more e.same f.same;
+        passed = ap₂ (λ n o. record { answer = accepted n; out = o }) (ap counted f.written ∙ z.counts) (z.columns ∙ packed_same);
+      }
 
 -- Each function's facts
 

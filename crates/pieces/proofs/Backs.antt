@@ -8,7 +8,7 @@
 use mathlib.Core.Path.{◌≡◌, refl, sym, ap, ap₂, ◌∙◌}
 use mathlib.Core.Bool.{Bool, true, false, ◌&&◌, and-false, and_assoc}
 use mathlib.Core.List.{List, [], ◌∷◌, ◌++◌, append_assoc}
-use Prim.Native.Nat.{ℕ, ◌-◌, ◌%◌, ◌≤◌, ◌<◌}
+use Prim.Native.Nat.{ℕ, ◌-◌, ◌≤◌, ◌<◌}
 use native.Mathlib.Nat.{sub-zero, le_of_suc-le-suc, not-suc-le-zero}
 use native.Mathlib.Decide.{dec_le}
 use native.Mathlib.Omega.{arith}
@@ -16,11 +16,12 @@ use lib.Dec.{eqb}
 use lib.ListN.{length, take, drop, length-append, take-append-drop}
 use lib.Seq.{take_at, take-append-le, drop-append-le}
 use Rattle.definitions.specs.Lists.{part, ◌≟◌, starts_with, ascii}
-use Rattle.definitions.specs.Model.{Token, Line, tok, text, Keyword, Punct}
+use Rattle.definitions.specs.Model.{Token, Line, tok, line, text, Keyword, Punct}
 use Rattle.text.proofs.Parts.{part_tail}
 use Rattle.text.proofs.Texts.{≟_eq, eq_≟, ne_≟, ≟_sym, ≟_length, starts_part, starts_short}
 use Rattle.loop_theory.proofs.Cases.{true_false}
-use Rattle.pieces.specs.Pieces.{piece, origin, cut_place, jumped, JumpWord}
+use Rattle.pieces.specs.Pieces.{piece, cut_place, jumped, JumpWord, Says}
+use Rattle.pieces.specs.declared.piece.Piece.TheVariants.{Kept, Continued, Broken, Closed}
 use Rattle.pieces.proofs.Forms.{kept_piece, continued_piece, broken_piece, closed_piece}
 
 -- Texts of tokens
@@ -161,19 +162,19 @@ module _ (C : List Line) (p : ℕ) (h : List ℕ) where
   abbrev whole : List ℕ
   whole = goto ++ (h ++ ascii ";")
 
-  pub back_kept : p % 4 ≡ 0 → (s : List ℕ) (r : Bool) → s ≡ text (drop 0 (origin C p).tokens) → r ≡ (s ≟ whole) → r ≡ (text (piece C p).tokens ≟ whole)
-  back_kept e s r q d = rw (kept_piece C p e, ← q) d
+  pub back_kept : (i : ℕ) → Says p (Kept i) → (s : List ℕ) (r : Bool) → s ≡ text (drop 0 (line C i).tokens) → r ≡ (s ≟ whole) → r ≡ (text (piece C p).tokens ≟ whole)
+  back_kept i y s r q d = rw (kept_piece C p y.form, ← y.line, ← q) d
 
-  module _ (s : List ℕ) (g : ℕ) (r : Bool) (q : s ≡ text (take g (origin C p).tokens)) (c : g ≡ cut_place (origin C p)) where
-    pub back_continued : p % 4 ≡ 1 → r ≡ ((s ++ (ascii "continue" ++ ascii ";")) ≟ whole) → r ≡ (text (piece C p).tokens ≟ whole)
-    back_continued e d = rw (continued_piece C p e, jumped_text (ascii "continue") (origin C p), ← c, ← q) d
+  module _ (i : ℕ) (s : List ℕ) (g : ℕ) (r : Bool) (q : s ≡ text (take g (line C i).tokens)) (c : g ≡ cut_place (line C i)) where
+    pub back_continued : Says p (Continued i) → r ≡ ((s ++ (ascii "continue" ++ ascii ";")) ≟ whole) → r ≡ (text (piece C p).tokens ≟ whole)
+    back_continued y d = rw (continued_piece C p y.form, ← y.line, jumped_text (ascii "continue") (line C i), ← c, ← q) d
 
-    pub back_broken : p % 4 ≡ 2 → r ≡ ((s ++ (ascii "break" ++ ascii ";")) ≟ whole) → r ≡ (text (piece C p).tokens ≟ whole)
-    back_broken e d = rw (broken_piece C p e, jumped_text (ascii "break") (origin C p), ← c, ← q) d
+    pub back_broken : Says p (Broken i) → r ≡ ((s ++ (ascii "break" ++ ascii ";")) ≟ whole) → r ≡ (text (piece C p).tokens ≟ whole)
+    back_broken y d = rw (broken_piece C p y.form, ← y.line, jumped_text (ascii "break") (line C i), ← c, ← q) d
 
-  pub back_closed : (p % 4 ≡ 0 → ⊥) → (p % 4 ≡ 1 → ⊥) → (p % 4 ≡ 2 → ⊥) → false ≡ (text (piece C p).tokens ≟ whole)
+  pub back_closed : (i : ℕ) → Says p (Closed i) → false ≡ (text (piece C p).tokens ≟ whole)
   unfolding text ◌≟◌
-  back_closed a b c = rw (closed_piece C p a b c)
+  back_closed i y = rw (closed_piece C p y.form)
 
 pub ruleset backs = (back_kept, back_continued, back_broken, back_closed)
 
@@ -182,3 +183,5 @@ continue_word = record { start = 99; rest = ascii "ontinue"; is = refl; no_g = r
 
 pub break_word : JumpWord (ascii "break")
 break_word = record { start = 98; rest = ascii "reak"; is = refl; no_g = refl; no_o = refl; no_t = refl; no_blank = refl }
+
+pub ruleset texts = (before_is, joining, reading, backs, continue_word, break_word)

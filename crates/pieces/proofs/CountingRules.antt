@@ -1,14 +1,15 @@
 -- Steps of a piece, as rules for `search`.
 --   between_is                    the texts of a run of tokens
 --   adds_first, adds_second       ` += ` and ` -= `
---   steps_kept, steps_continued, steps_broken, steps_closed        a step, by the form of the piece
+--   steps_kept, steps_cut, steps_closed                            a step, by the form of the piece
 --   family_kept, family_continued, family_broken, family_closed    the family of its first token
 -- Assumes nothing.
 use Rattle.std.specs.Prelude.{Option, None}
+use mathlib.Core.Logic.{◌⊎◌, inl, inr}
 use mathlib.Core.Path.{◌≡◌, refl, sym, ap, ◌∙◌}
 use mathlib.Core.Bool.{Bool, true, false, cond}
 use mathlib.Core.List.{List, [], ◌∷◌, ◌++◌}
-use Prim.Native.Nat.{ℕ, zero, suc, ◌-◌, ◌%◌, ◌≤◌}
+use Prim.Native.Nat.{ℕ, zero, suc, ◌-◌, ◌≤◌}
 use native.Mathlib.Nat.{sub-zero, not-suc-le-zero}
 use native.Mathlib.Omega.{arith}
 use borrow.Author.Tests.{eq-eqb, ne_eqb}
@@ -16,12 +17,16 @@ use lib.Dec.{eqb}
 use lib.ListN.{length, get_or, take, drop, length-append, take-append-drop}
 use lib.Seq.{take_at, drop-append-le, length-take-le}
 use Rattle.definitions.specs.Lists.{or_else, position, part, ◌≟◌, starts_with, ascii}
-use Rattle.definitions.specs.Model.{Token, Line, tok, no_token, token, text, Keyword, Punct}
+use Rattle.definitions.specs.Model.{Token, Line, tok, no_token, token, line, text, Keyword, Punct}
 use Rattle.definitions.specs.Statements.{is_kw}
 use Rattle.definitions.specs.Family.{Family, fam_of}
 use Rattle.definitions.specs.ToFor.{is_step}
 use Rattle.text.proofs.Texts.{≟_length}
-use Rattle.pieces.specs.Pieces.{piece, origin, cut_place, jumped}
+use Rattle.family.specs.declared.Register.{Register}
+use Rattle.family.specs.Register.{family_of}
+use Rattle.pieces.specs.Pieces.{piece, origin, cut_place, jumped, Says}
+use Rattle.pieces.specs.declared.piece.Piece.{Piece}
+use Rattle.pieces.specs.declared.piece.Piece.TheVariants.{Kept, Continued, Broken, Closed}
 use Rattle.pieces.specs.Counting.{text_between, adds_to, jumped_steps, jumped_family, piece_rest}
 use Rattle.pieces.proofs.Forms.{place_within, kept_piece, continued_piece, broken_piece, closed_piece}
 use Rattle.pieces.proofs.Backs.{text_append}
@@ -112,31 +117,38 @@ module _ (l : Line) (n : ℕ) (c : n ≡ cut_place l) where
 
 pub ruleset jumps = (jumped_none, jumped_some, no_family, its_family)
 
-module _ (C : List Line) (p : ℕ) where
-  pub steps_kept : (r : Bool) → p % 4 ≡ 0 → r ≡ is_step (text (drop 1 (origin C p).tokens)) → r ≡ is_step (piece_rest C p)
-  steps_kept r e d = rw (kept_piece C p e) d
+module _ (C : List Line) (p i : ℕ) where
+  pub steps_kept : Says p (Kept i) → (r : Bool) → r ≡ is_step (text (drop 1 (line C i).tokens)) → r ≡ is_step (piece_rest C p)
+  steps_kept s r d = rw (kept_piece C p s.form, ← s.line) d
 
-  pub steps_continued : (r : Bool) → p % 4 ≡ 1 → r ≡ jumped_steps (origin C p) → r ≡ is_step (piece_rest C p)
-  steps_continued r e d = d ∙ sym (cut_steps (ascii "continue") continue_step (origin C p)) ∙ ap (λ ts. is_step (text (drop 1 ts))) (sym (continued_piece C p e))
+  steps_continued : Says p (Continued i) → (r : Bool) → r ≡ jumped_steps (line C i) → r ≡ is_step (piece_rest C p)
+  steps_continued s r d = rw (continued_piece C p s.form, ← s.line) (d ∙ sym (cut_steps (ascii "continue") continue_step (line C i)))
 
-  pub steps_broken : (r : Bool) → p % 4 ≡ 2 → r ≡ jumped_steps (origin C p) → r ≡ is_step (piece_rest C p)
-  steps_broken r e d = d ∙ sym (cut_steps (ascii "break") break_step (origin C p)) ∙ ap (λ ts. is_step (text (drop 1 ts))) (sym (broken_piece C p e))
+  steps_broken : Says p (Broken i) → (r : Bool) → r ≡ jumped_steps (line C i) → r ≡ is_step (piece_rest C p)
+  steps_broken s r d = rw (broken_piece C p s.form, ← s.line) (d ∙ sym (cut_steps (ascii "break") break_step (line C i)))
 
-  pub steps_closed : (p % 4 ≡ 0 → ⊥) → (p % 4 ≡ 1 → ⊥) → (p % 4 ≡ 2 → ⊥) → false ≡ is_step (piece_rest C p)
+  pub steps_closed : Says p (Closed i) → false ≡ is_step (piece_rest C p)
   unfolding text starts_with ◌≟◌
-  steps_closed a b c = rw (closed_piece C p a b c)
+  steps_closed s = rw (closed_piece C p s.form)
 
-  pub family_kept : (o : Option Family) → p % 4 ≡ 0 → o ≡ fam_of (token (origin C p) 0) → o ≡ fam_of (token (piece C p) 0)
-  family_kept o e d = rw (kept_piece C p e) d
+  pub steps_cut : (q : Piece) → Says p q → (q ≡ Continued i) ⊎ (q ≡ Broken i) → (r : Bool) → r ≡ jumped_steps (line C i) → r ≡ is_step (piece_rest C p)
+  steps_cut q s (inl e) r d = steps_continued (rw e at s) r d
+  steps_cut q s (inr e) r d = steps_broken (rw e at s) r d
 
-  pub family_continued : (o : Option Family) → p % 4 ≡ 1 → o ≡ jumped_family (origin C p) → o ≡ fam_of (token (piece C p) 0)
-  family_continued o e d = d ∙ sym (cut_family (ascii "continue") continue_step (origin C p)) ∙ ap (λ ts. fam_of (get_or ts 0 no_token)) (sym (continued_piece C p e))
+  module _ (r : Option Register) where
+    pub family_kept : Says p (Kept i) → family_of (token (line C i) 0).text r ≡ fam_of (token (line C i) 0) → family_of (token (origin C p) 0).text r ≡ fam_of (token (piece C p) 0)
+    family_kept s d = rw (kept_piece C p s.form, ← s.line) d
 
-  pub family_broken : (o : Option Family) → p % 4 ≡ 2 → o ≡ jumped_family (origin C p) → o ≡ fam_of (token (piece C p) 0)
-  family_broken o e d = d ∙ sym (cut_family (ascii "break") break_step (origin C p)) ∙ ap (λ ts. fam_of (get_or ts 0 no_token)) (sym (broken_piece C p e))
+    pub family_continued : Says p (Continued i) → family_of (token (line C i) 0).text r ≡ jumped_family (line C i) → family_of (token (origin C p) 0).text r ≡ fam_of (token (piece C p) 0)
+    family_continued s d = rw (continued_piece C p s.form, ← s.line) (d ∙ sym (cut_family (ascii "continue") continue_step (line C i)))
 
-  pub family_closed : (p % 4 ≡ 0 → ⊥) → (p % 4 ≡ 1 → ⊥) → (p % 4 ≡ 2 → ⊥) → None ≡ fam_of (token (piece C p) 0)
+    pub family_broken : Says p (Broken i) → family_of (token (line C i) 0).text r ≡ jumped_family (line C i) → family_of (token (origin C p) 0).text r ≡ fam_of (token (piece C p) 0)
+    family_broken s d = rw (broken_piece C p s.form, ← s.line) (d ∙ sym (cut_family (ascii "break") break_step (line C i)))
+
+  pub family_closed : Says p (Closed i) → None ≡ fam_of (token (piece C p) 0)
   unfolding fam_of
-  family_closed a b c = rw (closed_piece C p a b c)
+  family_closed s = rw (closed_piece C p s.form)
 
-pub ruleset stepping = (steps_kept, steps_continued, steps_broken, steps_closed, family_kept, family_continued, family_broken, family_closed)
+pub ruleset stepping = (steps_kept, steps_cut, steps_closed, family_kept, family_continued, family_broken, family_closed)
+
+pub ruleset counting = (between_is, adding, jumps, stepping)

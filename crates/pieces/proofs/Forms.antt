@@ -1,8 +1,8 @@
 -- What a piece reads, by its form, as rules for `search`.
 --   place_before          what stands before the first goto
 --   kept_piece, continued_piece, broken_piece, closed_piece    the tokens of a piece
---   label_kept, label_other           labels
---   target_kept, target_other         goto targets
+--   label_kept, label_other, label_not_kept       labels
+--   target_kept, target_other, target_not_kept    goto targets
 --   cut_here, cut_whole               the place of the first goto
 --   continue_kept, continue_is, continue_before, continue_closed    the keyword continue
 --   brace_kept, brace_continued, brace_broken, brace_closed         the lone brace
@@ -19,7 +19,7 @@ use borrow.Author.Tests.{lt-ltb, le-ltb}
 use lib.Dec.{ltb}
 use lib.ListN.{length, take, length-append}
 use Rattle.definitions.specs.Lists.{or_else, any, position, take_while, ◌≟◌, ascii}
-use Rattle.definitions.specs.Model.{Token, Line, tok, pseudo_line, text, Keyword, Punct}
+use Rattle.definitions.specs.Model.{Token, Line, tok, pseudo_line, line, text, Keyword, Punct}
 use Rattle.definitions.specs.Statements.{is_kw, has_kw, is_label, goto_target}
 use Rattle.definitions.specs.Passes.{lone_brace}
 use Rattle.definitions.specs.RecoverGotoLoops.{jump_line}
@@ -27,7 +27,10 @@ use Rattle.text.proofs.Texts.{≟_length}
 use Rattle.loop_theory.proofs.Cases.{or_split}
 use Rattle.loop_theory.proofs.Jumps.{jump_line_no_label, jump_line_has_no_goto}
 use Rattle.plan.specs.Plan.{form_tokens, form_of}
-use Rattle.pieces.specs.Pieces.{piece, origin, cut_place, jumped, comes_before}
+use Rattle.pseudo_opt.specs.Places.{text_at}
+use Rattle.pieces.specs.Pieces.{piece, origin, cut_place, jumped, comes_before, Says}
+use Rattle.pieces.specs.declared.piece.Piece.{Piece}
+use Rattle.pieces.specs.declared.piece.Piece.TheVariants.{Kept, Continued, Broken, Closed}
 
 -- What stands before the first that passes
 
@@ -117,9 +120,15 @@ module _ (C : List Line) (p : ℕ) where
   unfolding form_of form_tokens cut_place
   broken_piece e = rw e (ap (λ ts. ts ++ (tok (ascii "break") Keyword ∷ tok (ascii ";") Punct ∷ [])) (place_before (is_kw (ascii "goto")) (origin C p).tokens))
 
-  pub closed_piece : (p % 4 ≡ 0 → ⊥) → (p % 4 ≡ 1 → ⊥) → (p % 4 ≡ 2 → ⊥) → (piece C p).tokens ≡ tok (ascii "}") Punct ∷ []
+  pub closed_piece : p % 4 ≡ 3 → (piece C p).tokens ≡ tok (ascii "}") Punct ∷ []
   unfolding form_of form_tokens
-  closed_piece a b c = let e : p % 4 ≡ 3 = omega arith in rw e
+  closed_piece e = rw e
+
+  not_kept : (q : Piece) → Says p q → ((i : ℕ) → q ≡ Kept i → ⊥) → p % 4 ≡ 0 → ⊥
+  not_kept (Kept i) s n e = n i refl
+  not_kept (Continued i) s n e = omega (arith, s.form)
+  not_kept (Broken i) s n e = omega (arith, s.form)
+  not_kept (Closed i) s n e = omega (arith, s.form)
 
   -- what holds of the others
   module _ (P : List Token → Type 0) where
@@ -136,9 +145,9 @@ module _ (C : List Line) (p : ℕ) where
 
   -- Labels
 
-  pub label_kept : (r : Bool) → p % 4 ≡ 0 → r ≡ is_label (origin C p) → r ≡ is_label (piece C p)
+  pub label_kept : (i : ℕ) → Says p (Kept i) → (r : Bool) → r ≡ is_label (line C i) → r ≡ is_label (piece C p)
   unfolding is_label
-  label_kept r e f = rw (kept_piece e) f
+  label_kept i s r e = rw (kept_piece s.form) (rw s.line at e)
 
   pub label_other : (p % 4 ≡ 0 → ⊥) → false ≡ is_label (piece C p)
   unfolding is_label
@@ -146,11 +155,14 @@ module _ (C : List Line) (p : ℕ) where
       other_piece (λ ts. false ≡ is_label (pseudo_line None 1 ts)) h (sym (jump_line_no_label (ascii "continue") (origin C p)))
       (sym (jump_line_no_label (ascii "break") (origin C p))) refl
 
+  pub label_not_kept : (q : Piece) → Says p q → ((i : ℕ) → q ≡ Kept i → ⊥) → false ≡ is_label (piece C p)
+  label_not_kept q s n = label_other (not_kept q s n)
+
   -- Gotos
 
-  pub target_kept : (o : Option (List ℕ)) → p % 4 ≡ 0 → o ≡ goto_target (origin C p) → o ≡ goto_target (piece C p)
+  pub target_kept : (i : ℕ) → Says p (Kept i) → (o : Option ℕ) → text_at (line C i) o ≡ goto_target (line C i) → text_at (origin C p) o ≡ goto_target (piece C p)
   unfolding goto_target
-  target_kept o e f = rw (kept_piece e) f
+  target_kept i s o e = rw (kept_piece s.form) (rw s.line at e)
 
   pub target_other : (p % 4 ≡ 0 → ⊥) → None ≡ goto_target (piece C p)
   target_other h =
@@ -160,48 +172,51 @@ module _ (C : List Line) (p : ℕ) where
       nowhere : (l : Line) → has_kw l (ascii "goto") ≡ false → None ≡ goto_target (pseudo_line None 1 l.tokens)
       nowhere l e = unfold goto_target in rw (no_place (is_kw (ascii "goto")) l.tokens (unfold has_kw in e))
 
+  pub target_not_kept : (q : Piece) → Says p q → ((i : ℕ) → q ≡ Kept i → ⊥) → None ≡ goto_target (piece C p)
+  target_not_kept q s n = target_other (not_kept q s n)
+
   -- The keyword continue
 
-  pub continue_kept : (r : Bool) → p % 4 ≡ 0 → r ≡ has_kw (origin C p) (ascii "continue") → r ≡ has_kw (piece C p) (ascii "continue")
+  pub continue_kept : (i : ℕ) → Says p (Kept i) → (r : Bool) → r ≡ has_kw (line C i) (ascii "continue") → r ≡ has_kw (piece C p) (ascii "continue")
   unfolding has_kw
-  continue_kept r e f = rw (kept_piece e) f
+  continue_kept i s r e = rw (kept_piece s.form) (rw s.line at e)
 
-  pub continue_is : p % 4 ≡ 1 → true ≡ has_kw (piece C p) (ascii "continue")
+  pub continue_is : (i : ℕ) → Says p (Continued i) → true ≡ has_kw (piece C p) (ascii "continue")
   unfolding has_kw
-  continue_is e = rw (continued_piece e) (sym (with_continue (take (cut_place (origin C p)) (origin C p).tokens)))
+  continue_is i s = rw (continued_piece s.form) (sym (with_continue (take (cut_place (origin C p)) (origin C p).tokens)))
 
-  pub continue_before : (f : Option ℕ) (g : ℕ) (r : Bool) → p % 4 ≡ 2 → f ≡ position (is_kw (ascii "continue")) (origin C p).tokens → g ≡ cut_place (origin C p)
+  pub continue_before : (i : ℕ) → Says p (Broken i) → (f : Option ℕ) (g : ℕ) (r : Bool) → f ≡ position (is_kw (ascii "continue")) (line C i).tokens → g ≡ cut_place (line C i)
       → r ≡ comes_before f g → r ≡ has_kw (piece C p) (ascii "continue")
   unfolding has_kw
-  continue_before f g r e q d h =
-      h ∙ rw (broken_piece e, d, q)
+  continue_before i s f g r d q h =
+      h ∙ rw (broken_piece s.form, rw s.line at d, rw s.line at q)
       (sym (any_before (is_kw (ascii "continue")) (origin C p).tokens (cut_place (origin C p)))
       ∙ sym (with_break (take (cut_place (origin C p)) (origin C p).tokens)))
 
-  module _ (a : p % 4 ≡ 0 → ⊥) (b : p % 4 ≡ 1 → ⊥) (c : p % 4 ≡ 2 → ⊥) where
+  module _ (i : ℕ) (s : Says p (Closed i)) where
     pub continue_closed : false ≡ has_kw (piece C p) (ascii "continue")
     unfolding has_kw any ◌≟◌
-    continue_closed = rw (closed_piece a b c)
+    continue_closed = rw (closed_piece s.form)
 
     pub brace_closed : true ≡ lone_brace (piece C p)
     unfolding text ◌≟◌
-    brace_closed = rw (closed_piece a b c)
+    brace_closed = rw (closed_piece s.form)
 
   -- The lone brace
 
-  pub brace_kept : (r : Bool) → p % 4 ≡ 0 → r ≡ lone_brace (origin C p) → r ≡ lone_brace (piece C p)
-  brace_kept r e f = rw (kept_piece e) f
+  pub brace_kept : (i : ℕ) → Says p (Kept i) → (r : Bool) → r ≡ lone_brace (line C i) → r ≡ lone_brace (piece C p)
+  brace_kept i s r e = rw (kept_piece s.form) (rw s.line at e)
 
   no_brace : (ts : List Token) (kw : List ℕ) → 2 ≤ length kw → false ≡ (text (ts ++ (tok kw Keyword ∷ tok (ascii ";") Punct ∷ [])) ≟ ascii "}")
   no_brace ts kw h = sym (≟_length (text (ts ++ (tok kw Keyword ∷ tok (ascii ";") Punct ∷ []))) (ascii "}") (λ e. omega (arith, many ts kw h)))
 
-  pub brace_continued : p % 4 ≡ 1 → false ≡ lone_brace (piece C p)
-  brace_continued e = rw (continued_piece e) (no_brace (take (cut_place (origin C p)) (origin C p).tokens) (ascii "continue") (omega arith))
+  pub brace_continued : (i : ℕ) → Says p (Continued i) → false ≡ lone_brace (piece C p)
+  brace_continued i s = rw (continued_piece s.form) (no_brace (take (cut_place (origin C p)) (origin C p).tokens) (ascii "continue") (omega arith))
 
-  pub brace_broken : p % 4 ≡ 2 → false ≡ lone_brace (piece C p)
-  brace_broken e = rw (broken_piece e) (no_brace (take (cut_place (origin C p)) (origin C p).tokens) (ascii "break") (omega arith))
+  pub brace_broken : (i : ℕ) → Says p (Broken i) → false ≡ lone_brace (piece C p)
+  brace_broken i s = rw (broken_piece s.form) (no_brace (take (cut_place (origin C p)) (origin C p).tokens) (ascii "break") (omega arith))
 
-pub ruleset reads = (label_kept, label_other, target_kept, target_other, continue_kept, continue_is, continue_before, continue_closed, brace_kept, brace_continued, brace_broken, brace_closed)
+pub ruleset reads = (label_kept, label_not_kept, target_kept, target_not_kept, continue_kept, continue_is, continue_before, continue_closed, brace_kept, brace_continued, brace_broken, brace_closed)
 
 -- The place of the first goto
 

@@ -8,7 +8,7 @@ use Rattle.std.specs.Option.{option_map}
 use mathlib.Core.Path.{◌≡◌, refl, sym, ap, ◌∙◌}
 use mathlib.Core.Bool.{Bool, true, false, ◌&&◌, ◌||◌, not, cond, and-false, and_assoc, or-false, or_assoc}
 use mathlib.Core.List.{List, [], ◌∷◌, ◌++◌, append-nil, append_assoc}
-use Prim.Native.Nat.{ℕ, zero, suc, ◌+◌, ◌-◌, ◌%◌, ◌≤◌, ◌<◌}
+use Prim.Native.Nat.{ℕ, zero, suc, ◌+◌, ◌-◌, ◌≤◌, ◌<◌}
 use native.Mathlib.Nat.{not-suc-le-zero, le_of_suc-le-suc}
 use native.Mathlib.Omega.{arith}
 use borrow.Author.Tests.{eq-eqb, ne_eqb, le-leb, lt-leb, lt-ltb, le-ltb}
@@ -16,7 +16,7 @@ use lib.Dec.{eqb, leb, ltb}
 use lib.ListN.{length, get_or, take, drop, length-append}
 use lib.Seq.{get_or-take, length-take-le, take_at}
 use Rattle.definitions.specs.Lists.{◌>>=◌, require, is_some, any, last, ◌≟◌, starts_with, ascii}
-use Rattle.definitions.specs.Model.{Token, Line, tok, pseudo_line, token, no_token, Register, Keyword, Symbol, Punct}
+use Rattle.definitions.specs.Model.{Token, Line, tok, pseudo_line, token, line, no_token, Register, Keyword, Symbol, Punct}
 use Rattle.definitions.specs.Statements.{Assignment, is_kw, is_callee, callee, call_at, assignment, unless_empty, is_empty, without_semicolon}
 use Rattle.definitions.specs.Family.{Family, fam_of, names}
 use Rattle.text.proofs.Loops.{any_found, any_next, any_end}
@@ -25,7 +25,8 @@ use Rattle.family.specs.Register.{names_family}
 use Rattle.assignment.specs.Assignments.{side, assigned}
 use Rattle.assignment.specs.declared.Side.{Side}
 use Rattle.plan.specs.ForLoop.{inits, passes}
-use Rattle.pieces.specs.Pieces.{piece, origin, cut_place, jumped, comes_before}
+use Rattle.pieces.specs.Pieces.{piece, origin, cut_place, jumped, comes_before, Says}
+use Rattle.pieces.specs.declared.piece.Piece.TheVariants.{Kept, Continued, Broken, Closed}
 use Rattle.pieces.specs.Initial.{cut_from, cut_assigns, calls_next, cut_calls, cut_inits, cut_passes}
 use Rattle.pieces.proofs.Forms.{ltb_suc, place_within, kept_piece, continued_piece, broken_piece, closed_piece}
 
@@ -349,42 +350,43 @@ names_plain (Some f) s k e = named (fam_of (tok s k)) (unfold fam_of in rw e) re
     named : (o : Option Family) → fam_of (tok s k) ≡ None → fam_of (tok s k) ≡ o → names f.name (tok s k) ≡ false
     named o q r = unfold names in rw (q, names)
 
-module _ (o : Option Family) (C : List Line) (q : ℕ) where
-  pub inits_kept : (r : Bool) → q % 4 ≡ 0 → r ≡ inits (names_family o) (origin C q) → r ≡ inits (names_family o) (piece C q)
+module _ (o : Option Family) (C : List Line) (q i : ℕ) where
+  pub inits_kept : Says q (Kept i) → (r : Bool) → r ≡ inits (names_family o) (line C i) → r ≡ inits (names_family o) (piece C q)
   unfolding inits assignment
-  inits_kept r e d = rw (kept_piece C q e) d
+  inits_kept s r d = rw (kept_piece C q s.form, ← s.line) d
 
-  pub inits_continued : (r : Bool) → q % 4 ≡ 1 → r ≡ cut_inits (names_family o) (origin C q) → r ≡ inits (names_family o) (piece C q)
-  inits_continued r e d =
-      d ∙ sym (cut_inits_jumped (names_family o) (ascii "continue") (names_plain o) None 1 (origin C q))
-      ∙ ap (λ ts. inits (names_family o) (pseudo_line None 1 ts)) (sym (continued_piece C q e))
+  pub inits_continued : Says q (Continued i) → (r : Bool) → r ≡ cut_inits (names_family o) (line C i) → r ≡ inits (names_family o) (piece C q)
+  inits_continued s r d =
+      rw s.line at d ∙ sym (cut_inits_jumped (names_family o) (ascii "continue") (names_plain o) None 1 (origin C q))
+      ∙ ap (λ ts. inits (names_family o) (pseudo_line None 1 ts)) (sym (continued_piece C q s.form))
 
-  pub inits_broken : (r : Bool) → q % 4 ≡ 2 → r ≡ cut_inits (names_family o) (origin C q) → r ≡ inits (names_family o) (piece C q)
-  inits_broken r e d =
-      d ∙ sym (cut_inits_jumped (names_family o) (ascii "break") (names_plain o) None 1 (origin C q))
-      ∙ ap (λ ts. inits (names_family o) (pseudo_line None 1 ts)) (sym (broken_piece C q e))
+  pub inits_broken : Says q (Broken i) → (r : Bool) → r ≡ cut_inits (names_family o) (line C i) → r ≡ inits (names_family o) (piece C q)
+  inits_broken s r d =
+      rw s.line at d ∙ sym (cut_inits_jumped (names_family o) (ascii "break") (names_plain o) None 1 (origin C q))
+      ∙ ap (λ ts. inits (names_family o) (pseudo_line None 1 ts)) (sym (broken_piece C q s.form))
 
-  pub passes_kept : (r : Bool) → q % 4 ≡ 0 → r ≡ passes (names_family o) (origin C q) → r ≡ passes (names_family o) (piece C q)
+  pub inits_closed : Says q (Closed i) → false ≡ inits (names_family o) (piece C q)
+  unfolding inits assignment
+  inits_closed s = rw (closed_piece C q s.form)
+
+  pub passes_kept : Says q (Kept i) → (r : Bool) → r ≡ passes (names_family o) (line C i) → r ≡ passes (names_family o) (piece C q)
   unfolding passes assignment
-  passes_kept r e d = rw (kept_piece C q e) d
+  passes_kept s r d = rw (kept_piece C q s.form, ← s.line) d
 
-  pub passes_continued : (r : Bool) → q % 4 ≡ 1 → r ≡ cut_passes (names_family o) (origin C q) → r ≡ passes (names_family o) (piece C q)
-  passes_continued r e d =
-      d ∙ sym (cut_passes_jumped (names_family o) (ascii "continue") (names_plain o) None 1 (origin C q) (unfold starts_with in refl))
-      ∙ ap (λ ts. passes (names_family o) (pseudo_line None 1 ts)) (sym (continued_piece C q e))
+  pub passes_continued : Says q (Continued i) → (r : Bool) → r ≡ cut_passes (names_family o) (line C i) → r ≡ passes (names_family o) (piece C q)
+  passes_continued s r d =
+      rw s.line at d ∙ sym (cut_passes_jumped (names_family o) (ascii "continue") (names_plain o) None 1 (origin C q) (unfold starts_with in refl))
+      ∙ ap (λ ts. passes (names_family o) (pseudo_line None 1 ts)) (sym (continued_piece C q s.form))
 
-  pub passes_broken : (r : Bool) → q % 4 ≡ 2 → r ≡ cut_passes (names_family o) (origin C q) → r ≡ passes (names_family o) (piece C q)
-  passes_broken r e d =
-      d ∙ sym (cut_passes_jumped (names_family o) (ascii "break") (names_plain o) None 1 (origin C q) (unfold starts_with in refl))
-      ∙ ap (λ ts. passes (names_family o) (pseudo_line None 1 ts)) (sym (broken_piece C q e))
+  pub passes_broken : Says q (Broken i) → (r : Bool) → r ≡ cut_passes (names_family o) (line C i) → r ≡ passes (names_family o) (piece C q)
+  passes_broken s r d =
+      rw s.line at d ∙ sym (cut_passes_jumped (names_family o) (ascii "break") (names_plain o) None 1 (origin C q) (unfold starts_with in refl))
+      ∙ ap (λ ts. passes (names_family o) (pseudo_line None 1 ts)) (sym (broken_piece C q s.form))
 
-  module _ (a : q % 4 ≡ 0 → ⊥) (b : q % 4 ≡ 1 → ⊥) (c : q % 4 ≡ 2 → ⊥) where
-    pub inits_closed : false ≡ inits (names_family o) (piece C q)
-    unfolding inits assignment
-    inits_closed = rw (closed_piece C q a b c)
-
-    pub passes_closed : false ≡ passes (names_family o) (piece C q)
-    unfolding passes assignment
-    passes_closed = rw (closed_piece C q a b c)
+  pub passes_closed : Says q (Closed i) → false ≡ passes (names_family o) (piece C q)
+  unfolding passes assignment
+  passes_closed s = rw (closed_piece C q s.form)
 
 pub ruleset init_pieces = (inits_kept, inits_continued, inits_broken, inits_closed, passes_kept, passes_continued, passes_broken, passes_closed)
+
+pub ruleset initial = (init_lines, cut_tokens, cut_callees, cut_lines, init_pieces)

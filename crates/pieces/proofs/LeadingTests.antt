@@ -9,7 +9,7 @@ use Rattle.std.specs.Option.{option_map}
 use mathlib.Core.Path.{◌≡◌, refl, sym, ap, ap₂, ◌∙◌}
 use mathlib.Core.Bool.{Bool, true, false, cond, and-true, and-false}
 use mathlib.Core.List.{List, [], ◌∷◌, ◌++◌}
-use Prim.Native.Nat.{ℕ, zero, suc, ◌+◌, ◌-◌, ◌%◌, ◌≤◌, ◌<◌}
+use Prim.Native.Nat.{ℕ, zero, suc, ◌+◌, ◌-◌, ◌≤◌, ◌<◌}
 use native.Mathlib.Nat.{not-suc-le-zero, le_of_suc-le-suc, sub-zero, zero-add}
 use native.Mathlib.Decide.{dec_le}
 use native.Mathlib.Omega.{arith}
@@ -18,15 +18,16 @@ use lib.Dec.{eqb, leb}
 use lib.ListN.{length, get_or, take, drop, length-append, length-drop}
 use lib.Seq.{take-append-le, drop-append-le, drop-append-add, length-take-le}
 use Rattle.definitions.specs.Lists.{◌>>=◌, require, position, first, last, part, on_first, ◌≟◌, starts_with, ends_with, ascii}
-use Rattle.definitions.specs.Model.{Token, Line, tok, pseudo_line, token, no_token, text, Keyword, Punct}
+use Rattle.definitions.specs.Model.{Token, Line, tok, pseudo_line, token, line, no_token, text, Keyword, Punct}
 use Rattle.definitions.specs.Statements.{is_kw}
 use Rattle.definitions.specs.Condition.{cut_front, cut, negate_cond}
 use Rattle.definitions.specs.RecoverGotoLoops.{leading_test}
 use Rattle.text.proofs.Parts.{part_get, part_none, part_tail, part_part, length_part}
 use Rattle.negate.specs.Tests.{test, test_count}
 use Rattle.negate.proofs.TestTokens.{at_first, length_first}
-use Rattle.pieces.specs.Pieces.{piece, origin, cut_place, jumped, text_before}
-use Rattle.pieces.specs.Leading.{test_at, tested, first_of}
+use Rattle.pieces.specs.Pieces.{piece, origin, cut_place, jumped, text_before, Says}
+use Rattle.pieces.specs.declared.piece.Piece.TheVariants.{Kept, Continued, Broken, Closed}
+use Rattle.pieces.specs.Leading.{leading, test_at, tested, first_of}
 use Rattle.pieces.proofs.Forms.{kept_piece, continued_piece, broken_piece, closed_piece, place_within}
 use Rattle.pieces.proofs.Backs.{text_append, split}
 
@@ -264,20 +265,23 @@ continued_no l =
     ap (ends_with (ascii ") break;")) (text_append (take (cut_place l) l.tokens) (tok (ascii "continue") Keyword ∷ tok (ascii ";") Punct ∷ [])) ∙ no_break s in
     rw (e, and-false (is_kw (ascii "if") (get_or (jumped (ascii "continue") l) 0 no_token)))
 
-module _ (C : List Line) (p : ℕ) where
-  pub tested_kept : (o : Option (List Token)) → p % 4 ≡ 0 → o ≡ tested (origin C p).tokens → o ≡ leading_test (piece C p) 0
-  tested_kept o e d = d ∙ ap tested (sym (kept_piece C p e)) ∙ sym (leading_is (piece C p).tokens)
+closed_no : None ≡ tested (tok (ascii "}") Punct ∷ [])
+unfolding tested ◌≟◌
+closed_no = refl
 
-  pub tested_broken : (o : Option (List Token)) → p % 4 ≡ 2 → o ≡ tested (jumped (ascii "break") (origin C p)) → o ≡ leading_test (piece C p) 0
-  tested_broken o e d = d ∙ ap tested (sym (broken_piece C p e)) ∙ sym (leading_is (piece C p).tokens)
+module _ (C : List Line) (p i : ℕ) where
+  pub tested_kept : Says p (Kept i) → (r : Option ℕ) → leading (line C i) r ≡ tested (line C i).tokens → leading (origin C p) r ≡ leading_test (piece C p) 0
+  tested_kept s r d = rw s.line at d ∙ ap tested (sym (kept_piece C p s.form)) ∙ sym (leading_is (piece C p).tokens)
 
-  pub tested_continued : p % 4 ≡ 1 → None ≡ leading_test (piece C p) 0
-  tested_continued e = continued_no (origin C p) ∙ ap tested (sym (continued_piece C p e)) ∙ sym (leading_is (piece C p).tokens)
+  pub tested_broken : Says p (Broken i) → (r : Option ℕ) → leading (line C i) r ≡ tested (jumped (ascii "break") (line C i)) → leading (origin C p) r ≡ leading_test (piece C p) 0
+  tested_broken s r d = rw s.line at d ∙ ap tested (sym (broken_piece C p s.form)) ∙ sym (leading_is (piece C p).tokens)
 
-  pub tested_closed : (p % 4 ≡ 0 → ⊥) → (p % 4 ≡ 1 → ⊥) → (p % 4 ≡ 2 → ⊥) → None ≡ leading_test (piece C p) 0
-  tested_closed a b c = closed_no ∙ ap tested (sym (closed_piece C p a b c)) ∙ sym (leading_is (piece C p).tokens)
-    where
-      closed_no : None ≡ tested (tok (ascii "}") Punct ∷ [])
-      closed_no = unfold tested ◌≟◌ in refl
+  pub tested_continued : Says p (Continued i) → None ≡ leading_test (piece C p) 0
+  tested_continued s = continued_no (origin C p) ∙ ap tested (sym (continued_piece C p s.form)) ∙ sym (leading_is (piece C p).tokens)
 
-pub ruleset leads = (tested_kept, tested_broken, tested_continued, tested_closed)
+  pub tested_closed : Says p (Closed i) → None ≡ leading_test (piece C p) 0
+  tested_closed s = closed_no ∙ ap tested (sym (closed_piece C p s.form)) ∙ sym (leading_is (piece C p).tokens)
+
+pub ruleset leads = (tested_kept, tested_continued, tested_broken, tested_closed)
+
+pub ruleset leading_rules = (tests, keeps, firsts, breaks, leads)

@@ -7,12 +7,17 @@
 --   jumped kw l         the tokens of line l before its first goto, then `kw ;`
 --   JumpWord kw         no byte of `goto ` is the first of kw
 --   comes_before o g    the place o is below g
+--   number q            the number of the piece's form
+--   source q            the line that the piece q is made of
+--   Says p q            the word p says the piece q
 -- Assumes nothing.
-use Rattle.std.specs.Prelude.{ℕ, ◌/◌, Bool, false, ◌≡◌, List, [], ◌∷◌, ◌++◌, eqb, ltb, length, take, Option, None, Some}
+use Rattle.std.specs.Prelude.{ℕ, ◌/◌, ◌%◌, Bool, false, ◌≡◌, List, [], ◌∷◌, ◌++◌, eqb, ltb, length, take, Option, None, Some}
 use Rattle.definitions.specs.Lists.{or_else, position, ascii}
 use Rattle.definitions.specs.Model.{Token, Line, tok, line, text, Keyword, Punct}
 use Rattle.definitions.specs.Statements.{is_kw}
 use Rattle.plan.specs.Plan.{piece_of, piece_line}
+use Rattle.pieces.specs.declared.piece.Piece.{Piece}
+use Rattle.pieces.specs.declared.piece.Piece.TheVariants.{Kept, Continued, Broken, Closed}
 
 abbrev pub piece : List Line → ℕ → Line
 piece C p = piece_line C (piece_of p)
@@ -44,3 +49,19 @@ pub record JumpWord (kw : List ℕ) : Type 0 where
   pub no_o : eqb start 111 ≡ false
   pub no_t : eqb start 116 ≡ false
   pub no_blank : eqb start 32 ≡ false
+
+abbrev pub number : Piece → ℕ
+number (Kept i) = 0
+number (Continued i) = 1
+number (Broken i) = 2
+number (Closed i) = 3
+
+abbrev pub source : Piece → ℕ
+source (Kept i) = i
+source (Continued i) = i
+source (Broken i) = i
+source (Closed i) = i
+
+pub record Says (p : ℕ) (q : Piece) : Type 0 where
+  pub form : p % 4 ≡ number q
+  pub line : source q ≡ p / 4

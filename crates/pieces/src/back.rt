@@ -1,4 +1,6 @@
 // The back edge: the text of a piece against `goto h;`, byte by byte where it stands.
+#![tactic(auto, using(crate::proofs::Backs::texts))]
+
 ghost use Rattle.std.specs.Prelude.{◌≡◌, true, ◌++◌, ◌-◌};
 ghost use Rattle.definitions.specs.Lists.{◌≟◌, ascii};
 ghost use Rattle.definitions.specs.Model.{line};
@@ -6,6 +8,7 @@ ghost use Rattle.definitions.specs.Questions.{question_2};
 ghost use Rattle.model.specs.Listings.{listing_of};
 ghost use Rattle.pieces.specs.Pieces.{piece_text, text_before, JumpWord};
 
+use crate::piece::Piece;
 use crate::reading::cut_place;
 use model::listing::Listing;
 use pseudo_types::texts::text_from;
@@ -32,11 +35,7 @@ fn joins(a: &[u8], b: &[u8], s: &[u8]) -> bool
 fn kept_reads(s: &[u8], h: &[u8]) -> bool
     ensures { result ≡ (s.now ≟ (ascii "goto " ++ (h.now ++ ascii ";"))) }
 {
-    if text::starts_with(s, b"goto ") {
-        joins(h, b";", text::part(s, 5, s.len()))
-    } else {
-        false
-    }
+    text::starts_with(s, b"goto ") && joins(h, b";", text::part(s, 5, s.len()))
 }
 
 // The text s, then `kw;`, reads `goto h;`.
@@ -53,11 +52,10 @@ pub fn is_back(code: &Listing, p: usize, h: &[u8]) -> bool
     ensures { let C = listing_of code.now in
         result ≡ (piece_text C p ≟ (ascii "goto " ++ (h.now ++ ascii ";"))) }
 {
-    let i = p / 4;
-    match p % 4 {
-        0 => kept_reads(text_from(code, i, 0), h),
-        1 => jump_reads(text_before(code, i, cut_place(code, i)), b"continue", h),
-        2 => jump_reads(text_before(code, i, cut_place(code, i)), b"break", h),
-        _ => false,
+    match Piece::of(p) {
+        Piece::Kept(i) => kept_reads(text_from(code, i, 0), h),
+        Piece::Continued(i) => jump_reads(text_before(code, i, cut_place(code, i)), b"continue", h),
+        Piece::Broken(i) => jump_reads(text_before(code, i, cut_place(code, i)), b"break", h),
+        Piece::Closed(_) => false,
     }
 }

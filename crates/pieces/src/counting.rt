@@ -2,6 +2,8 @@
 // looked up of.
 //
 // Contracts cite `is_step` of Rattle.definitions.specs.ToFor, `fam_of`, and `inits` and `passes` of Rattle.plan.specs.ForLoop.
+#![tactic(auto, using(crate::proofs::CountingRules::counting))]
+
 ghost use Rattle.std.specs.Prelude.{◌≡◌, true};
 ghost use Rattle.definitions.specs.Model.{token, line};
 ghost use Rattle.definitions.specs.Questions.{question_2};
@@ -12,6 +14,7 @@ ghost use Rattle.family.specs.Register.{family_of};
 ghost use Rattle.pieces.specs.Pieces.{piece, origin};
 ghost use Rattle.pieces.specs.Counting.{text_between, adds_to, jumped_steps, piece_rest, jumped_family};
 
+use crate::piece::Piece;
 use crate::reading::cut_place;
 use family::Register;
 use model::listing::Listing;
@@ -51,34 +54,33 @@ pub fn steps(code: &Listing, p: usize) -> bool
     requires { question_2 code.now.lines.now code.now.tokens.now code.now.text.now ≡ true }
     ensures { result ≡ is_step (piece_rest (listing_of code.now) p) }
 {
-    match p % 4 {
-        0 => pseudo_types::texts::is_step(code, p / 4),
-        1 => jumped_steps(code, p / 4),
-        2 => jumped_steps(code, p / 4),
-        _ => false,
+    match Piece::of(p) {
+        Piece::Kept(i) => pseudo_types::texts::is_step(code, i),
+        Piece::Continued(i) | Piece::Broken(i) => jumped_steps(code, i),
+        Piece::Closed(_) => false,
     }
 }
 
 // The family of the first token of line i, where the line does not start with its first goto.
-fn jumped_register(code: &Listing, i: usize) -> Register
+fn jumped_register(code: &Listing, i: usize) -> Option<Register>
     ensures { let l = line (listing_of code.now) i in
         family_of (token l 0).text result ≡ jumped_family l }
 {
     if cut_place(code, i) == 0 {
-        return Register::Nothing;
+        None
+    } else {
+        register_at(code, i, 0)
     }
-    register_at(code, i, 0)
 }
 
 // The family of the first token of the piece p.
-pub fn stepped(code: &Listing, p: usize) -> Register
+pub fn stepped(code: &Listing, p: usize) -> Option<Register>
     ensures { let C = listing_of code.now in
         family_of (token (origin C p) 0).text result ≡ fam_of (token (piece C p) 0) }
 {
-    match p % 4 {
-        0 => register_at(code, p / 4, 0),
-        1 => jumped_register(code, p / 4),
-        2 => jumped_register(code, p / 4),
-        _ => Register::Nothing,
+    match Piece::of(p) {
+        Piece::Kept(i) => register_at(code, i, 0),
+        Piece::Continued(i) | Piece::Broken(i) => jumped_register(code, i),
+        Piece::Closed(_) => None,
     }
 }

@@ -9,4 +9,5 @@ pub mod back;
 pub mod counting;
 pub mod initial;
 pub mod leading;
+pub mod piece;
 pub mod reading;

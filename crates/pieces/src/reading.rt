@@ -1,4 +1,7 @@
 // Labels, gotos, `continue` and the lone brace.
+
+#![tactic(auto, using(crate::proofs::Forms::reads, crate::proofs::Forms::cuts))]
+
 ghost use Rattle.std.specs.Prelude.{◌≡◌, true};
 ghost use Rattle.definitions.specs.Lists.{ascii};
 ghost use Rattle.definitions.specs.Model.{line};
@@ -9,6 +12,7 @@ ghost use Rattle.model.specs.Listings.{listing_of};
 ghost use Rattle.pseudo_opt.specs.Places.{text_at};
 ghost use Rattle.pieces.specs.Pieces.{piece, origin, cut_place, comes_before};
 
+use crate::piece::Piece;
 use model::listing::Listing;
 use pseudo_opt::keywords::{has_kw, keyword_at};
 
@@ -16,7 +20,10 @@ use pseudo_opt::keywords::{has_kw, keyword_at};
 pub fn is_label(code: &Listing, p: usize) -> bool
     ensures { result ≡ is_label (piece (listing_of code.now) p) }
 {
-    p % 4 == 0 && pseudo_opt::labels::is_label(code, p / 4)
+    match Piece::of(p) {
+        Piece::Kept(i) => pseudo_opt::labels::is_label(code, i),
+        _ => false,
+    }
 }
 
 // The symbol that its first goto leads to.
@@ -24,10 +31,10 @@ pub fn goto_symbol(code: &Listing, p: usize) -> Option<usize>
     ensures { let C = listing_of code.now in
         text_at (origin C p) result ≡ goto_target (piece C p) }
 {
-    if p % 4 == 0 {
-        return pseudo_opt::labels::goto_symbol(code, p / 4);
+    match Piece::of(p) {
+        Piece::Kept(i) => pseudo_opt::labels::goto_symbol(code, i),
+        _ => None,
     }
-    None
 }
 
 // The place of the first goto of line i, or behind its last token.
@@ -35,31 +42,28 @@ pub fn cut_place(code: &Listing, i: usize) -> usize
     ensures { let l = line (listing_of code.now) i in
         result ≡ cut_place l }
 {
-    let Some(g) = keyword_at(code, i, b"goto") else {
-        return code.token_count(i);
-    };
-    g
+    match keyword_at(code, i, b"goto") {
+        Some(g) => g,
+        None => code.token_count(i),
+    }
 }
 
 // The place is below g.
 pub fn comes_before(f: Option<usize>, g: usize) -> bool
     ensures { result ≡ comes_before (f) g }
 {
-    match f {
-        Some(k) => k < g,
-        None => false,
-    }
+    f.is_some_and(|k| k < g)
 }
 
 // The piece p has the keyword continue.
 pub fn has_continue(code: &Listing, p: usize) -> bool
     ensures { result ≡ has_kw (piece (listing_of code.now) p) (ascii "continue") }
 {
-    match p % 4 {
-        0 => has_kw(code, p / 4, b"continue"),
-        1 => true,
-        2 => comes_before(keyword_at(code, p / 4, b"continue"), cut_place(code, p / 4)),
-        _ => false,
+    match Piece::of(p) {
+        Piece::Kept(i) => has_kw(code, i, b"continue"),
+        Piece::Continued(_) => true,
+        Piece::Broken(i) => comes_before(keyword_at(code, i, b"continue"), cut_place(code, i)),
+        Piece::Closed(_) => false,
     }
 }
 
@@ -68,10 +72,9 @@ pub fn is_brace(code: &Listing, p: usize) -> bool
     requires { question_2 code.now.lines.now code.now.tokens.now code.now.text.now ≡ true }
     ensures { result ≡ lone_brace (piece (listing_of code.now) p) }
 {
-    match p % 4 {
-        0 => pseudo_types::texts::is_brace(code, p / 4),
-        1 => false,
-        2 => false,
-        _ => true,
+    match Piece::of(p) {
+        Piece::Kept(i) => pseudo_types::texts::is_brace(code, i),
+        Piece::Continued(_) | Piece::Broken(_) => false,
+        Piece::Closed(_) => true,
     }
 }

@@ -14,7 +14,7 @@ use borrow.Author.Tests.{lt-ltb}
 use lib.Dec.{eqb}
 use lib.ListN.{drop, get_or}
 use Rattle.definitions.specs.Lists.{◌>>=◌, require, is_some, or_else, any, position, position_from, first, last, filter, part, on_first, on_last, ◌≟◌, starts_with, ascii}
-use Rattle.definitions.specs.Model.{Token, Line, tok, no_token, pseudo_line, line, token, text, Keyword, Punct}
+use Rattle.definitions.specs.Model.{Token, Line, tok, no_token, pseudo_line, line, token, Keyword, Punct}
 use Rattle.definitions.specs.Family.{Family, fam_of, names}
 use Rattle.definitions.specs.Statements.{Assignment, is_kw, is_empty, call_at, assignment}
 use Rattle.definitions.specs.Condition.{cut_front, cut_end, closing, condition}

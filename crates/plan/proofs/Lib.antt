@@ -4,3 +4,4 @@ pub mod Rendered
 pub mod ForLoops
 pub mod Sources
 pub mod PassLoop
+pub mod Numbers

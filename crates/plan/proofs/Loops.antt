@@ -1,192 +1,73 @@
 -- The loops over a plan's words; each invariant is what is left to do.
---   Removing n i ws₀ ws j    removing word j of ws is removing word i of ws₀, of the first n
---   Sliding n i w ws₀ ws j    the same with word w removed too
---   Closing n w ws₀ ws k    removing words k and k + 1 of ws is removing words w - 1 and w of ws₀
 --   Moving n a e ws₀ ws k    moving out the lines from k on of ws is moving out those from a on of ws₀
 --   Starting l ws k          the first k words are those of the first k lines
---   removing, sliding, closing, moving, starting    the rules for `search`
+--   moving, starting         the rules for `search`
+--   moved_up, both_up        one word removed by the move of the words behind it, and two
 --   length_kept, kept_at     the words of the lines as they are
 --   made_for                 the header stored, two words removed: a for header is made
 -- Assumes nothing.
 use Prim.Native.Nat.{ℕ, zero, suc, ◌+◌, ◌-◌, ◌*◌, ◌%◌, ◌≤◌, ◌<◌}
-use mathlib.Core.Path.{◌≡◌, refl, sym, ap, ap₂, subst, ◌∙◌}
+use mathlib.Core.Path.{◌≡◌, refl, sym, ap, ap₂, ◌∙◌}
 use mathlib.Core.List.{List, [], ◌∷◌, ◌++◌, map}
 use mathlib.Core.Bool.{Bool, true, false, ◌&&◌}
 use native.Mathlib.Omega.{arith}
 use native.Mathlib.Numerals.{add-one}
 use native.Mathlib.Nat.{sub_self, zero-add}
 use borrow.Author.Tests.{lt-ltb, le-ltb}
-use lib.ListN.{take-append-drop, length, take, drop, get_or, set, length-set, length-take}
-use lib.Seq.{append_snoc, take-set-lt, get_or-take, drop-cons, drop-set-lt, take-suc-set, take_all, take-suc}
+use lib.ListN.{take-append-drop, length, length-drop, take, drop, get_or, set, length-set, length-take}
+use lib.Seq.{append_snoc, take-set-lt, get_or-take, drop-cons, drop-drop, drop-set-lt, take-suc-set, take_all, take-suc}
+use Rattle.std.specs.List.{copy_within}
+use Rattle.std.proofs.lemmas.List.{take-take, drop-take, take-append-le, drop-append-le, append_assoc}
+use Rattle.std.proofs.lemmas.List.Edits.{take-paste, drop-paste, length-paste}
 use Rattle.definitions.specs.Lists.{part, all, remove, on_part}
 use Rattle.plan.specs.Changes.{is_out, moved_out, for_word, with_for, kept_words}
 
 -- Removing
 
 module _ {A : Type 0} where
-  -- the element after j moved to j, and then j + 1 removed, is j removed
-  remove_shift : (d : A) (j : ℕ) (xs : List A) → suc j < length xs → remove (suc j) (set xs j (get_or xs (suc j) d)) ≡ remove j xs
-  remove_shift d j xs h = simp add-one (go j xs h)
-    where
-      go : (j : ℕ) (xs : List A) → suc j < length xs
-          → take (suc j) (set xs j (get_or xs (suc j) d)) ++ drop (suc (suc j)) (set xs j (get_or xs (suc j) d)) ≡ take j xs ++ drop (suc j) xs
-      go j [] h = absurd (omega arith)
-      go zero (x ∷ []) h = absurd (omega arith)
-      go zero (x ∷ (y ∷ xs)) h = refl
-      go (suc j) (x ∷ xs) h = ap (λ ys. x ∷ ys) (go j xs (omega arith))
+  -- the elements from i + 1 up to n copied to i
+  pub moved_up : (i n : ℕ) (xs : List A) → i < n → n ≤ length xs → take (n - 1) (copy_within xs (i + 1) n i) ≡ remove i (take n xs)
+  moved_up i n xs h le =
+      let k = n - (i + 1) in
+      let q : n - 1 ≡ i + k = omega arith in
+      let e : i + 1 + k ≡ n = omega arith in
+      ap (λ m. take m (copy_within xs (i + 1) n i)) q ∙ take-paste xs i (drop (i + 1) xs) k (omega arith) (rw length-drop (omega arith))
+      ∙ ap₂ (λ ys zs. ys ++ zs) (sym (take-take i n xs (omega arith))) (sym (ap (λ m. drop (i + 1) (take m xs)) (sym e) ∙ drop-take (i + 1) k xs))
 
-  remove_last : (n : ℕ) (xs : List A) → n < length xs → remove n (take (suc n) xs) ≡ take n xs
-  remove_last n xs h = simp add-one (go n xs h)
-    where
-      go : (n : ℕ) (xs : List A) → n < length xs → take n (take (suc n) xs) ++ drop (suc n) (take (suc n) xs) ≡ take n xs
-      go n [] h = absurd (omega arith)
-      go zero (x ∷ xs) h = refl
-      go (suc n) (x ∷ xs) h = ap (λ ys. x ∷ ys) (go n xs (omega arith))
+  -- the same up to w, and then the elements from w + 1 up to n copied to w - 1
+  pub both_up : (i w n : ℕ) (xs ys : List A) → i < w → w < n → n ≤ length xs → ys ≡ copy_within xs (i + 1) w i
+      → take (n - 2) (copy_within ys (w + 1) n (w - 1)) ≡ remove i (remove w (take n xs))
+  both_up i w n xs ys h b le e =
+      let k = n - (w + 1) in
+      let a : w - 1 ≡ i + (w - (i + 1)) = omega arith in
+      let q : n - 2 ≡ w - 1 + k = omega arith in
+      let z : w + 1 + k ≡ n = omega arith in
+      let d : w + 1 ≡ w - 1 + 2 = omega arith in
+      let size : length ys ≡ length xs = ap length e ∙ length-paste xs i (drop (i + 1) xs) (w - (i + 1)) (omega arith) (rw length-drop (omega arith)) in
+      let front : take (w - 1) ys ≡ remove i (take w xs) = ap (take (w - 1)) e ∙ moved_up i w xs h (omega arith) in
+      let rest : drop (w - 1) ys ≡ drop (w - 1) xs =
+      ap (drop (w - 1)) e ∙ ap (λ m. drop m (copy_within xs (i + 1) w i)) a
+      ∙ drop-paste xs i (drop (i + 1) xs) (w - (i + 1)) (omega arith) (rw length-drop (omega arith)) ∙ ap (λ m. drop m xs) (sym a) in
+      let back : drop (w + 1) ys ≡ drop (w + 1) xs =
+      ap (λ m. drop m ys) d ∙ sym (drop-drop 2 (w - 1) ys) ∙ ap (drop 2) rest ∙ drop-drop 2 (w - 1) xs ∙ ap (λ m. drop m xs) (sym d) in
+      let tail = take k (drop (w + 1) xs) in
+      let fit : i + 1 ≤ length (take w xs) = rw length-take (omega arith) in
+      let whole : remove w (take n xs) ≡ take w xs ++ tail =
+      ap₂ (λ ys zs. ys ++ zs) (take-take w n xs (omega arith)) (ap (λ m. drop (w + 1) (take m xs)) (sym z) ∙ drop-take (w + 1) k xs) in
+      ap (λ m. take m (copy_within ys (w + 1) n (w - 1))) q ∙ take-paste ys (w - 1) (drop (w + 1) ys) k (omega (arith, size)) (rw length-drop (omega (arith, size)))
+      ∙ ap₂ (λ ys zs. ys ++ zs) front (ap (take k) back)
+      ∙ append_assoc (take i (take w xs)) (drop (i + 1) (take w xs)) tail
+      ∙ sym (ap (remove i) whole ∙ ap₂ (λ ys zs. ys ++ zs) (take-append-le i (take w xs) tail (omega (arith, fit))) (drop-append-le (i + 1) (take w xs) tail fit))
 
-  -- a removal as `take` and `drop` go by their clauses
-  abbrev cut : ℕ → List A → List A
-  cut k xs = take k xs ++ drop (suc k) xs
-
-  remove_cut : (k : ℕ) (xs : List A) → remove k xs ≡ cut k xs
-  remove_cut k xs = simp add-one
-
-  two_cut : (i k : ℕ) (xs : List A) → remove i (remove k xs) ≡ cut i (cut k xs)
-  two_cut i k xs = remove_cut i (remove k xs) ∙ ap (cut i) (remove_cut k xs)
-
-  -- word j + 1 moved to j, and then j + 1 removed, is j removed: before w, which is removed too
-  slide_shift : (d : A) (j w : ℕ) (xs : List A) → suc j < w → w < length xs → cut (suc j) (cut w (set xs j (get_or xs (suc j) d))) ≡ cut j (cut w xs)
-  slide_shift d j w [] h b = absurd (omega arith)
-  slide_shift d j zero (x ∷ xs) h b = absurd (omega arith)
-  slide_shift d zero (suc zero) (x ∷ xs) h b = absurd (omega arith)
-  slide_shift d zero (suc (suc w)) (x ∷ []) h b = absurd (omega arith)
-  slide_shift d zero (suc (suc w)) (x ∷ (y ∷ xs)) h b = refl
-  slide_shift d (suc j) (suc w) (x ∷ xs) h b = ap (λ ys. x ∷ ys) (slide_shift d j w xs (omega arith) (omega arith))
-
-  -- the same of two words side by side
-  two_shift : (d : A) (j : ℕ) (xs : List A) → suc (suc j) < length xs → cut (suc j) (cut (suc (suc j)) (set xs j (get_or xs (suc (suc j)) d))) ≡ cut j (cut (suc j) xs)
-  two_shift d j [] h = absurd (omega arith)
-  two_shift d zero (x ∷ []) h = absurd (omega arith)
-  two_shift d zero (x ∷ (y ∷ [])) h = absurd (omega arith)
-  two_shift d zero (x ∷ (y ∷ (z ∷ xs))) h = refl
-  two_shift d (suc j) (x ∷ xs) h = ap (λ ys. x ∷ ys) (two_shift d j xs (omega arith))
-
-  cut_set : (j w : ℕ) (v : A) (xs : List A) → j < w → cut w (set xs j v) ≡ set (cut w xs) j v
-  cut_set j zero v xs h = absurd (omega arith)
-  cut_set j (suc w) v [] h = refl
-  cut_set zero (suc w) v (x ∷ xs) h = refl
-  cut_set (suc j) (suc w) v (x ∷ xs) h = ap (λ ys. x ∷ ys) (cut_set j w v xs (omega arith))
-
+  -- a set before the removed place
   remove_set : (j w : ℕ) (v : A) (xs : List A) → j < w → remove w (set xs j v) ≡ set (remove w xs) j v
-  remove_set j w v xs h = remove_cut w (set xs j v) ∙ cut_set j w v xs h ∙ ap (λ ys. set ys j v) (sym (remove_cut w xs))
-
-pub record Removing (n i : ℕ) (ws₀ ws : List ℕ) (j : ℕ) : Type 0 where
-  pub below : j < n
-  pub size : length ws ≡ length ws₀
-  pub left : remove j (take n ws) ≡ remove i (take n ws₀)
-
-module _ (n i : ℕ) (ws₀ : List ℕ) where
-  pub removing_start : i < n → Removing n i ws₀ ws₀ i
-  removing_start h = record { below = h; size = refl; left = refl }
-
-  module _ (ws : List ℕ) (j : ℕ) (r : Removing n i ws₀ ws j) (le : n ≤ length ws₀) where
-    pub removing_next : j + 1 < n → Removing n i ws₀ (set ws j (get_or ws (j + 1) 0)) (j + 1)
-    removing_next lt =
-        let s = r.size in
-        let v = get_or ws (j + 1) 0 in
-        let m : suc j < length (take n ws) = rw length-take (omega arith) in
-        record {
-          below = lt;
-          size = length-set ws j v ∙ s;
-          left = rw (take-set-lt n ws j v (omega arith), ← get_or-take n ws (j + 1) 0 lt, add-one) (remove_shift 0 j (take n ws) m ∙ r.left);
-        }
-
-    pub removing_end : n ≤ j + 1 → take (n - 1) ws ≡ remove i (take n ws₀)
-    removing_end ge =
-        let b = r.below in
-        let s = r.size in
-        let q : n ≡ suc j = omega arith in
-        let p : n - 1 ≡ j = omega arith in
-        let l : remove j (take (suc j) ws) ≡ remove i (take n ws₀) = subst (λ m. remove j (take m ws) ≡ remove i (take n ws₀)) q r.left in
-        rw p (sym (remove_last j ws (omega arith)) ∙ l)
-
-pub ruleset removing = (removing_start, removing_next, removing_end)
-
--- Two words removed
-
-pub record Sliding (n i w : ℕ) (ws₀ ws : List ℕ) (j : ℕ) : Type 0 where
-  pub below : j < w
-  pub size : length ws ≡ length ws₀
-  pub left : remove j (remove w (take n ws)) ≡ remove i (remove w (take n ws₀))
-
-module _ (n i w : ℕ) (ws₀ : List ℕ) where
-  pub sliding_start : i < w → Sliding n i w ws₀ ws₀ i
-  sliding_start h = record { below = h; size = refl; left = refl }
-
-  module _ (ws : List ℕ) (j : ℕ) (r : Sliding n i w ws₀ ws j) where
-    pub sliding_next : w < n → n ≤ length ws₀ → j + 1 < w → Sliding n i w ws₀ (set ws j (get_or ws (j + 1) 0)) (j + 1)
-    sliding_next wn le lt =
-        let s = r.size in
-        let v = get_or ws (j + 1) 0 in
-        let m : w < length (take n ws) = rw length-take (omega arith) in
-        record {
-          below = lt;
-          size = length-set ws j v ∙ s;
-          left =
-              rw (take-set-lt n ws j v (omega arith), ← get_or-take n ws (j + 1) 0 (omega arith), add-one)
-              (two_cut (suc j) w (set (take n ws) j (get_or (take n ws) (suc j) 0)) ∙ slide_shift 0 j w (take n ws) (omega arith) m ∙ sym (two_cut j w (take n ws)) ∙ r.left);
-        }
-
-    pub sliding_end : w ≤ j + 1 → remove (w - 1) (remove w (take n ws)) ≡ remove i (remove w (take n ws₀))
-    sliding_end ge = let b = r.below in let q : w - 1 ≡ j = omega arith in rw q r.left
-
-pub ruleset sliding = (sliding_start, sliding_next, sliding_end)
-
-pub record Closing (n w : ℕ) (ws₀ ws : List ℕ) (k : ℕ) : Type 0 where
-  pub fits : n ≤ length ws₀
-  pub below : k + 1 < n
-  pub size : length ws ≡ length ws₀
-  pub left : remove k (remove (k + 1) (take n ws)) ≡ remove (w - 1) (remove w (take n ws₀))
-
-module _ (n w : ℕ) (ws₀ : List ℕ) where
-  pub closing_start : 0 < w → w < n → n ≤ length ws₀ → Closing n w ws₀ ws₀ (w - 1)
-  closing_start p h le =
-      let q : w - 1 + 1 ≡ w = omega arith in
-      record { fits = le; below = omega arith; size = refl; left = ap (λ j. remove (w - 1) (remove j (take n ws₀))) q }
-
-  module _ (ws : List ℕ) (k : ℕ) (r : Closing n w ws₀ ws k) where
-    pub closing_next : k + 2 < n → Closing n w ws₀ (set ws k (get_or ws (k + 2) 0)) (k + 1)
-    closing_next lt =
-        let f = r.fits in
-        let s = r.size in
-        let v = get_or ws (k + 2) 0 in
-        let m : suc (suc k) < length (take n ws) = rw length-take (omega arith) in
-        let a : k + 1 ≡ suc k = omega arith in
-        let b : k + 2 ≡ suc (suc k) = omega arith in
-        let c : k + 1 + 1 ≡ suc (suc k) = omega arith in
-        let l : remove k (remove (suc k) (take n ws)) ≡ remove (w - 1) (remove w (take n ws₀)) = subst (λ j. remove k (remove j (take n ws)) ≡ remove (w - 1) (remove w (take n ws₀))) a r.left in
-        let g : get_or ws (k + 2) 0 ≡ get_or (take n ws) (suc (suc k)) 0 = sym (get_or-take n ws (k + 2) 0 lt) ∙ ap (λ j. get_or (take n ws) j 0) b in
-        record {
-          fits = f;
-          below = omega arith;
-          size = length-set ws k v ∙ s;
-          left =
-              ap (λ ys. remove (k + 1) (remove (k + 1 + 1) ys)) (take-set-lt n ws k v (omega arith) ∙ ap (set (take n ws) k) g)
-              ∙ (ap₂ (λ i j. remove i (remove j (set (take n ws) k (get_or (take n ws) (suc (suc k)) 0)))) a c ∙ two_cut (suc k) (suc (suc k)) (set (take n ws) k (get_or (take n ws) (suc (suc k)) 0))
-              ∙ (two_shift 0 k (take n ws) m ∙ (sym (two_cut k (suc k) (take n ws)) ∙ l)));
-        }
-
-    pub closing_end : n ≤ k + 2 → (ys : List ℕ) → remove (w - 1) (remove w (take n ws₀)) ≡ ys → take (n - 2) ws ≡ ys
-    closing_end ge ys e =
-        let f = r.fits in
-        let b = r.below in
-        let s = r.size in
-        let q : n ≡ suc (suc k) = omega arith in
-        let p : n - 2 ≡ k = omega arith in
-        let a : k + 1 ≡ suc k = omega arith in
-        let l : remove k (remove (suc k) (take (suc (suc k)) ws)) ≡ remove (w - 1) (remove w (take n ws₀)) = subst (λ j. remove k (remove j (take (suc (suc k)) ws)) ≡ remove (w - 1) (remove w (take n ws₀))) a (subst (λ m. remove k (remove (k + 1) (take m ws)) ≡ remove (w - 1) (remove w (take n ws₀))) q r.left) in
-        rw p (sym (ap (remove k) (remove_last (suc k) ws (omega arith)) ∙ remove_last k ws (omega arith)) ∙ (l ∙ e))
-
-pub ruleset closing = (closing_start, closing_next, closing_end)
+  remove_set j w v xs h = simp add-one (go j w xs h)
+    where
+      go : (j w : ℕ) (xs : List A) → j < w → take w (set xs j v) ++ drop (suc w) (set xs j v) ≡ set (take w xs ++ drop (suc w) xs) j v
+      go j zero xs h = absurd (omega arith)
+      go j (suc w) [] h = refl
+      go zero (suc w) (x ∷ xs) h = refl
+      go (suc j) (suc w) (x ∷ xs) h = ap (λ ys. x ∷ ys) (go j w xs (omega arith))
 
 -- A part changed from the front
 
@@ -223,9 +104,6 @@ pub record Moving (n a e : ℕ) (ws₀ ws : List ℕ) (k : ℕ) : Type 0 where
   pub left : on_part k e moved_out (take n ws) ≡ on_part a e moved_out (take n ws₀)
 
 module _ (n a e : ℕ) (ws₀ : List ℕ) where
-  pub moving_start : a ≤ e → Moving n a e ws₀ ws₀ a
-  moving_start h = record { upto = (omega arith, h); size = refl; tests = refl; left = refl }
-
   module _ (ws : List ℕ) (k : ℕ) (r : Moving n a e ws₀ ws k) where
     module _ (le : e ≤ n) (fit : n ≤ length ws₀) (lt : k < e) where
       within : e ≤ length (take n ws)
@@ -252,22 +130,14 @@ module _ (n a e : ℕ) (ws₀ : List ℕ) where
           let o : is_out (get_or (take n ws) k 0) ≡ false = rw same_word (le-ltb 0 (get_or ws k 0 % 256) (omega arith)) in
           sym (sym r.tests ∙ (all_step 0 is_out k e (take n ws) 0 lt within ∙ rw o))
 
-    there : e ≤ k → k ≡ e
-    there ge = let u = r.upto in omega arith
-
     pub moving_all : e ≤ k → true ≡ all is_out (part a e (take n ws₀))
     unfolding all
     moving_all ge = let q : e - k ≡ 0 = omega arith in sym (sym r.tests ∙ rw q)
 
-    pub moving_end : e ≤ k → take n ws ≡ on_part a e moved_out (take n ws₀)
-    moving_end ge =
-        sym (on_none 0 moved_out e (take n ws))
-        ∙ subst (λ m. on_part m e moved_out (take n ws) ≡ on_part a e moved_out (take n ws₀)) (there ge) r.left
-
 pub no_exit : (xs ys : List ℕ) → false ≡ true → xs ≡ ys
 no_exit xs ys e = let z : ◌≡◌ {A = ℕ} 0 1 = cc in absurd (omega arith)
 
-pub ruleset moving = (moving_start, moving_next, moving_beyond, moving_all, moving_end, no_exit)
+pub ruleset moving = (moving_next, moving_beyond, moving_all)
 
 -- Starting
 
@@ -288,9 +158,6 @@ kept_at k zero (w ∷ ws) h = let z : k + 0 ≡ k = omega arith in rw z
 kept_at k (suc j) (w ∷ ws) h = let z : k + suc j ≡ suc k + j = omega arith in rw z (kept_at (suc k) j ws (omega arith))
 
 module _ (l ws₀ : List ℕ) where
-  pub starting_start : Starting l ws₀ ws₀ 0
-  starting_start = record { upto = omega arith; size = refl; done = refl }
-
   module _ (ws : List ℕ) (k : ℕ) (r : Starting l ws₀ ws k) where
     pub starting_next : (v : ℕ) → v ≡ get_or l k 0 → length l ≤ length ws₀ → k < length l → Starting l ws₀ (set ws k (v % 256 + 8192 * k)) (k + 1)
     starting_next v e f lt =
@@ -313,7 +180,7 @@ module _ (l ws₀ : List ℕ) where
         let n = length_kept 0 l in
         rw q (r.done ∙ take_all k (kept_words 0 l) (omega arith))
 
-pub ruleset starting = (starting_start, starting_next, starting_end)
+pub ruleset starting = (starting_next, starting_end)
 
 -- Making a for
 

@@ -1,18 +1,27 @@
 -- A loop pass as the loop that it is: `turns gap turn (length L) i L` is what is left to do at line i of L. `turned` is loop_turned or goto_turned.
 --   pass_goes, pass_stops, pass_overflows    what a turn leaves to do, where `gap` lines stand behind its line
 --   pass_ends                                nothing is left, where they do not
+--   planned_err                              an error is the overflow
 -- Assumes nothing.
+use Rattle.std.specs.Prelude.{Result, Ok, Err}
+use Rattle.std.specs.Result.{IsErr}
 use Prim.Native.Nat.{ℕ, suc, ◌+◌, ◌-◌, ◌≤◌, ◌<◌}
-use mathlib.Core.Path.{◌≡◌, sym, ap, ◌∙◌}
+use mathlib.Core.Path.{◌≡◌, refl, sym, ap, ◌∙◌}
 use mathlib.Core.List.{List}
 use native.Mathlib.Omega.{arith}
 use native.Mathlib.Nat.{add_comm}
-use borrow.Author.Tests.{lt-ltb}
+use borrow.Author.Tests.{clash, lt-ltb}
 use lib.ListN.{length}
 use Rattle.definitions.specs.Model.{Line}
 use Rattle.definitions.specs.Passes.{Turn, go, stop, beyond, lines, overflow, turns}
+use Rattle.plan.specs.Planned.{planned}
+use Rattle.plan.specs.declared.Overflow.{Overflow}
 use Rattle.loop_theory.proofs.Steps.{Turned}
 use Rattle.loop_theory.proofs.PassSteps.{turned_lines, no_turn, enough_turns}
+
+pub planned_err : (S : List Line) (vs : List ℕ) (r : Result ℕ Overflow) → IsErr r → planned S vs r ≡ overflow
+planned_err S vs (Ok n) e = absurd (clash e)
+planned_err S vs (Err o) e = refl
 
 module _ (gap : ℕ) (turn : List Line → ℕ → Turn) (turned : (L : List Line) (i : ℕ) → Turned L i (turn L i)) (L : List Line) (i : ℕ) where
   pub pass_ends : length L ≤ i + gap → turns gap turn (length L) i L ≡ lines L

@@ -3,12 +3,18 @@
 // `remove`, `remove_two`, `move_out` and `make_for` take a step for each word that they pass, as `Vec::remove` and the Rust's loops do, the others
 // constant time. Contracts cite specs/Plan.antt, and `remove`, `part`, `all` and `on_part` of Rattle.definitions.specs.Lists.
 
-#![tactic(auto)]
+#![tactic(auto, using(crate::proofs::Loops::starting, crate::proofs::Loops::moving, crate::proofs::Loops::made_for))]
+
+pub mod headers;
 
 ghost use Rattle.std.specs.Prelude.{◌≡◌, true, ◌+◌, ◌-◌, ◌/◌, ◌%◌, ◌<◌, ◌≤◌, length, take};
 ghost use Rattle.definitions.specs.Lists.{part, all, remove, on_part};
 ghost use Rattle.plan.specs.Plan.{indent_at, header_at, piece_at, test_at, initialiser_at, step_at};
-ghost use Rattle.plan.specs.Changes.{is_out, moved_out, for_word, with_for, kept_words};
+ghost use Rattle.plan.specs.Changes.{is_out, moved_out, for_word, with_for, kept_words, is_line};
+
+// A pass works out an indent beyond 0 to 255.
+#[derive(Clone, Copy)]
+pub struct Overflow;
 
 // Reading a word
 
@@ -22,6 +28,13 @@ pub fn header(w: usize) -> usize
     ensures { (result ≡ header_at w) × (result < 8) }
 {
     w / 256 % 8
+}
+
+// The word is of no header.
+pub fn is_line(w: usize) -> bool
+    ensures { result ≡ is_line w }
+{
+    header(w) == 0
 }
 
 pub fn piece(w: usize) -> usize
@@ -72,25 +85,7 @@ pub fn remove(plan: &mut [usize], n: usize, i: usize)
     requires { (i < n) × (n ≤ length plan.old) }
     ensures { take (n - 1) plan.new ≡ remove i (take n plan.old) }
 {
-    let mut j = i;
-    while j + 1 < n {
-        let v = plan[j + 1];
-        plan[j] = v;
-        j += 1;
-    }
-}
-
-// The words from i up to w move up by one, over word i: what was removed at i is then removed at w - 1.
-fn slide(plan: &mut [usize], n: usize, i: usize, w: usize)
-    requires { (i < w) × (w < n) × (n ≤ length plan.old) }
-    ensures { remove (w - 1) (remove w (take n plan.new)) ≡ remove i (remove w (take n plan.old)) }
-{
-    let mut k = i;
-    while k + 1 < w {
-        let v = plan[k + 1];
-        plan[k] = v;
-        k += 1;
-    }
+    plan.copy_within(i + 1..n, i);
 }
 
 // Removes words i and w. Each word moves once.
@@ -98,13 +93,8 @@ pub fn remove_two(plan: &mut [usize], n: usize, i: usize, w: usize)
     requires { (i < w) × (w < n) × (n ≤ length plan.old) }
     ensures { take (n - 2) plan.new ≡ remove i (remove w (take n plan.old)) }
 {
-    slide(plan, n, i, w);
-    let mut k = w - 1;
-    while k + 2 < n {
-        let v = plan[k + 2];
-        plan[k] = v;
-        k += 1;
-    }
+    plan.copy_within(i + 1..w, i);
+    plan.copy_within(w + 1..n, w - 1);
 }
 
 // Moves the lines from a up to e out by one; false where one of them has indent 0.

@@ -2,7 +2,7 @@
 //
 // The contract cites `pop` of Rattle.definitions.specs.ToFor.
 
-#![tactic(auto)]
+#![tactic(auto, using(crate::proofs::LastCodePoint::last))]
 
 ghost use Rattle.std.specs.Prelude.{◌≡◌, ◌≤◌, length, take};
 ghost use Rattle.definitions.specs.ToFor.{pop};
@@ -11,14 +11,9 @@ ghost use Rattle.definitions.specs.ToFor.{pop};
 pub fn popped_length(s: &[u8]) -> usize
     ensures { (take result s.now ≡ pop s.now) × (result ≤ length s.now) }
 {
-    let mut n = s.len();
-    while 0 < n {
-        let b = s[n - 1];
-        n -= 1;
-        if b < 128 {
-            return n;
-        }
-        if 192 <= b {
+    for n in (0..s.len()).rev() {
+        let b = s[n];
+        if b < 128 || 192 <= b {
             return n;
         }
     }

@@ -1,33 +1,18 @@
 -- Calls, as rules for `search`.
---   callee_symbol, callee_keyword, callee_other    what `is_callee` says by the kind of the token
---   callee_from, callee_start, -found, -next, -end the loop of `call_at`
+--   callee_from, callee_start, -found, -next, -end    the loop of `call_at`
 -- Assumes nothing.
 use Rattle.std.specs.Prelude.{Option, None, Some}
 use Rattle.std.specs.Option.{option_map}
 use mathlib.Core.Path.{◌≡◌, refl, sym, ap, ◌∙◌}
-use mathlib.Core.Bool.{Bool, true, false, ◌&&◌, cond, or-false}
+use mathlib.Core.Bool.{Bool, true, false, cond}
 use mathlib.Core.List.{List, [], ◌∷◌}
 use Prim.Native.Nat.{ℕ, ◌+◌, ◌-◌, ◌≤◌, ◌<◌}
 use native.Mathlib.Nat.{add-zero, zero-add}
 use native.Mathlib.Omega.{arith}
-use borrow.Author.Tests.{eq-eqb, ne_eqb}
-use lib.Dec.{eqb}
 use lib.ListN.{length, get_or, drop, length-drop}
-use Rattle.definitions.specs.Lists.{starts_with, ascii}
-use Rattle.definitions.specs.Model.{Token, no_token, Punct}
+use Rattle.definitions.specs.Model.{Token, no_token}
 use Rattle.definitions.specs.Statements.{is_callee, callee}
 use Rattle.text.proofs.Parts.{drop_step}
-
-module _ (t u : Token) (k : ℕ) (e : k ≡ t.kind) where
-  pub callee_symbol : (r : Bool) → k ≡ 4 → r ≡ (eqb u.kind Punct && starts_with (ascii "(") u.text) → r ≡ is_callee t u
-  callee_symbol r f h =
-      rw (← e, eq-eqb k 4 f, ne_eqb k 3 (λ g. omega arith)) (h ∙ sym (or-false (eqb u.kind Punct && starts_with (ascii "(") u.text)))
-
-  pub callee_keyword : (r : Bool) → k ≡ 3 → r ≡ starts_with (ascii "((void") t.text → r ≡ is_callee t u
-  callee_keyword r f h = rw (← e, eq-eqb k 3 f, ne_eqb k 4 (λ g. omega arith)) h
-
-  pub callee_other : (k ≡ 4 → ⊥) → (k ≡ 3 → ⊥) → false ≡ is_callee t u
-  callee_other f g = rw (← e, ne_eqb k 4 f, ne_eqb k 3 g)
 
 -- The place of the first callee, from place j - 1 on
 unfoldable pub callee_from : List Token → ℕ → Option ℕ
@@ -73,4 +58,4 @@ module _ (ts : List Token) where
         short (u ∷ []) q = refl
         short (u ∷ (v ∷ us)) q = absurd (omega arith)
 
-pub ruleset callees = (callee_symbol, callee_keyword, callee_other, callee_start, callee_found, callee_next, callee_end)
+pub ruleset callees = (callee_start, callee_found, callee_next, callee_end)

@@ -12,7 +12,7 @@ use Rattle.family.specs.Register.{family_of, names_family}
 use Rattle.family.specs.declared.Register.{Register}
 
 module _ (t : Token) (k : ℕ) (s : List ℕ) (d : k ≡ t.kind) (q : s ≡ t.text) where
-  pub family_at : (r : Register) → family_of s r ≡ fam_of (tok s k) → family_of t.text r ≡ fam_of t
+  pub family_at : (r : Option Register) → family_of s r ≡ fam_of (tok s k) → family_of t.text r ≡ fam_of t
   family_at r e = rw (q, d) at e
 
   pub names_at : (o : Option Family) (y : Bool) → y ≡ names_family o (tok s k) → y ≡ names_family o t

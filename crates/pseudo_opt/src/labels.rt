@@ -2,6 +2,9 @@
 // once.
 //
 // Contracts cite `is_label`, `first_symbol` and `goto_target` of Rattle.definitions.specs.Statements.
+
+#![tactic(auto, using(crate::proofs::Symbols::symbols))]
+
 ghost use Rattle.std.specs.Prelude.{◌≡◌, [], ◌+◌, eqb, drop};
 ghost use Rattle.definitions.specs.Lists.{or_else};
 ghost use Rattle.definitions.specs.Model.{token, line, Symbol};
@@ -10,19 +13,21 @@ ghost use Rattle.model.specs.Listings.{listing_of};
 ghost use Rattle.pseudo_opt.specs.Places.{text_at};
 
 use crate::keywords::keyword_at;
+use model::kind::Kind;
 use model::listing::Listing;
 
 // Line i is a label: its name is the text of its first token.
+#[tactic(auto, using(model::proofs::Ands::ands), unfolding(definitions::specs::Statements::is_label))]
 pub fn is_label(code: &Listing, i: usize) -> bool
     ensures { result ≡ is_label (line (listing_of code.now) i) }
 {
-    code.token_count(i) == 2 && code.kind(i, 0) == 4 && text::equal(code.text_at(i, 1), b":")
+    code.token_count(i) == 2 && code.is(i, 0, Kind::Symbol) && text::equal(code.text_at(i, 1), b":")
 }
 
 fn is_symbol(code: &Listing, i: usize, j: usize) -> bool
     ensures { result ≡ eqb (token (line (listing_of code.now) i) j).kind Symbol }
 {
-    code.kind(i, j) == 4
+    code.is(i, j, Kind::Symbol)
 }
 
 // The first symbol of line i after place k: where a goto at place k leads.

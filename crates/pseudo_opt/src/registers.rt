@@ -3,6 +3,9 @@
 //
 // Contracts cite `fam_of` of Rattle.definitions.specs.Family; `family_of` and `names_family` of Rattle.family.specs.Register say which family an
 // answer is and whether a token names it.
+
+#![tactic(auto, using(crate::proofs::Named::families, text::proofs::Loops::loops))]
+
 ghost use Rattle.std.specs.Prelude.{◌≡◌};
 ghost use Rattle.definitions.specs.Lists.{any};
 ghost use Rattle.definitions.specs.Model.{token, line};
@@ -14,7 +17,7 @@ use family::Register;
 use model::listing::Listing;
 
 // The family of token j of line i.
-pub fn register_at(code: &Listing, i: usize, j: usize) -> Register
+pub fn register_at(code: &Listing, i: usize, j: usize) -> Option<Register>
     ensures { let l = line (listing_of code.now) i in
         family_of (token l j).text result ≡ fam_of (token l j) }
 {
@@ -22,7 +25,7 @@ pub fn register_at(code: &Listing, i: usize, j: usize) -> Register
 }
 
 // Token j of line i names the family that the answer r of the text s is.
-pub fn token_names(code: &Listing, i: usize, j: usize, s: &[u8], r: Register) -> bool
+pub fn token_names(code: &Listing, i: usize, j: usize, s: &[u8], r: Option<Register>) -> bool
     ensures { let l = line (listing_of code.now) i in
         result ≡ names_family (family_of s.now r) (token l j) }
 {
@@ -30,7 +33,7 @@ pub fn token_names(code: &Listing, i: usize, j: usize, s: &[u8], r: Register) ->
 }
 
 // A token of line i names it.
-pub fn line_names(code: &Listing, i: usize, s: &[u8], r: Register) -> bool
+pub fn line_names(code: &Listing, i: usize, s: &[u8], r: Option<Register>) -> bool
     ensures { let l = line (listing_of code.now) i in
         result ≡ any (names_family (family_of s.now r)) l.tokens }
 {

@@ -3,17 +3,16 @@
 --   lines_few                            question 1 is answered yes
 --   asked                                where no question is answered no
 -- Assumes nothing.
-use Rattle.std.specs.Prelude.{None, Some}
+use Rattle.std.specs.Prelude.{None}
 use Prim.Native.Nat.{ℕ, ◌+◌, ◌*◌, ◌/◌, ◌≤◌}
 use mathlib.Core.Path.{◌≡◌, sym}
-use mathlib.Core.Bool.{Bool, true, false}
-use mathlib.Core.List.{List, [], ◌∷◌}
+use mathlib.Core.List.{List}
 use native.Mathlib.Omega.{arith}
 use native.Mathlib.Nat.{mul-le-mul_left}
 use borrow.Author.Tests.{leb-true}
 use lib.Dec.{leb}
 use lib.ListN.{length}
-use Rattle.definitions.specs.Questions.{Limits, question_1, question_2, question_3, question_4, question_5, space_words, refusal}
+use Rattle.definitions.specs.Questions.{Limits, question_5, space_words}
 use Rattle.questions.specs.Refusals.{first_questions}
 use Rattle.questions.proofs.Refusing.{refusal_yes}
 use Rattle.model.proofs.Ands.{both}

@@ -11,6 +11,7 @@ ghost use Rattle.definitions.specs.Questions.{question_4, question_5, space_word
 ghost use Rattle.definitions.specs.Recover.{recover};
 ghost use Rattle.definitions.specs.Answers.{Answer, accepted, webs, numbered_webs};
 ghost use Rattle.definitions.specs.Calls.{zeros, filled, webs_written, web_call};
+ghost use Rattle.bits.specs.Edges.{row_words};
 ghost use Rattle.model.specs.Listings.{listing_of};
 ghost use Rattle.questions.specs.Refusals.{at_most, refused, answer_of};
 ghost use Rattle.text.specs.Zeroed.{zeroed};
@@ -21,6 +22,7 @@ ghost use Rattle.pseudo_ssa.specs.Answers.{lent, called, Demand3Over};
 use model::listing::Listing;
 use questions::{Limits, Refusal};
 
+#[tactic(auto, using(model::proofs::Ands::ands))]
 fn question_4(count: usize, numbers: &[u32], marks: &[u8]) -> bool
     ensures { result ≡ question_4 count numbers.now marks.now }
 {
@@ -35,6 +37,7 @@ fn space_words(n: usize) -> usize
     4 * n * ((n + 63) / 64) + 8 * n + 64
 }
 
+#[tactic(auto, using(crate::proofs::Asking::room_asked))]
 fn question_5(n: usize, space: &[u64]) -> bool
     requires { n ≤ 1024 }
     ensures { result ≡ question_5 n space.now }
@@ -81,14 +84,13 @@ fn numbered(
     numbers: &mut [u32],
     marks: &mut [u8],
     space: &mut [u64],
-    r: usize,
     budget: usize,
 ) -> Result<usize, Refusal>
-    requires { Ready code.now.lines.now code.now.tokens.now code.now.text.now numbers.old marks.old space.old r }
+    requires { Ready code.now.lines.now code.now.tokens.now code.now.text.now numbers.old marks.old space.old (row_words (length code.now.lines.now)) }
     ensures { called result numbers.new marks.new space.new ≡ webs_written (within_budget budget (webs (listing_of code.now))) (lent numbers.old marks.old space.old) }
 {
     let t = code.tokens.len();
-    match webs::recover(code, space, r, budget, &mut numbers[..t], &mut marks[..t]) {
+    match webs::recover(code, space, budget, &mut numbers[..t], &mut marks[..t]) {
         Some(sweeps) => {
             zero(numbers, marks, space, t);
             Ok(sweeps)
@@ -122,7 +124,7 @@ fn answered(
         zero(numbers, marks, space, 0);
         return Err(refusal);
     }
-    numbered(code, numbers, marks, space, r, budget)
+    numbered(code, numbers, marks, space, budget)
 }
 
 // The web call with the limits `most` and at most `budget` sweeps; one that needs more is refused 13.

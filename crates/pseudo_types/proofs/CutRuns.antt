@@ -4,7 +4,7 @@
 --   filter_any                        what empty tokens do not pass, a condition passes as its run does
 --   empty_names                       an empty token names nothing
 --   cut_names_at                      what is looked up of a part, said of the token that has that text
---   cut_places                        where a token is cut
+--   cut_at                            where a token is cut
 --   run_found, run_next, run_over     the loop of `names_from`
 --   names_of                          the families that a condition names
 -- Assumes nothing.
@@ -27,9 +27,9 @@ use Rattle.definitions.specs.Statements.{is_empty}
 use Rattle.definitions.specs.Condition.{cut_front, cut_end, cut, condition}
 use Rattle.text.proofs.Texts.{≟_eq}
 use Rattle.family.specs.Register.{names_family}
-use Rattle.condition.specs.Conditions.{conditional}
+use Rattle.condition.specs.Conditions.{conditional, Bounds, Within}
 use Rattle.condition.specs.declared.Cut.{Cut}
-use Rattle.pseudo_types.specs.Cuts.{front, back, cut_token, cut_run, Bounds, Within}
+use Rattle.pseudo_types.specs.Cuts.{front, back, cut_token, cut_run}
 
 module _ (l : Line) (k n : ℕ) where
   pub run_end : (j : ℕ) → length l.tokens ≤ j → cut_run l k n j ≡ []
@@ -132,36 +132,10 @@ empty_names (Some f) t e = rw (no_family t (≟_eq t.text [] e), names)
 
 -- Where a token is cut
 
-module _ (k j : ℕ) where
-  pub front_yes : k < j → j - k ≡ 1 → 2 ≡ front k j
-  front_yes h e = rw (eq-eqb j (k + 1) (omega arith))
-
-  pub front_no : k < j → (j - k ≡ 1 → ⊥) → 0 ≡ front k j
-  front_no h e = rw (ne_eqb j (k + 1) (λ q. e (omega arith)))
-
-  pub front_before : j ≤ k → 0 ≡ front k j
-  front_before h = rw (ne_eqb j (k + 1) (λ q. omega arith))
-
-module _ (m e j n : ℕ) where
-  module _ (h : j < m) where
-    pub left_cut : m - j ≡ 1 → e < n → n - e ≡ n - back m e j
-    left_cut q g = rw (eq-eqb (j + 1) m (omega arith))
-
-    pub left_none : m - j ≡ 1 → n ≤ e → 0 ≡ n - back m e j
-    left_none q g = rw (eq-eqb (j + 1) m (omega arith)) (omega arith)
-
-    pub left_inner : (m - j ≡ 1 → ⊥) → n ≡ n - back m e j
-    left_inner q = rw (ne_eqb (j + 1) m (λ z. q (omega arith))) (omega arith)
-
-  pub left_past : m ≤ j → n ≡ n - back m e j
-  left_past h = rw (ne_eqb (j + 1) m (λ z. omega arith)) (omega arith)
-
 pub cut_at : (l : Line) (k e j m a b : ℕ) (r s : List ℕ) → r ≡ part a b s → a ≡ front k j → b ≡ length s - back m e j → s ≡ (token l j).text
     → m ≡ length l.tokens → r ≡ (cut_token l k e j).text
 unfolding cut_token
 cut_at l k e j m a b r s d p q u c = d ∙ rw (p, q, c, u)
-
-pub ruleset cut_places = (front_yes, front_no, front_before, left_cut, left_none, left_inner, left_past, cut_at)
 
 -- Names
 

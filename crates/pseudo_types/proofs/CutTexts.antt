@@ -1,14 +1,13 @@
 -- The text of a condition, and two compared, as rules for `search`.
 --   cut_text                                 the text of a condition is a part of the text of its tokens
---   text_past, text_cut, text_gone           the part that the code takes
---   same_no_if, same_no_while, same_is       two conditions compared
---   step_of                                  what is asked of a part, said of the text that it is
+--   text_past                                the part that the code takes, where there is none
+--   same_is                                  two conditions compared
 -- Assumes nothing.
-use Rattle.std.specs.Prelude.{Option, Some, None}
+use Rattle.std.specs.Prelude.{Option, Some}
 use mathlib.Core.Path.{◌≡◌, refl, sym, ap, ap₂, subst, ◌∙◌}
 use mathlib.Core.Bool.{Bool, true, false, not, cond}
 use mathlib.Core.List.{List, [], ◌∷◌, ◌++◌, append-nil}
-use Prim.Native.Nat.{ℕ, zero, suc, ◌+◌, ◌-◌, ◌≤◌, ◌<◌}
+use Prim.Native.Nat.{ℕ, zero, suc, ◌+◌, ◌-◌, ◌≤◌}
 use native.Mathlib.Omega.{arith}
 use lib.ListN.{length, take, drop, get_or, length-append, length-drop, drop_of_length-le}
 use lib.Seq.{take-append-add, drop-append-le, get_or-drop}
@@ -16,12 +15,11 @@ use Rattle.definitions.specs.Lists.{part, filter, on_first, on_last, ◌≟◌, 
 use Rattle.definitions.specs.Model.{Token, Line, no_token, text}
 use Rattle.definitions.specs.Statements.{is_empty}
 use Rattle.definitions.specs.Condition.{cut_front, cut_end, cut, condition}
-use Rattle.definitions.specs.ToFor.{is_step}
 use Rattle.text.proofs.Parts.{part_none}
 use Rattle.text.proofs.Texts.{≟_eq}
-use Rattle.condition.specs.Conditions.{conditional}
+use Rattle.condition.specs.Conditions.{conditional, Bounds, Within}
 use Rattle.condition.specs.declared.Cut.{Cut}
-use Rattle.pseudo_types.specs.Cuts.{text_from, Bounds, Within, same_condition}
+use Rattle.pseudo_types.specs.Cuts.{text_from, same_condition}
 
 -- Dropping empty tokens drops no byte.
 filter_text : (ts : List Token) → text (filter (λ t. not (is_empty t)) ts) ≡ text ts
@@ -80,32 +78,17 @@ module _ (l : Line) (k n : ℕ) (b : Bounds l k n) where
       filter_text (on_last (cut_end n) (on_first (cut_front 2) (drop (k + 1) ts)))
       ∙ both_text n (drop (k + 1) ts) m s (rw (get_or-drop (k + 1) ts 0 no_token, x) b.front) (rw (get_or-drop (k + 1) ts m no_token, y) b.end)
 
--- The part that the code takes
+-- The part that the code takes, where there is none
 
 module _ (l : Line) (k e : ℕ) where
   pub text_past : (n : ℕ) → n ≡ length l.tokens → n ≤ k → [] ≡ part 2 (length (text_from l (k + 1)) - e) (text_from l (k + 1))
   unfolding text
   text_past n c h = rw (drop_of_length-le l.tokens (let z : length l.tokens ≤ k + 1 = omega arith in z)) (sym (part_none [] 2 (0 - e) (omega arith)))
 
-  module _ (u : List ℕ) (q : u ≡ text_from l (k + 1)) where
-    pub text_cut : (r : List ℕ) → r ≡ part 2 (length u - e) u → r ≡ part 2 (length (text_from l (k + 1)) - e) (text_from l (k + 1))
-    text_cut r d = d ∙ ap (λ s. part 2 (length s - e) s) q
-
-    pub text_gone : length u < e → [] ≡ part 2 (length (text_from l (k + 1)) - e) (text_from l (k + 1))
-    text_gone h = sym (part_none (text_from l (k + 1)) 2 (length (text_from l (k + 1)) - e) (omega (arith, ap length q)))
-
-pub ruleset cut_texts = (text_past, text_cut, text_gone)
-
 -- Two compared
 
 module _ (l m : Line) (a : Option Cut) (p : conditional l a ≡ condition l (ascii "if")) where
-  pub same_no_if : a ≡ None → false ≡ same_condition l m
-  same_no_if e = rw (← p, e)
-
   module _ (c : Cut) (e : a ≡ Some c) (b : Option Cut) (q : conditional m b ≡ condition m (ascii "while")) where
-    pub same_no_while : b ≡ None → false ≡ same_condition l m
-    same_no_while f = rw (← p, e, ← q, f)
-
     pub same_is : Within l a → Within m b → (d : Cut) → b ≡ Some d → (r : Bool) (s u : List ℕ)
         → s ≡ part 2 (length (text_from l (c.keyword + 1)) - c.end) (text_from l (c.keyword + 1)) → u ≡ part 2 (length (text_from m (d.keyword + 1)) - d.end) (text_from m (d.keyword + 1))
         → r ≡ (s ≟ u) → r ≡ same_condition l m
@@ -113,8 +96,3 @@ module _ (l m : Line) (a : Option Cut) (p : conditional l a ≡ condition l (asc
         let B : Bounds l c.keyword c.end = subst (Within l) e x in
         let D : Bounds m d.keyword d.end = subst (Within m) f y in
         k' ∙ ap₂ ◌≟◌ (g ∙ sym (cut_text l c.keyword c.end B)) (h ∙ sym (cut_text m d.keyword d.end D)) ∙ rw (← p, e, ← q, f)
-
-pub ruleset same_conditions = (same_no_if, same_no_while, same_is)
-
-pub step_of : (r : Bool) (s t : List ℕ) → r ≡ is_step s → s ≡ t → r ≡ is_step t
-step_of r s t e q = e ∙ ap is_step q

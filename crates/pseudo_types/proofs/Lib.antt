@@ -1,4 +1,3 @@
 pub mod LineTexts
-pub mod Opened
 pub mod CutTexts
 pub mod CutRuns

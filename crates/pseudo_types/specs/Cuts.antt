@@ -2,15 +2,13 @@
 --   text_from l j          the texts of the tokens of line l from place j on, one after the other
 --   cut_token l k n j      token j of line l as token of the condition behind place k, of which n bytes are cut off at the end
 --   cut_run l k n j        such tokens from place j on
---   Within l c             the first token of the condition c has the bytes that are cut off at the front, the last those at the end
 --   same_text c d          both are conditions, with the same text
 --   same_condition l m     line l has a condition behind if, line m one behind while, and both have the same text
 -- Assumes nothing.
-use Rattle.std.specs.Prelude.{if◌then◌else◌, ℕ, ◌+◌, ◌-◌, ◌≤◌, ◌<◌, Bool, false, List, map, eqb, length, drop, Option, None, Some}
+use Rattle.std.specs.Prelude.{if◌then◌else◌, ℕ, ◌+◌, ◌-◌, Bool, false, List, map, eqb, length, drop, Option, None, Some}
 use Rattle.definitions.specs.Lists.{part, range, ◌≟◌, ascii}
 use Rattle.definitions.specs.Model.{Token, Line, tok, token, text}
 use Rattle.definitions.specs.Condition.{condition}
-use Rattle.condition.specs.declared.Cut.{Cut}
 
 abbrev pub text_from : Line → ℕ → List ℕ
 text_from l j = text (drop j l.tokens)
@@ -26,15 +24,6 @@ cut_token l k n j = tok (part (front k j) (length (token l j).text - back (lengt
 
 unfoldable pub cut_run : Line → ℕ → ℕ → ℕ → List Token
 cut_run l k n j = map (cut_token l k n) (range j (length l.tokens - j))
-
-pub record Bounds (l : Line) (k n : ℕ) : Type 0 where
-  pub opened : k + 1 < length l.tokens
-  pub front : 2 ≤ length (token l (k + 1)).text
-  pub end : n ≤ length (token l (length l.tokens - 1)).text
-
-abbrev pub Within : Line → Option Cut → Type 0
-Within l (Some c) = Bounds l c.keyword c.end
-Within l None = Unit {0}
 
 abbrev pub same_text : Option (List Token) → Option (List Token) → Bool
 same_text None d = false

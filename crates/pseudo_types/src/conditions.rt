@@ -1,69 +1,21 @@
 // Conditions: the text of one, two compared, and the families that one names. Nothing is copied; each token is looked at once.
 //
-// `condition` answers what that of pseudo_opt does, and its contract says too that the bytes that are cut off stand there. Contracts cite
-// `condition` of Rattle.definitions.specs.Condition; specs/Cuts.antt has the tokens of one as the code reads them.
+// Contracts cite `condition` of Rattle.definitions.specs.Condition; specs/Cuts.antt has the tokens of one as the code reads them.
+#![tactic(auto, using(crate::proofs::CutRuns::cut_names_at, crate::proofs::CutRuns::cut_names, crate::proofs::CutRuns::names_of, crate::proofs::CutTexts::text_past))]
+
 ghost use Rattle.std.specs.Prelude.{◌≡◌, true, [], ◌+◌, ◌-◌, ◌≤◌, ◌<◌, length};
 ghost use Rattle.definitions.specs.Lists.{any, part, or_else, starts_with, ascii};
 ghost use Rattle.definitions.specs.Model.{token, line};
 ghost use Rattle.definitions.specs.Questions.{question_2};
-ghost use Rattle.definitions.specs.Condition.{closing, condition};
+ghost use Rattle.definitions.specs.Condition.{condition};
 ghost use Rattle.model.specs.Listings.{listing_of};
 ghost use Rattle.family.specs.Register.{family_of, names_family};
-ghost use Rattle.condition.specs.Conditions.{cut_by, conditional};
-ghost use Rattle.pseudo_types.specs.Cuts.{text_from, front, back, cut_token, cut_run, Within, same_condition};
+ghost use Rattle.pseudo_types.specs.Cuts.{text_from, front, back, cut_token, cut_run, same_condition};
 
 use crate::texts::text_from;
-use condition::Cut;
+use condition::condition;
 use family::Register;
 use model::listing::Listing;
-
-// How many bytes the text loses at its end, 0 where it does not close a condition.
-fn closing(s: &[u8]) -> usize
-    ensures { (cut_by result ≡ closing s.now) × (result ≤ length s.now) }
-{
-    if text::ends_with(s, b") {") {
-        return 3;
-    }
-    if text::ends_with(s, b");") {
-        return 2;
-    }
-    0
-}
-
-// The same of the last token of line i, where it has n tokens.
-fn closes(code: &Listing, i: usize, n: usize) -> usize
-    ensures { let s = (token (line (listing_of code.now) i) (n - 1)).text in
-        (cut_by result ≡ closing s) × (result ≤ length s) }
-{
-    closing(code.text_at(i, n.saturating_sub(1)))
-}
-
-fn opens(code: &Listing, i: usize, k: usize) -> bool
-    ensures { let l = line (listing_of code.now) i in
-        result ≡ starts_with (ascii " (") (token l k).text }
-{
-    text::starts_with(code.text_at(i, k), b" (")
-}
-
-// The condition after the first keyword kw of line i.
-pub fn condition(code: &Listing, i: usize, kw: &[u8]) -> Option<Cut>
-    ensures result_value { let l = line (listing_of code.now) i in
-        conditional l result ≡ condition l kw.now }
-    ensures within { Within (line (listing_of code.now) i) result }
-{
-    let k = pseudo_opt::keywords::keyword_at(code, i, kw)?;
-    let n = code.token_count(i);
-    if n.saturating_sub(1) <= k {
-        return None;
-    }
-    if opens(code, i, k + 1) {
-        let end = closes(code, i, n);
-        if end != 0 {
-            return Some(Cut { keyword: k, end });
-        }
-    }
-    None
-}
 
 // The text of the condition behind place k of line i, of which `end` bytes are cut off at the end.
 fn condition_text<'a>(code: &Listing<'a>, i: usize, k: usize, end: usize) -> &'a [u8]
@@ -143,7 +95,7 @@ fn cut_names(
     end: usize,
     j: usize,
     s: &[u8],
-    r: Register,
+    r: Option<Register>,
 ) -> bool
     ensures { let l = line (listing_of code.now) i in
         result ≡ names_family (family_of s.now r) (cut_token l k end j) }
@@ -159,7 +111,7 @@ fn names_from(
     end: usize,
     from: usize,
     s: &[u8],
-    r: Register,
+    r: Option<Register>,
 ) -> bool
     ensures { let l = line (listing_of code.now) i in
         result ≡ any (names_family (family_of s.now r)) (cut_run l k end from) }
@@ -174,7 +126,7 @@ fn names_from(
 }
 
 // The condition after the keyword if of line i names the family that the answer r of the text s is.
-pub fn condition_names(code: &Listing, i: usize, s: &[u8], r: Register) -> bool
+pub fn condition_names(code: &Listing, i: usize, s: &[u8], r: Option<Register>) -> bool
     ensures { let l = line (listing_of code.now) i in
         result ≡ any (names_family (family_of s.now r)) (or_else (condition l (ascii "if")) []) }
 {

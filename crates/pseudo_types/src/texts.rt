@@ -1,6 +1,8 @@
 // The text of a line, and what the loop passes compare it with. `text_from` takes constant time, the others compare a few bytes.
 //
 // Contracts cite `text` of Rattle.definitions.specs.Model, `is_guard`, `lone_brace` and `is_step`.
+#![tactic(auto, using(crate::proofs::LineTexts::line_texts, model::proofs::Access::access))]
+
 ghost use Rattle.std.specs.Prelude.{◌≡◌, true};
 ghost use Rattle.definitions.specs.Model.{line};
 ghost use Rattle.definitions.specs.Questions.{question_2};

@@ -3,7 +3,7 @@
 //
 // Contracts cite `question_1`, `question_2`, `question_3` and `refusal` of Rattle.definitions.specs.Questions.
 
-#![tactic(auto, using(model::proofs::Ands::ands))]
+#![tactic(auto, using(model::proofs::Ands::ands, crate::proofs::Asked::asked, crate::proofs::Ascii::bounds))]
 
 ghost use Rattle.std.specs.Prelude.{◌≡◌, ◌&&◌, ℕ, ◌-◌, ◌/◌, ◌%◌, ◌<◌, ◌≤◌, eqb, leb, get_or, length};
 ghost use Rattle.definitions.specs.Lists.{all};
@@ -141,6 +141,7 @@ fn is_text(code: &Listing, k: usize) -> bool
 }
 
 // Each token's text is UTF-8, asked token by token.
+#[tactic(auto, using(crate::proofs::Asked::asked, text::proofs::Loops::loops))]
 fn are_texts(code: &Listing) -> bool
     ensures { result ≡ question_3 code.now.tokens.now code.now.text.now }
 {
@@ -153,19 +154,13 @@ fn are_texts(code: &Listing) -> bool
     true
 }
 
-fn larger(a: u8, b: u8) -> u8
-    ensures { (a ≤ result) × (b ≤ result) }
-{
-    if a < b { b } else { a }
-}
-
 // No byte is greater than the answer.
 fn bound(s: &[u8]) -> u8
     ensures { Bounded result (length s.now) s.now }
 {
-    let mut most = 0;
-    for k in 0..s.len() {
-        most = larger(most, s[k]);
+    let mut most: u8 = 0;
+    for byte in s {
+        most = most.max(*byte);
     }
     most
 }

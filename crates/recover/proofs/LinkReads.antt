@@ -20,7 +20,7 @@ use Rattle.definitions.specs.Recover.{link}
 use Rattle.theory.proofs.Bools.{lt_or_ge}
 use Rattle.theory.proofs.ListLaws.{member_range, getD_range, length_range, getD_map_up_to}
 use Rattle.bits.specs.Edges.{preds_of}
-use Rattle.visit.specs.Layout.{making, Room}
+use Rattle.visit.specs.Layout.{making, Fits}
 use Rattle.visit.specs.Numbers.{defining_lines}
 use Rattle.sweep.specs.Solved.{Incoming}
 use Rattle.visit.proofs.LayoutLaws.{room_same, kept_preds, kept_both}
@@ -51,8 +51,8 @@ module _ (n r w i : ℕ) (nums l₀ l : List ℕ) (S : Swept n r w nums l₀) (I
 -- `link_line`
 
 module _ (n r w i : ℕ) (nums l₀ rep set marks : List ℕ) (S : Swept n r w nums l₀) (F : Slices n nums rep set marks) where
-  pub line_room : Room n r w l₀ × (length rep ≤ w * 64) × (length rep ≤ length set) × (length rep ≤ 65536)
-  line_room = (S.room, omega (arith, F.sized.size, S.numbered.few), F.sized.room, F.sized.small)
+  pub line_room : Fits n r w l₀ × (length rep ≤ w * 64) × (length rep ≤ length set) × (length rep ≤ 65536)
+  line_room = (S.room.room, omega (arith, F.sized.size, S.numbered.few), F.sized.room, F.sized.small)
 
   pub links_one : (l s rep' : List ℕ) (m : ℕ) → length l ≡ length l₀ → Reached n r w i (length rep) l₀ l s m → rep' ≡ link rep (take m s) → Links n r w nums l₀ l rep rep' (i ∷ [])
   unfolding linked fold
@@ -109,8 +109,8 @@ web_by rep rank R d k v e q =
     ∙ getD_map_up_to (earlier rep) (length rep) k 0 (rw e (R.inside.at d)) ∙ ap (earlier rep) e
 
 module _ (n r w i : ℕ) (nums l₀ rep : List ℕ) (S : Swept n r w nums l₀) (size : length rep ≡ suc (length (defining_lines n nums))) where
-  pub read_room : Room n r w l₀ × (length rep ≤ w * 64)
-  read_room = (S.room, omega (arith, size, S.numbered.few))
+  pub read_room : Fits n r w l₀ × (length rep ≤ w * 64)
+  read_room = (S.room.room, omega (arith, size, S.numbered.few))
 
   pub read_by : (l : List ℕ) (d v : ℕ) → length l ≡ length l₀ → FirstReached n r w i (length rep) l₀ l d → v ≡ earlier rep (get_or rep d 0) → ReadWeb n r w i nums l₀ l rep v
   read_by l d v e R t = record {

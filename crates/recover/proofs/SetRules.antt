@@ -1,7 +1,7 @@
 -- Rules for the needs of `sets`.
 --   filter_snoc                                        a filtered list with one more at its end
 --   put_yes, put_no                                    `put`
---   Listing, members_start, members_next, members_few, members_end  the loop of `members`
+--   Listing, members_start, members_next  the loop of `members`
 --   row_room, reached_by                               `reaching`
 --   first_there, first_none                            `first_reaching`
 -- Assumes nothing.
@@ -16,7 +16,8 @@ use lib.ListN.{length, set, take}
 use lib.Seq.{take-suc-set}
 use Rattle.definitions.specs.Lists.{filter, range, up_to, or_else, first}
 use Rattle.bits.specs.Rows.{bit, First}
-use Rattle.visit.specs.Layout.{making, Room}
+use Rattle.visit.specs.Layout.{making, Fits}
+use Rattle.visit.specs.declared.layout.Layout.{Layout}
 use Rattle.sweep.specs.Solved.{Incoming}
 use Rattle.recover.specs.Reaching.{bits_from, Put, Reached, FirstReached}
 use Rattle.families.proofs.Lists.{range_snoc}
@@ -128,18 +129,11 @@ module _ (n r w i nd a q : ℕ) (l₀ l : List ℕ) (ea : a ≡ making n r w * 6
   pub first_none : a + nd ≤ q → FirstReached n r w i nd l₀ l 0
   first_none h = record { is = let p : nd ≡ q - a = omega (arith, F.upto) in sym (ap (λ (ds : List ℕ). or_else (first ds) 0) (ap₂ (bits_from l) (sym ea) p ∙ low_none)); row = I }
 
-module _ (l s : List ℕ) (a n m q : ℕ) (L : Listing l a (a + n) s m q) where
-  pub members_few : m ≤ n
-  members_few = omega (arith, L.few, L.high)
+pub row_room : (n r w nd a : ℕ) (l l' : List ℕ) → Fits n r w l → length l' ≡ length l → a ≡ making n r w * 64 → nd ≤ w * 64 → a + nd ≤ length l' * 64
+row_room n r w nd a l l' R s e h = omega arith
 
-  pub members_end : a + n ≤ q → take m s ≡ bits_from l a n
-  members_end h = let p : q - a ≡ n = omega (arith, L.high) in L.front ∙ ap (bits_from l a) p
-
-pub row_room : (n r w nd a : ℕ) (l l' : List ℕ) → Room n r w l → length l' ≡ length l → a ≡ making n r w * 64 → nd ≤ w * 64 → a + nd ≤ length l' * 64
-row_room n r w nd a l l' R s e h = omega (arith, R.room)
-
-pub row_low : (n r w a : ℕ) (l : List ℕ) → Room n r w l → a ≡ making n r w * 64 → a ≤ 4194304
-row_low n r w a l R e = omega (arith, R.small)
+pub row_low : (m : Layout) (a : ℕ) → a ≡ making m.n m.r m.w * 64 → a ≤ 4194304
+row_low m a e = omega (arith, m.small)
 
 pub reached_by : (n r w i nd a m : ℕ) (l₀ l s : List ℕ) → a ≡ making n r w * 64 → m ≤ nd → take m s ≡ bits_from l a nd → Incoming n r w i l₀ l → Reached n r w i nd l₀ l s m
 reached_by n r w i nd a m l₀ l s e h q I = record { few = h; set = rw e at q; row = I }

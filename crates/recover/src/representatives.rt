@@ -2,6 +2,8 @@
 // each set already found: one link takes time linear in the family's definitions.
 //
 // Contracts cite `link` of Rattle.definitions.specs.Recover.
+#![tactic(auto, using(crate::proofs::RepresentativeRules::representative_rules))]
+
 ghost use Rattle.std.specs.Prelude.{◌≡◌, map, cond, ◌≤◌, ◌<◌, eqb, length, get_or, set};
 ghost use Rattle.definitions.specs.Lists.{all, up_to};
 ghost use Rattle.definitions.specs.Recover.{link};

@@ -5,95 +5,32 @@
 
 #![tactic(auto)]
 
-ghost use Rattle.std.specs.Prelude.{◌≡◌, ◌≤◌, length, None};
+ghost use Rattle.std.specs.Prelude.{◌≡◌};
+ghost use Rattle.definitions.specs.RecoverGotoLoops.{recover_goto_loops};
 ghost use Rattle.definitions.specs.Answers.{goto_loops};
-ghost use Rattle.definitions.specs.Calls.{pass_refusal, pass_call};
+ghost use Rattle.definitions.specs.Calls.{pass_call};
 ghost use Rattle.write.specs.Holds.{columns};
 ghost use Rattle.pass_call.specs.Answers.{passed_with};
+ghost use Rattle.loop_theory.proofs.Room.{recover_goto_loops_room};
 
-use loops::turns::Planned;
+use goto_turns::turns::plan_goto_loops;
 use model::listing::Listing;
+use pass_call::Pass;
+use plan::Overflow;
 use questions::{Limits, Refusal};
+use write::Writer;
 
-// Questions 1 to 4 are answered yes. The plan is lent.
-fn passed_in(
-    code: &Listing,
-    addresses: &[u64],
-    plan: &mut [usize],
-    rows: &mut [u32],
-    places: &mut [u64],
-    words: &mut [u32],
-    bytes: &mut [u8],
-) -> Result<Limits, Refusal>
-    requires lines_in_bounds { length code.now.lines.now ≤ length plan.old }
-    requires bytes_value { pass_refusal (columns code.now.lines.now addresses.now code.now.tokens.now code.now.text.now) (columns rows.old places.old words.old bytes.old) ≡ None }
-    ensures { let c = columns code.now.lines.now addresses.now code.now.tokens.now code.now.text.now in
-        passed_with result (columns rows.new places.new words.new bytes.new)
-        ≡ pass_call goto_loops c (columns rows.old places.old words.old bytes.old) }
-{
-    let Planned::Lines(n) = goto_turns::turns::plan_goto_loops(code, plan) else {
-        pass_call::zero_all(rows, places, words, bytes);
-        return Err(Refusal::Overflow);
-    };
-    Ok(pass_call::written(code, addresses, plan, n, rows, places, words, bytes))
-}
+struct GotoLoops;
 
-// Questions 1 to 4 are answered yes.
-fn passed_long(
-    code: &Listing,
-    addresses: &[u64],
-    rows: &mut [u32],
-    places: &mut [u64],
-    words: &mut [u32],
-    bytes: &mut [u8],
-) -> Result<Limits, Refusal>
-    requires { pass_refusal (columns code.now.lines.now addresses.now code.now.tokens.now code.now.text.now) (columns rows.old places.old words.old bytes.old) ≡ None }
-    ensures { let c = columns code.now.lines.now addresses.now code.now.tokens.now code.now.text.now in
-        passed_with result (columns rows.new places.new words.new bytes.new)
-        ≡ pass_call goto_loops c (columns rows.old places.old words.old bytes.old) }
-{
-    let mut plan = [0usize; 1024];
-    passed_in(code, addresses, &mut plan, rows, places, words, bytes)
-}
+impl Pass for GotoLoops {
+    ghost made = { recover_goto_loops };
 
-// The same of a listing of at most 64 lines: shorter arrays to zero.
-fn passed_short(
-    code: &Listing,
-    addresses: &[u64],
-    rows: &mut [u32],
-    places: &mut [u64],
-    words: &mut [u32],
-    bytes: &mut [u8],
-) -> Result<Limits, Refusal>
-    requires lines_len_bound { length code.now.lines.now ≤ 64 }
-    requires bytes_value { pass_refusal (columns code.now.lines.now addresses.now code.now.tokens.now code.now.text.now) (columns rows.old places.old words.old bytes.old) ≡ None }
-    ensures { let c = columns code.now.lines.now addresses.now code.now.tokens.now code.now.text.now in
-        passed_with result (columns rows.new places.new words.new bytes.new)
-        ≡ pass_call goto_loops c (columns rows.old places.old words.old bytes.old) }
-{
-    let mut plan = [0usize; 64];
-    passed_in(code, addresses, &mut plan, rows, places, words, bytes)
-}
-
-// The same, with arrays that fit the listing.
-fn passed(
-    code: &Listing,
-    addresses: &[u64],
-    rows: &mut [u32],
-    places: &mut [u64],
-    words: &mut [u32],
-    bytes: &mut [u8],
-) -> Result<Limits, Refusal>
-    requires { pass_refusal (columns code.now.lines.now addresses.now code.now.tokens.now code.now.text.now) (columns rows.old places.old words.old bytes.old) ≡ None }
-    ensures { let c = columns code.now.lines.now addresses.now code.now.tokens.now code.now.text.now in
-        passed_with result (columns rows.new places.new words.new bytes.new)
-        ≡ pass_call goto_loops c (columns rows.old places.old words.old bytes.old) }
-{
-    if code.lines.len() <= 64 {
-        passed_short(code, addresses, rows, places, words, bytes)
-    } else {
-        passed_long(code, addresses, rows, places, words, bytes)
+    #[tactic(auto, using(crate::proofs::Calling::sound_words))]
+    fn plan(code: &Listing, plan: &mut [usize]) -> Result<usize, Overflow> {
+        plan_goto_loops(code, plan)
     }
+
+    ghost fits = { λ L M e. let f = recover_goto_loops_room L M e in (f.lines, f.tokens, f.text) };
 }
 
 // Label and goto loops made while or for loops.
@@ -109,6 +46,12 @@ pub fn recover_goto_loops(
         passed_with result (columns rows.new places.new words.new bytes.new)
         ≡ pass_call goto_loops c (columns rows.old places.old words.old bytes.old) }
 {
-    pass_call::asked(code, addresses, rows, places, words, bytes)?;
-    passed(code, addresses, rows, places, words, bytes)
+    let mut out = Writer {
+        lines: rows,
+        addresses: places,
+        tokens: words,
+        text: bytes,
+        written: write::start(),
+    };
+    pass_call::call::<GotoLoops>(&mut out, code, addresses)
 }

@@ -5,107 +5,54 @@
 
 #![tactic(auto)]
 
-ghost use Rattle.std.specs.Prelude.{◌≡◌, ◌≤◌, length, None};
+ghost use Rattle.std.specs.Prelude.{◌≡◌, true, List, ◌≤◌, length};
+ghost use Rattle.definitions.specs.Model.{Line};
+ghost use Rattle.definitions.specs.Questions.{question_2};
+ghost use Rattle.definitions.specs.RecoverLoops.{recover_loops};
 ghost use Rattle.definitions.specs.Answers.{loops};
-ghost use Rattle.definitions.specs.Calls.{pass_refusal, pass_call};
-ghost use Rattle.model.specs.Listings.{listing_of};
-ghost use Rattle.line_keywords.specs.Masks.{Masks};
+ghost use Rattle.definitions.specs.Calls.{pass_call};
+ghost use Rattle.plan.specs.Source.{Source};
+ghost use Rattle.plan.specs.Planned.{planned};
+ghost use Rattle.loops.specs.Turns.{Emitted};
 ghost use Rattle.write.specs.Holds.{columns};
 ghost use Rattle.pass_call.specs.Answers.{passed_with};
+ghost use Rattle.loop_theory.proofs.Room.{recover_loops_room};
 
-use loops::turns::Planned;
+use line_keywords::Keywords;
+use loops::turns::plan_loops;
 use model::listing::Listing;
+use pass_call::Pass;
+use plan::Overflow;
 use questions::{Limits, Refusal};
+use write::Writer;
 
-// Questions 1 to 4 are answered yes. The plan and the masks are lent.
-fn passed_in(
-    code: &Listing,
-    addresses: &[u64],
-    masks: &[u8],
-    plan: &mut [usize],
-    rows: &mut [u32],
-    places: &mut [u64],
-    words: &mut [u32],
-    bytes: &mut [u8],
-) -> Result<Limits, Refusal>
-    requires lines_in_bounds { length code.now.lines.now ≤ length plan.old }
-    requires bytes_value { pass_refusal (columns code.now.lines.now addresses.now code.now.tokens.now code.now.text.now) (columns rows.old places.old words.old bytes.old) ≡ None }
-    requires masks { Masks (listing_of code.now) masks.now }
-    ensures { let c = columns code.now.lines.now addresses.now code.now.tokens.now code.now.text.now in
-        passed_with result (columns rows.new places.new words.new bytes.new)
-        ≡ pass_call loops c (columns rows.old places.old words.old bytes.old) }
+// The listing has at most N lines.
+fn plan_in<const N: usize>(code: &Listing, plan: &mut [usize]) -> Result<usize, Overflow>
+    requires { (length code.now.lines.now ≤ N) × (N ≤ 1024) × (length code.now.lines.now ≤ length plan.old) × (question_2 code.now.lines.now code.now.tokens.now code.now.text.now ≡ true) }
+    ensures result_after { (S : List Line) → Source S code.now.lines.now code.now.tokens.now code.now.text.now → planned S plan.new result ≡ recover_loops S }
+    ensures emitted { Emitted (length code.now.lines.now) plan.new result }
 {
-    let Planned::Lines(n) = loops::turns::plan_loops(code, masks, plan) else {
-        pass_call::zero_all(rows, places, words, bytes);
-        return Err(Refusal::Overflow);
-    };
-    Ok(pass_call::written(code, addresses, plan, n, rows, places, words, bytes))
+    let mut masks = [0u8; N];
+    let keywords = Keywords::new(code, &mut masks);
+    plan_loops(&keywords, plan)
 }
 
-// Questions 1 to 4 are answered yes.
-fn passed_long(
-    code: &Listing,
-    addresses: &[u64],
-    rows: &mut [u32],
-    places: &mut [u64],
-    words: &mut [u32],
-    bytes: &mut [u8],
-) -> Result<Limits, Refusal>
-    requires { pass_refusal (columns code.now.lines.now addresses.now code.now.tokens.now code.now.text.now) (columns rows.old places.old words.old bytes.old) ≡ None }
-    ensures { let c = columns code.now.lines.now addresses.now code.now.tokens.now code.now.text.now in
-        passed_with result (columns rows.new places.new words.new bytes.new)
-        ≡ pass_call loops c (columns rows.old places.old words.old bytes.old) }
-{
-    let mut masks = [0u8; 1024];
-    let mut plan = [0usize; 1024];
-    line_keywords::masks(code, &mut masks);
-    passed_in(
-        code, addresses, &masks, &mut plan, rows, places, words, bytes,
-    )
-}
+struct Loops;
 
-// The same of a listing of at most 64 lines: shorter arrays to zero.
-fn passed_short(
-    code: &Listing,
-    addresses: &[u64],
-    rows: &mut [u32],
-    places: &mut [u64],
-    words: &mut [u32],
-    bytes: &mut [u8],
-) -> Result<Limits, Refusal>
-    requires lines_len_bound { length code.now.lines.now ≤ 64 }
-    requires bytes_value { pass_refusal (columns code.now.lines.now addresses.now code.now.tokens.now code.now.text.now) (columns rows.old places.old words.old bytes.old) ≡ None }
-    ensures { let c = columns code.now.lines.now addresses.now code.now.tokens.now code.now.text.now in
-        passed_with result (columns rows.new places.new words.new bytes.new)
-        ≡ pass_call loops c (columns rows.old places.old words.old bytes.old) }
-{
-    let mut masks = [0u8; 64];
-    let mut plan = [0usize; 64];
-    line_keywords::masks(code, &mut masks);
-    passed_in(
-        code, addresses, &masks, &mut plan, rows, places, words, bytes,
-    )
-}
+impl Pass for Loops {
+    ghost made = { recover_loops };
 
-// The same, with arrays that fit the listing.
-fn passed(
-    code: &Listing,
-    addresses: &[u64],
-    rows: &mut [u32],
-    places: &mut [u64],
-    words: &mut [u32],
-    bytes: &mut [u8],
-) -> Result<Limits, Refusal>
-    requires { pass_refusal (columns code.now.lines.now addresses.now code.now.tokens.now code.now.text.now) (columns rows.old places.old words.old bytes.old) ≡ None }
-    ensures { let c = columns code.now.lines.now addresses.now code.now.tokens.now code.now.text.now in
-        passed_with result (columns rows.new places.new words.new bytes.new)
-        ≡ pass_call loops c (columns rows.old places.old words.old bytes.old) }
-{
-    if code.lines.len() <= 64 {
-        passed_short(code, addresses, rows, places, words, bytes)
-    } else {
-        passed_long(code, addresses, rows, places, words, bytes)
+    // A listing of at most 64 lines has a shorter array to zero.
+    #[tactic(auto, using(crate::proofs::Calling::sound_words))]
+    fn plan(code: &Listing, plan: &mut [usize]) -> Result<usize, Overflow> {
+        if code.lines.len() <= 64 {
+            plan_in::<64>(code, plan)
+        } else {
+            plan_in::<1024>(code, plan)
+        }
     }
+
+    ghost fits = { λ L M e. let f = recover_loops_room L M e in (f.lines, f.tokens, f.text) };
 }
 
 // Guarded do-while loops made while or for loops.
@@ -121,6 +68,12 @@ pub fn recover_loops(
         passed_with result (columns rows.new places.new words.new bytes.new)
         ≡ pass_call loops c (columns rows.old places.old words.old bytes.old) }
 {
-    pass_call::asked(code, addresses, rows, places, words, bytes)?;
-    passed(code, addresses, rows, places, words, bytes)
+    let mut out = Writer {
+        lines: rows,
+        addresses: places,
+        tokens: words,
+        text: bytes,
+        written: write::start(),
+    };
+    pass_call::call::<Loops>(&mut out, code, addresses)
 }

@@ -1,90 +1,46 @@
--- Rules for the needs of the functions that read a number.
---   digit_more, digit_beyond, digit_high, digit_low    what a byte does to the digits before it
---   blanks_next, blanks_stop, blanks_end               the loop of `skip`
---   digits_more, digits_over, digits_beyond, digits_end    the loop of `digits`
---   number_found, number_empty, number_beyond    the answers of `number`
+-- What the definitions give, one step at a time.
+--   blanks_*    at a blank, at another byte, at the end
+--   digits_*    at a digit, at one with which the value is beyond 64 bits, at another byte, at the end
 -- Assumes nothing.
-use mathlib.Core.Path.{◌≡◌, sym, ◌∙◌}
-use mathlib.Core.Bool.{Bool, true, false}
-use mathlib.Core.List.{List}
-use Prim.Native.Nat.{ℕ, ◌+◌, ◌*◌, ◌-◌, ◌/◌, ◌≤◌, ◌<◌}
+use Rattle.std.specs.Prelude.{Some, None}
+use mathlib.Core.Path.{◌≡◌, refl}
+use mathlib.Core.Bool.{true, false}
+use mathlib.Core.List.{List, [], ◌∷◌}
+use Prim.Native.Nat.{ℕ, ◌+◌, ◌*◌, ◌-◌, ◌≤◌, ◌<◌}
 use native.Mathlib.Omega.{arith}
-use borrow.Author.Tests.{le-leb, lt-leb, lt-ltb, le-ltb}
-use lib.ListN.{length, get_or, drop}
-use Rattle.text.proofs.Parts.{drop_step, drop_end}
-use Rattle.replay.specs.declared.decimal.Found.{Found}
-use Rattle.replay.specs.declared.decimal.Found.TheVariants.{Number, Bad}
-use Rattle.replay.specs.declared.decimal.Step.{Step}
-use Rattle.replay.specs.declared.decimal.Step.TheVariants.{More, Over, Beyond}
-use Rattle.replay.specs.Decimal.{is_blank, blanks, digit, digits, number}
+use borrow.Author.Tests.{le-leb, lt-leb}
+use lib.ListN.{length}
+use Rattle.replay.specs.Decimal.{is_blank, blanks, is_digit, digits}
 
-module _ (v b : ℕ) where
-  pub digit_low : b < 48 → Over ≡ digit v b
-  unfolding digit
-  digit_low h = simp (lt-leb 48 b h)
+pub blanks_next : (b : ℕ) (s : List ℕ) → is_blank b ≡ true → blanks (b ∷ s) ≡ blanks s
+unfolding blanks
+blanks_next b s e = rw e
 
-  module _ (low : 48 ≤ b) where
-    pub digit_high : 57 < b → Over ≡ digit v b
-    unfolding digit
-    digit_high h = simp (le-leb 48 b low, lt-leb b 57 h)
+pub blanks_stop : (b : ℕ) (s : List ℕ) → is_blank b ≡ false → blanks (b ∷ s) ≡ b ∷ s
+unfolding blanks
+blanks_stop b s e = rw e
 
-    module _ (w : ℕ) (e : w ≡ b) (high : b ≤ 57) where
-      pub digit_more : v ≤ (18446744073709551615 - (w - 48)) / 10 → More (v * 10 + (w - 48)) ≡ digit v b
-      unfolding digit
-      digit_more h =
-          let fits : v * 10 + (b - 48) ≤ 18446744073709551615 = omega arith in
-          simp (e, le-leb 48 b low, le-leb b 57 high, le-leb (v * 10 + (b - 48)) 18446744073709551615 fits)
+pub blanks_end : (s : List ℕ) → length s ≡ 0 → blanks s ≡ s
+unfolding blanks
+blanks_end [] h = refl
+blanks_end (b ∷ s) h = absurd (omega arith)
 
-      pub digit_beyond : (18446744073709551615 - (w - 48)) / 10 < v → Beyond ≡ digit v b
-      unfolding digit
-      digit_beyond h =
-          let over : 18446744073709551615 < v * 10 + (b - 48) = omega arith in
-          simp (le-leb 48 b low, le-leb b 57 high, lt-leb (v * 10 + (b - 48)) 18446744073709551615 over)
+pub digits_end : (v : ℕ) (s : List ℕ) → length s ≡ 0 → digits v s ≡ Some (v, s)
+unfolding digits
+digits_end v [] h = refl
+digits_end v (b ∷ s) h = absurd (omega arith)
 
-module _ (s : List ℕ) (i whole : ℕ) (inv : whole ≡ blanks (drop i s) i) where
-  module _ (t : Bool) (h : i < length s) (e : t ≡ is_blank (get_or s i 0)) where
-    pub blanks_next : t ≡ true → whole ≡ blanks (drop (i + 1) s) (i + 1)
-    unfolding blanks
-    blanks_next y = inv ∙ rw (drop_step 0 s i h, ← e, y)
-
-    pub blanks_stop : t ≡ false → i ≡ whole
-    unfolding blanks
-    blanks_stop n = sym (inv ∙ rw (drop_step 0 s i h, ← e, n))
-
-  pub blanks_end : length s ≤ i → i ≡ whole
-  unfolding blanks
-  blanks_end h = sym (inv ∙ rw (drop_end s i h))
-
-module _ (s : List ℕ) (v i : ℕ) (whole : Found) (inv : whole ≡ digits (drop i s) v i) where
-  module _ (r : Step) (h : i < length s) (e : r ≡ digit v (get_or s i 0)) where
-    pub digits_more : (w : ℕ) → r ≡ More w → whole ≡ digits (drop (i + 1) s) w (i + 1)
-    unfolding digits
-    digits_more w y = inv ∙ rw (drop_step 0 s i h, digits, ← e, y)
-
-    pub digits_over : r ≡ Over → Number v i ≡ whole
-    unfolding digits
-    digits_over y = sym (inv ∙ rw (drop_step 0 s i h, digits, ← e, y))
-
-    pub digits_beyond : r ≡ Beyond → Bad ≡ whole
-    unfolding digits
-    digits_beyond y = sym (inv ∙ rw (drop_step 0 s i h, digits, ← e, y))
-
-  pub digits_end : length s ≤ i → Number v i ≡ whole
+module _ (v b : ℕ) (s : List ℕ) where
+  pub digits_stop : is_digit b ≡ false → digits v (b ∷ s) ≡ Some (v, b ∷ s)
   unfolding digits
-  digits_end h = sym (inv ∙ rw (drop_end s i h))
+  digits_stop e = rw e
 
-module _ (s : List ℕ) (at i : ℕ) (place : i ≡ blanks (drop at s) at) (r : Found) (read : r ≡ digits (drop i s) 0 i) where
-  module _ (v e : ℕ) (h : r ≡ Number v e) where
-    pub number_found : i < e → Number v e ≡ number s at
-    unfolding number
-    number_found l = rw (← place, ← read, h, lt-ltb i e l)
+  pub digits_next : is_digit b ≡ true → v * 10 + (b - 48) ≤ 18446744073709551615 → digits v (b ∷ s) ≡ digits (v * 10 + (b - 48)) s
+  unfolding digits
+  digits_next e h = rw (e, le-leb (v * 10 + (b - 48)) 18446744073709551615 h)
 
-    pub number_empty : e ≤ i → Bad ≡ number s at
-    unfolding number
-    number_empty l = rw (← place, ← read, h, le-ltb i e l)
+  pub digits_beyond : is_digit b ≡ true → 18446744073709551615 < v * 10 + (b - 48) → digits v (b ∷ s) ≡ None
+  unfolding digits
+  digits_beyond e h = rw (e, lt-leb (v * 10 + (b - 48)) 18446744073709551615 h)
 
-  pub number_beyond : r ≡ Bad → Bad ≡ number s at
-  unfolding number
-  number_beyond h = rw (← place, ← read, h)
-
-pub ruleset number_rules = (digit_low, digit_high, digit_more, digit_beyond, blanks_next, blanks_stop, blanks_end, digits_more, digits_over, digits_beyond, digits_end, number_found, number_empty, number_beyond)
+pub ruleset number_rules = (blanks_next, blanks_stop, blanks_end, digits_end, digits_stop, digits_next, digits_beyond)

@@ -1,3 +1,1 @@
-mod Parts
 mod Digits
-mod Ahead

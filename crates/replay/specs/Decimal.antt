@@ -1,42 +1,40 @@
 -- Decimal numbers in text, separated by blanks and line feeds.
---   is_blank b          the byte b is a blank or a line feed
---   blanks s i          the place of the first byte of s that is neither; s starts at place i
---   digit v b           what the byte b does to the digits before it, whose value is v
---   digits s v i        the value of the digits that s starts with, and the place behind them, where v is the value of those before s
---   beyond i n          the number n, where it ends behind place i
---   number s at         the number that stands at place `at` of s, behind any blanks
---   behind d n          the place behind the number n, d where there is none
+--   is_blank b      the byte b is a blank or a line feed
+--   blanks s        what is left of s behind the blanks and line feeds at its start
+--   is_digit b      the byte b is a digit
+--   digits v s      the value of the digits that s starts with, behind digits whose value is v, and what is left behind them; none where it is
+--                   beyond 64 bits
+--   shorter s r     the number r, where less is left behind it than s
+--   number s        the number that s starts with, behind any blanks, and what is left behind it
+--   number_of r     the answer r of the code
 -- Assumes nothing.
-use Rattle.std.specs.Prelude.{if◌then◌else◌, ℕ, ◌+◌, ◌*◌, ◌-◌, Bool, ◌&&◌, ◌||◌, List, [], ◌∷◌, eqb, ltb, leb, drop}
-use Rattle.replay.specs.declared.decimal.Found.{Found}
-use Rattle.replay.specs.declared.decimal.Found.TheVariants.{Number, Bad}
-use Rattle.replay.specs.declared.decimal.Step.{Step}
-use Rattle.replay.specs.declared.decimal.Step.TheVariants.{More, Over, Beyond}
+use Rattle.std.specs.Prelude.{if◌then◌else◌, ℕ, ◌+◌, ◌*◌, ◌-◌, Bool, ◌&&◌, ◌||◌, List, [], ◌∷◌, eqb, ltb, leb, length, Option, None, Some}
+use Rattle.std.specs.Borrow.{Bor}
 
 abbrev pub is_blank : ℕ → Bool
 is_blank b = eqb b 32 || eqb b 10
 
-unfoldable pub blanks : List ℕ → ℕ → ℕ
-blanks [] i = i
-blanks (b ∷ s) i = if is_blank b then blanks s (i + 1) else i
+unfoldable pub blanks : List ℕ → List ℕ
+blanks [] = []
+blanks (b ∷ s) = if is_blank b then blanks s else b ∷ s
 
-unfoldable pub digit : ℕ → ℕ → Step
-digit v b =
-    if leb 48 b && leb b 57
-    then (if leb (v * 10 + (b - 48)) 18446744073709551615 then More (v * 10 + (b - 48)) else Beyond)
-    else Over
+abbrev pub is_digit : ℕ → Bool
+is_digit b = leb 48 b && leb b 57
 
-unfoldable pub digits : List ℕ → ℕ → ℕ → Found
-digits [] v i = Number v i
-digits (b ∷ s) v i = elim (digit v b) [ More w ↦ digits s w (i + 1) | Over ↦ Number v i | Beyond ↦ Bad ]
+unfoldable pub digits : ℕ → List ℕ → Option (ℕ × List ℕ)
+digits v [] = Some (v, [])
+digits v (b ∷ s) =
+    if is_digit b
+    then (if leb (v * 10 + (b - 48)) 18446744073709551615 then digits (v * 10 + (b - 48)) s else None)
+    else Some (v, b ∷ s)
 
-abbrev pub beyond : ℕ → Found → Found
-beyond i (Number v e) = if ltb i e then Number v e else Bad
-beyond i Bad = Bad
+abbrev pub shorter : List ℕ → Option (ℕ × List ℕ) → Option (ℕ × List ℕ)
+shorter s (Some (v, rest)) = if ltb (length rest) (length s) then Some (v, rest) else None
+shorter s None = None
 
-unfoldable pub number : List ℕ → ℕ → Found
-number s at = beyond (blanks (drop at s) at) (digits (drop (blanks (drop at s) at) s) 0 (blanks (drop at s) at))
+abbrev pub number : List ℕ → Option (ℕ × List ℕ)
+number s = shorter (blanks s) (digits 0 (blanks s))
 
-abbrev pub behind : ℕ → Found → ℕ
-behind d (Number v e) = e
-behind d Bad = d
+abbrev pub number_of : Option (ℕ × Bor (List ℕ)) → Option (ℕ × List ℕ)
+number_of (Some (v, rest)) = Some (v, rest.now)
+number_of None = None

@@ -1,5 +1,5 @@
 // Call 3: the chooser.
-use crate::{columns, print};
+use crate::print;
 use choose::Choice;
 use model::listing::Listing;
 use std::rt::Stdout;
@@ -15,22 +15,9 @@ pub fn answer(out: &mut Output<Stdout>, code: &Listing) {
     match choose::choose(code, &mut numbers, &mut marks, &mut space) {
         Ok(Choice::ByWebs(sweeps)) => {
             out.text(b"webs ");
-            print::entries(
-                out,
-                sweeps,
-                columns::first(&numbers, n),
-                text::part(&marks, 0, n),
-            );
+            print::webs(out, sweeps, n, &numbers, &marks);
         }
-        Ok(Choice::BySplits) => {
-            out.text(b"splits ");
-            print::entries(
-                out,
-                0,
-                columns::first(&numbers, n),
-                text::part(&marks, 0, n),
-            );
-        }
+        Ok(Choice::BySplits) => print::splits(out, n, &numbers, &marks),
         Err(refusal) => print::refused(out, refusal),
     }
 }

@@ -1,172 +1,91 @@
 // A listing's four columns, read from decimal numbers: for each its count of words, then the words.
 //
-// A count may be beyond the room that is lent for its column: the words that have no room are read and dropped.
-ghost use Rattle.std.specs.Prelude.{◌≤◌};
-ghost use Rattle.replay.specs.Places.{words_end, listing_end};
+// A count may be beyond the room for its column: the words that have no room are read and dropped.
+ghost use Rattle.std.specs.Prelude.{◌≤◌, ◌<◌, IfSome, length};
 
 use crate::decimal;
-use crate::decimal::Found;
-
-#[derive(Drop)]
-pub enum Words {
-    // How many words the column has, and the place behind it.
-    Read(usize, usize),
-    Bad,
-}
+use model::listing::Listing;
 
 // How many words each column of a listing has.
-#[derive(Drop)]
+#[derive(Clone, Copy)]
 pub struct Sizes {
-    pub lines: usize,
-    pub addresses: usize,
-    pub tokens: usize,
-    pub text: usize,
+    lines: usize,
+    addresses: usize,
+    tokens: usize,
+    text: usize,
 }
 
+// Room for the columns of one listing.
 #[derive(Drop)]
-pub enum Listing {
-    // The sizes of its columns, and the place behind it.
-    Read(Sizes, usize),
-    Bad,
+pub struct Room {
+    lines: [u32; 1025],
+    addresses: [u64; 1025],
+    tokens: [u32; 512],
+    text: [u8; 4096],
 }
 
-// Stores v at i, where there is such a place. Whether v fits in a byte, in a word of 32 bits.
-fn put8(out: &mut [u8], i: usize, v: u64) -> bool {
-    if v <= 255 {
-        if i < out.len() {
-            out[i] = v as u8;
-        }
-        true
-    } else {
-        false
-    }
-}
-
-fn put32(out: &mut [u32], i: usize, v: u64) -> bool {
-    if v <= 4294967295 {
-        if i < out.len() {
-            out[i] = v as u32;
-        }
-        true
-    } else {
-        false
-    }
-}
-
-fn put64(out: &mut [u64], i: usize, v: u64) {
-    if i < out.len() {
-        out[i] = v;
-    }
-}
-
-// A column of bytes, of words of 32 bits, of words of 64 bits: its count, then its words.
-fn read8(s: &[u8], at: usize, out: &mut [u8]) -> Words
-    ensures { at ≤ words_end at result }
+// A column and the rest. None where a number is missing, or is too large for a word of the column.
+fn read<'a, T: Copy + TryFrom<u64>>(s: &'a [u8], out: &mut [T]) -> Option<(usize, &'a [u8])>
+where
+    T::Error: Drop,
+    ensures { IfSome result (λ r. length r.1.now ≤ length s.now) }
 {
-    let Found::Number(n, start) = decimal::number(s, at) else {
-        return Words::Bad;
-    };
-    let count = n as usize;
-    let mut next = start;
-    let mut i = 0;
-    while i < count {
-        match decimal::number(s, next) {
-            Found::Number(v, e) => {
-                if !put8(out, i, v) {
-                    return Words::Bad;
-                }
-                next = e;
-                i += 1;
-            }
-            Found::Bad => return Words::Bad,
+    let (n, start) = decimal::number(s)?;
+    let count = usize::try_from(n).ok()?;
+    let mut rest = start;
+    for i in 0..count {
+        let (v, tail) = decimal::number(rest)?;
+        let word = T::try_from(v).ok()?;
+        if let Some(place) = out.get_mut(i) {
+            *place = word;
+        }
+        rest = tail;
+    }
+    Some((count, rest))
+}
+
+fn listing<'a>(lines: &'a [u32], tokens: &'a [u32], text: &'a [u8]) -> Listing<'a> {
+    Listing {
+        lines,
+        tokens,
+        text,
+    }
+}
+
+impl Room {
+    pub fn new() -> Room {
+        Room {
+            lines: [0; 1025],
+            addresses: [0; 1025],
+            tokens: [0; 512],
+            text: [0; 4096],
         }
     }
-    Words::Read(count, next)
-}
 
-fn read32(s: &[u8], at: usize, out: &mut [u32]) -> Words
-    ensures { at ≤ words_end at result }
-{
-    let Found::Number(n, start) = decimal::number(s, at) else {
-        return Words::Bad;
-    };
-    let count = n as usize;
-    let mut next = start;
-    let mut i = 0;
-    while i < count {
-        match decimal::number(s, next) {
-            Found::Number(v, e) => {
-                if !put32(out, i, v) {
-                    return Words::Bad;
-                }
-                next = e;
-                i += 1;
-            }
-            Found::Bad => return Words::Bad,
-        }
+    // Reads a listing: lines, addresses, tokens, text.
+    pub fn fill<'a>(&mut self, s: &'a [u8]) -> Option<(Sizes, &'a [u8])>
+        ensures { IfSome result (λ r. length r.1.now ≤ length s.now) }
+    {
+        let (lines, s) = read(s, &mut self.lines)?;
+        let (addresses, s) = read(s, &mut self.addresses)?;
+        let (tokens, s) = read(s, &mut self.tokens)?;
+        let (text, s) = read(s, &mut self.text)?;
+        let sizes = Sizes {
+            lines,
+            addresses,
+            tokens,
+            text,
+        };
+        Some((sizes, s))
     }
-    Words::Read(count, next)
-}
 
-fn read64(s: &[u8], at: usize, out: &mut [u64]) -> Words
-    ensures { at ≤ words_end at result }
-{
-    let Found::Number(n, start) = decimal::number(s, at) else {
-        return Words::Bad;
-    };
-    let count = n as usize;
-    let mut next = start;
-    let mut i = 0;
-    while i < count {
-        match decimal::number(s, next) {
-            Found::Number(v, e) => {
-                put64(out, i, v);
-                next = e;
-                i += 1;
-            }
-            Found::Bad => return Words::Bad,
-        }
+    // The listing of these sizes and its addresses. None where it has no room.
+    pub fn listing(&self, n: Sizes) -> Option<(Listing, &[u64])> {
+        let code = listing(
+            self.lines.get(..n.lines)?,
+            self.tokens.get(..n.tokens)?,
+            self.text.get(..n.text)?,
+        );
+        Some((code, self.addresses.get(..n.addresses)?))
     }
-    Words::Read(count, next)
-}
-
-// A listing: lines, addresses, tokens, text.
-pub fn read_listing(
-    s: &[u8],
-    at: usize,
-    lines: &mut [u32],
-    addresses: &mut [u64],
-    tokens: &mut [u32],
-    text: &mut [u8],
-) -> Listing
-    ensures { at ≤ listing_end at result }
-{
-    let Words::Read(l, e1) = read32(s, at, lines) else {
-        return Listing::Bad;
-    };
-    let Words::Read(a, e2) = read64(s, e1, addresses) else {
-        return Listing::Bad;
-    };
-    let Words::Read(t, e3) = read32(s, e2, tokens) else {
-        return Listing::Bad;
-    };
-    let Words::Read(x, e4) = read8(s, e3, text) else {
-        return Listing::Bad;
-    };
-    let sizes = Sizes {
-        lines: l,
-        addresses: a,
-        tokens: t,
-        text: x,
-    };
-    Listing::Read(sizes, e4)
-}
-
-// The first n words, as many of them as there are.
-pub fn first(words: &[u32], n: usize) -> &[u32] {
-    if n <= words.len() { &words[..n] } else { words }
-}
-
-pub fn first64(words: &[u64], n: usize) -> &[u64] {
-    if n <= words.len() { &words[..n] } else { words }
 }

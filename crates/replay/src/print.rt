@@ -1,71 +1,61 @@
 // Answers, each one line on standard output.
-use questions::Refusal;
+use questions::{Limits, Refusal};
 use std::rt::Stdout;
 use streams::Output;
-
-fn wide32(x: u32) -> u64 {
-    x as u64
-}
-
-fn wide8(x: u8) -> u64 {
-    x as u64
-}
 
 fn spaced(out: &mut Output<Stdout>, x: u64) {
     out.text(b" ");
     out.number(x);
 }
 
-fn words(out: &mut Output<Stdout>, xs: &[u32]) {
-    for i in 0..xs.len() {
-        spaced(out, wide32(xs[i]));
-    }
-}
-
-fn words64(out: &mut Output<Stdout>, xs: &[u64]) {
-    for i in 0..xs.len() {
-        spaced(out, xs[i]);
-    }
-}
-
-fn bytes(out: &mut Output<Stdout>, xs: &[u8]) {
-    for i in 0..xs.len() {
-        spaced(out, wide8(xs[i]));
+// The first n words, as many of them as there are.
+fn words<T: Copy + Into<u64>>(out: &mut Output<Stdout>, xs: &[T], n: usize) {
+    for x in xs.iter().take(n) {
+        spaced(out, (*x).into());
     }
 }
 
 // `refused Q`: question Q is answered no.
 pub fn refused(out: &mut Output<Stdout>, refusal: Refusal) {
     out.text(b"refused");
+    // A cast: std has no `From` of `usize` to 64 bits.
     spaced(out, refusal.number() as u64);
     out.text(b"\n");
 }
 
-// `SWEEPS: NUMBERS; MARKS`.
-pub fn entries(out: &mut Output<Stdout>, sweeps: usize, numbers: &[u32], marks: &[u8]) {
+// `SWEEPS: NUMBERS; MARKS`, of n tokens.
+pub fn webs(out: &mut Output<Stdout>, sweeps: usize, n: usize, numbers: &[u32], marks: &[u8]) {
+    // A cast: std has no `From` of `usize` to 64 bits.
     out.number(sweeps as u64);
     out.text(b":");
-    words(out, numbers);
+    words(out, numbers, n);
     out.text(b";");
-    bytes(out, marks);
+    words(out, marks, n);
     out.text(b"\n");
 }
 
-// `LINES; ADDRESSES; TOKENS; TEXT`.
+// The same of splits, which have no sweeps.
+pub fn splits(out: &mut Output<Stdout>, n: usize, numbers: &[u32], marks: &[u8]) {
+    out.text(b"splits ");
+    webs(out, 0, n, numbers, marks);
+}
+
+// `LINES; ADDRESSES; TOKENS; TEXT`, so many of each.
 pub fn listing(
     out: &mut Output<Stdout>,
+    n: Limits,
     lines: &[u32],
     addresses: &[u64],
     tokens: &[u32],
-    bytes_of: &[u8],
+    text: &[u8],
 ) {
     out.text(b"lines");
-    words(out, lines);
+    words(out, lines, n.lines);
     out.text(b";");
-    words64(out, addresses);
+    words(out, addresses, n.lines);
     out.text(b";");
-    words(out, tokens);
+    words(out, tokens, n.tokens);
     out.text(b";");
-    bytes(out, bytes_of);
+    words(out, text, n.text);
     out.text(b"\n");
 }

@@ -1,5 +1,5 @@
 // Call 2: the split call.
-use crate::{columns, print};
+use crate::print;
 use model::listing::Listing;
 use std::rt::Stdout;
 use streams::Output;
@@ -9,16 +9,7 @@ pub fn answer(out: &mut Output<Stdout>, code: &Listing) {
     let mut numbers = [7u32; 256];
     let mut marks = [7u8; 256];
     match splits::call::split_call(code, &mut numbers, &mut marks) {
-        Ok(()) => {
-            let n = code.tokens.len();
-            out.text(b"splits ");
-            print::entries(
-                out,
-                0,
-                columns::first(&numbers, n),
-                text::part(&marks, 0, n),
-            );
-        }
+        Ok(()) => print::splits(out, code.tokens.len(), &numbers, &marks),
         Err(refusal) => print::refused(out, refusal),
     }
 }

@@ -1,5 +1,5 @@
 // Call 1: the web call.
-use crate::{columns, print};
+use crate::print;
 use model::listing::Listing;
 use std::rt::Stdout;
 use streams::Output;
@@ -11,15 +11,7 @@ pub fn answer(out: &mut Output<Stdout>, code: &Listing) {
     let mut marks = [7u8; 256];
     let mut space = [7u64; 832];
     match pseudo_ssa::recover(code, &mut numbers, &mut marks, &mut space) {
-        Ok(sweeps) => {
-            let n = code.tokens.len();
-            print::entries(
-                out,
-                sweeps,
-                columns::first(&numbers, n),
-                text::part(&marks, 0, n),
-            );
-        }
+        Ok(sweeps) => print::webs(out, sweeps, code.tokens.len(), &numbers, &marks),
         Err(refusal) => print::refused(out, refusal),
     }
 }

@@ -1,6 +1,5 @@
 -- How long the rows of a listing are at most: 28 bytes for each token, and its text.
 --   name_short         the name of a token's family is at most 3 bytes longer than its text
---   decimal-2 .. -20   a number below a power of ten has so many digits at most
 --   rows_short         the rows of a listing within question 1 of which question 2 is answered yes
 --   refused_short      a refusal
 -- Assumes nothing.
@@ -28,38 +27,9 @@ use Rattle.model.specs.Places.{start_from, token_start, line_start, line_end}
 use Rattle.model.proofs.Decode.{token_at}
 use Rattle.model.proofs.Formed.{formed_lines, formed_tokens, line_order, line_within, token_order, token_within}
 use Rattle.text.proofs.Parts.{length_part}
-use Rattle.json_definitions.specs.Writer.{digits_of, decimal}
+use Rattle.json_definitions.specs.Writer.{decimal}
+use Rattle.json_append.proofs.ValueRules.{decimal_short}
 use Rattle.rows.specs.Rows.{name_of, number_text, place_text, mark_text, web_text, row_text, token_row, row_at, line_rows, all_rows, refused_text, Short}
-
--- Digits
-
-digits_one : (f n : ℕ) → n < 10 → length (digits_of f n) ≤ 1
-unfolding digits_of
-digits_one zero n h = omega arith
-digits_one (suc f) n h = if_has (λ (ds : List ℕ). length ds ≤ 1) (ltb n 10) (λ _. omega arith) (λ e. absurd (omega (arith, ltb-false n 10 e)))
-
-digits_more : (m d : ℕ) → ((f n : ℕ) → n < m → length (digits_of f n) ≤ d) → (f n : ℕ) → n < 10 * m → length (digits_of f n) ≤ suc d
-unfolding digits_of
-digits_more m d short zero n h = omega arith
-digits_more m d short (suc f) n h =
-    let front = short f (n / 10) (omega arith) in
-    if_has (λ (ds : List ℕ). length ds ≤ suc d) (ltb n 10) (λ _. omega arith) (λ _. rw length-append (omega arith))
-
-digits_4 : (f n : ℕ) → n < 10000 → length (digits_of f n) ≤ 4
-digits_4 = digits_more 1000 3 (digits_more 100 2 (digits_more 10 1 digits_one))
-
-digits_5 : (f n : ℕ) → n < 100000 → length (digits_of f n) ≤ 5
-digits_5 = digits_more 10000 4 digits_4
-
-digits_10 : (f n : ℕ) → n < 10000000000 → length (digits_of f n) ≤ 10
-digits_10 =
-    digits_more 1000000000 9 (digits_more 100000000 8 (digits_more 10000000 7 (digits_more 1000000 6 (digits_more 100000 5 digits_5))))
-
-digits_20 : (f n : ℕ) → n < 100000000000000000000 → length (digits_of f n) ≤ 20
-digits_20 =
-    digits_more 10000000000000000000 19 (digits_more 1000000000000000000 18 (digits_more 100000000000000000 17 (digits_more 10000000000000000 16
-    (digits_more 1000000000000000 15 (digits_more 100000000000000 14 (digits_more 10000000000000 13 (digits_more 1000000000000 12
-    (digits_more 100000000000 11 (digits_more 10000000000 10 digits_10)))))))))
 
 -- Names
 
@@ -113,9 +83,9 @@ mark_short : (d : ℕ) → length (mark_text d) ≤ 3
 mark_short d = if_has (λ (s : List ℕ). length s ≤ 3) (eqb d 1) (λ _. omega arith) (λ _. omega arith)
 
 row_short : (i j w d : ℕ) (f : List ℕ) → i < 10000 → j < 100000 → w < 10000000000 → length (row_text i j f w d) ≤ length f + 25
-unfolding row_text place_text web_text number_text decimal
+unfolding row_text place_text web_text number_text
 row_short i j w d f a b c =
-    simp length-append (omega (arith, digits_4 i i a, digits_5 j j b, digits_10 w w c, mark_short d))
+    simp length-append (omega (arith, decimal_short 4 i (omega arith) a (omega arith), decimal_short 5 j (omega arith) b (omega arith), decimal_short 10 w (omega arith) c (omega arith), mark_short d))
 
 -- what is written of the places from a on, n of them, if p grows by what is written of each
 run_short : (f : ℕ → List ℕ) (p : ℕ → ℕ) (n a : ℕ) → ((k : ℕ) → a ≤ k → k < a + n → length (f k) + p k ≤ p (suc k))
@@ -180,6 +150,6 @@ rows_short l t x numbers marks words one two =
     covered_short l t x numbers marks (leb-true (length l) 1024 sizes.0) (leb-true (length t) 16384 sizes.1) (formed_lines l t x two) (formed_tokens l t x two)
     (λ k. omega (arith, words k))
 
-pub refused_short : (n : ℕ) → n < 100000000000000000000 → length (refused_text n) ≤ 29
-unfolding refused_text decimal
-refused_short n h = simp length-append (omega (arith, digits_20 n n h))
+pub refused_short : (n : ℕ) → n < 18446744073709551616 → length (refused_text n) ≤ 29
+unfolding refused_text
+refused_short n h = simp length-append (omega (arith, decimal_short 20 n (omega arith) (omega arith) h))

@@ -1,8 +1,8 @@
-// Rows, behind a place of a lent slice. Each function takes time linear in what it writes and in the tokens that it looks at.
+// Rows, in a lent slice. Each function takes time linear in what it writes and in the tokens that it looks at.
 //
-// Contracts: `Appended` of Rattle.json_append.specs.Appended, of the texts of this crate's specs/Rows.antt.
+// Contracts: `Wrote` of Rattle.json_append.specs.Appended, of the texts of this crate's specs/Rows.antt.
 
-#![tactic(auto)]
+#![tactic(auto, using(crate::proofs::RowRules::row_rules), unfolding(crate::specs::Rows::number_text, crate::specs::Rows::place_text, crate::specs::Rows::web_text, crate::specs::Rows::refused_text))]
 
 pub mod columns;
 mod names;
@@ -13,146 +13,114 @@ ghost use Rattle.definitions.specs.Family.{fam_of};
 ghost use Rattle.family.specs.Register.{family_of};
 ghost use Rattle.model.specs.Places.{line_start};
 ghost use Rattle.model.specs.Listings.{tokens_of};
-ghost use Rattle.json_append.specs.Appended.{Appended};
+ghost use Rattle.json_append.specs.Appended.{Appended, Wrote};
 ghost use Rattle.rows.specs.Rows.{name_of, number_text, place_text, mark_text, web_text, row_text, row_at, line_rows, all_rows, refused_text, Short};
 
 use crate::names::put_name;
 use family::{Register, fam_of};
-use json_append::bytes::put;
-use json_append::values::put_decimal;
+use json_append::writer::Writer;
 use model::listing::Listing;
 
-// The number of a token without a family.
+// The number of a token without a family, as the calls answer it: C's columns have no `Option`.
 const NO_FAMILY: usize = 4294967295;
 
-fn wide(x: usize) -> u64
-    ensures { result ≡ x }
-{
-    x as u64
-}
-
-// The byte at k, 0 past the end.
-fn byte(marks: &[u8], k: usize) -> u8
-    ensures { result ≡ get_or marks.now k 0 }
-{
-    if k < marks.len() { marks[k] } else { 0 }
-}
-
 // n and a blank.
-fn put_number(out: &mut [u8], at: usize, n: usize) -> usize
-    ensures { Appended out.old at (number_text n) out.new result }
+fn put_number(to: &mut Writer, n: usize)
+    ensures { Wrote to.old (number_text n) to.new }
 {
-    let a = put_decimal(out, at, wide(n));
-    put(out, a, b" ")
+    // A cast: std has no `From` of `usize` to 64 bits.
+    to.put_decimal(n as u64);
+    to.put_byte(b' ');
 }
 
-fn put_place(out: &mut [u8], at: usize, i: usize, j: usize, s: &[u8], r: Register) -> usize
-    ensures { Appended out.old at (place_text i j (name_of (family_of s.now r))) out.new result }
+fn put_place(to: &mut Writer, i: usize, j: usize, s: &[u8], r: Option<Register>)
+    ensures { Wrote to.old (place_text i j (name_of (family_of s.now r))) to.new }
 {
-    let a = put_number(out, at, i);
-    let b = put_number(out, a, j);
-    put_name(out, b, s, r)
+    put_number(to, i);
+    put_number(to, j);
+    put_name(to, s, r);
 }
 
-fn put_mark(out: &mut [u8], at: usize, mark: u8) -> usize
-    ensures { Appended out.old at (mark_text mark) out.new result }
+fn put_mark(to: &mut Writer, mark: usize)
+    ensures { Wrote to.old (mark_text mark) to.new }
 {
-    if mark == 1 {
-        return put(out, at, b" D\n");
-    }
-    put(out, at, b" U\n")
+    to.put(if mark == 1 { b" D\n" } else { b" U\n" });
 }
 
-fn put_web(out: &mut [u8], at: usize, web: usize, mark: u8) -> usize
-    ensures { Appended out.old at (web_text web mark) out.new result }
+fn put_web(to: &mut Writer, web: usize, mark: usize)
+    ensures { Wrote to.old (web_text web mark) to.new }
 {
-    let a = put(out, at, b"#");
-    let b = put_decimal(out, a, wide(web));
-    put_mark(out, b, mark)
+    to.put_byte(b'#');
+    to.put_decimal(web as u64);
+    put_mark(to, mark);
 }
 
 // The row of token k of all, which is token j of line i.
-fn put_row(
-    out: &mut [u8],
-    at: usize,
-    code: &Listing,
-    i: usize,
-    j: usize,
-    k: usize,
-    web: usize,
-    mark: u8,
-) -> usize
-    ensures { Appended out.old at
-        (row_text i j (name_of (fam_of (get_or (tokens_of code.now) k no_token))) web mark) out.new result }
+fn put_row(to: &mut Writer, code: &Listing, i: usize, j: usize, k: usize, web: usize, mark: usize)
+    ensures { Wrote to.old
+        (row_text i j (name_of (fam_of (get_or (tokens_of code.now) k no_token))) web mark) to.new }
 {
     let s = code.token_text(k);
     let r = fam_of(code.token_kind(k), s);
-    let a = put_place(out, at, i, j, s, r);
-    put_web(out, a, web, mark)
+    put_place(to, i, j, s, r);
+    put_web(to, web, mark);
 }
 
 // The row of token k of all, which is in line i, where it has a family.
-fn put_token(
-    out: &mut [u8],
-    at: usize,
-    code: &Listing,
-    numbers: &[u32],
-    marks: &[u8],
-    i: usize,
-    k: usize,
-) -> usize
+fn put_token(to: &mut Writer, code: &Listing, numbers: &[u32], marks: &[u8], i: usize, k: usize)
     requires { line_start code.now.lines.now i ≤ k }
-    ensures { Appended out.old at
-        (row_at code.now.lines.now code.now.tokens.now code.now.text.now numbers.now marks.now i k) out.new result }
+    ensures { Wrote to.old
+        (row_at code.now.lines.now code.now.tokens.now code.now.text.now numbers.now marks.now i k) to.new }
 {
     let web = text::word(numbers, k);
     if web == NO_FAMILY {
-        return put(out, at, b"");
+        return;
     }
     let j = k - code.line_start(i);
-    put_row(out, at, code, i, j, k, web, byte(marks, k))
+    put_row(to, code, i, j, k, web, text::byte(marks, k));
 }
 
 // The rows of line i.
-fn put_line(
-    out: &mut [u8],
-    at: usize,
-    code: &Listing,
-    numbers: &[u32],
-    marks: &[u8],
-    i: usize,
-) -> usize
-    ensures { Appended out.old at
-        (line_rows code.now.lines.now code.now.tokens.now code.now.text.now numbers.now marks.now i) out.new result }
+fn put_line(to: &mut Writer, code: &Listing, numbers: &[u32], marks: &[u8], i: usize)
+    ensures { Wrote to.old
+        (line_rows code.now.lines.now code.now.tokens.now code.now.text.now numbers.now marks.now i) to.new }
 {
     let end = code.line_end(i);
-    let mut to = at;
     for k in code.line_start(i)..end {
-        to = put_token(out, to, code, numbers, marks, i, k);
+        put_token(to, code, numbers, marks, i, k);
     }
-    to
 }
 
 // The rows of the listing.
+fn put_lines(to: &mut Writer, code: &Listing, numbers: &[u32], marks: &[u8])
+    ensures { Wrote to.old
+        (all_rows code.now.lines.now code.now.tokens.now code.now.text.now numbers.now marks.now) to.new }
+{
+    for i in 0..code.lines.len() {
+        put_line(to, code, numbers, marks, i);
+    }
+}
+
+// The rows of the listing, at the start of the slice: how long they are.
 pub fn put_rows(out: &mut [u8], code: &Listing, numbers: &[u32], marks: &[u8]) -> usize
     ensures appended { Appended out.old 0
         (all_rows code.now.lines.now code.now.tokens.now code.now.text.now numbers.now marks.now) out.new result }
     ensures short { Short code.now.lines.now code.now.tokens.now code.now.text.now
         (all_rows code.now.lines.now code.now.tokens.now code.now.text.now numbers.now marks.now) }
 {
-    let mut to = 0;
-    for i in 0..code.lines.len() {
-        to = put_line(out, to, code, numbers, marks, i);
-    }
-    to
+    let mut to = Writer::new(out);
+    put_lines(&mut to, code, numbers, marks);
+    to.len()
 }
 
-// `refused n`.
+// `refused n`, at the start of the slice: how long it is.
 pub fn put_refused(out: &mut [u8], n: usize) -> usize
     ensures appended { Appended out.old 0 (refused_text n) out.new result }
     ensures n_len_bound { length (refused_text n) ≤ 29 }
 {
-    let a = put(out, 0, b"refused ");
-    let b = put_decimal(out, a, wide(n));
-    put(out, b, b"\n")
+    let mut to = Writer::new(out);
+    to.put(b"refused ");
+    to.put_decimal(n as u64);
+    to.put_byte(b'\n');
+    to.len()
 }

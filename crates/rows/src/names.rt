@@ -1,36 +1,36 @@
 // Families by their names.
+#![tactic(auto, using(crate::proofs::RowRules::names))]
+
 ghost use Rattle.std.specs.Prelude.{◌<◌};
 ghost use Rattle.legacy.specs.Table.{row_name};
 ghost use Rattle.family.specs.Register.{family_of};
-ghost use Rattle.json_append.specs.Appended.{Appended};
+ghost use Rattle.json_append.specs.Appended.{Wrote};
 ghost use Rattle.rows.specs.Rows.{name_of};
 
 use family::Register;
-use json_append::bytes::put;
+use json_append::writer::Writer;
 
 // The name of the family in row i of the table of legacy registers.
-fn put_row_name(out: &mut [u8], at: usize, i: usize) -> usize
+fn put_row_name(to: &mut Writer, i: usize)
     requires { i < 8 }
-    ensures { Appended out.old at (row_name i) out.new result }
+    ensures { Wrote to.old (row_name i) to.new }
 {
     let a = 3 * i;
-    put(out, at, text::part(b"raxrbxrcxrdxrsirdirbprsp", a, a + 3))
+    to.put(text::part(b"raxrbxrcxrdxrsirdirbprsp", a, a + 3));
 }
 
 // The name of the family that the answer r gives the text s, nothing where it gives none.
-pub fn put_name(out: &mut [u8], at: usize, s: &[u8], r: Register) -> usize
-    ensures { Appended out.old at (name_of (family_of s.now r)) out.new result }
+pub fn put_name(to: &mut Writer, s: &[u8], r: Option<Register>)
+    ensures { Wrote to.old (name_of (family_of s.now r)) to.new }
 {
     match r {
-        Register::Legacy(i, _) => {
-            if i < 8 {
-                put_row_name(out, at, i)
-            } else {
-                put(out, at, b"")
+        Some(Register::Legacy { row, .. }) => {
+            if row < 8 {
+                put_row_name(to, row);
             }
         }
-        Register::Numbered(n, _) => put(out, at, text::part(s, 0, n)),
-        Register::Var => put(out, at, s),
-        Register::Nothing => put(out, at, b""),
+        Some(Register::Numbered { length, .. }) => to.put(text::part(s, 0, length)),
+        Some(Register::Var) => to.put(s),
+        None => {}
     }
 }

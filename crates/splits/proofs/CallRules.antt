@@ -4,34 +4,33 @@
 --   numbers_are, marks_are       what is written, by the definition
 --   no_lines_numbers, no_lines_marks     a listing without lines
 --   filled_by                    zeros behind what was written
---   questions_first, questions_yes, questions_few_marks, questions_few_numbers     `ask`
 --   room                         what questions 1, 2 and 4 say
 --   accepts, refuses             `split_call_within`
 --   within_limits                with the limits of question 1 it is the call
 -- Assumes nothing.
 use Rattle.std.specs.Prelude.{Option, None, Some, Ok, Err}
-use Prim.Native.Nat.{ℕ, zero, suc, ◌+◌, ◌-◌, ◌<◌, ◌≤◌}
+use Prim.Native.Nat.{ℕ, ◌+◌, ◌-◌, ◌<◌, ◌≤◌}
 use mathlib.Core.Path.{◌≡◌, refl, sym, ap, ap₂, ◌∙◌}
-use mathlib.Core.Bool.{Bool, true, false, cond, ◌&&◌}
+use mathlib.Core.Bool.{true, ◌&&◌}
 use mathlib.Core.List.{List, [], ◌∷◌, ◌++◌}
 use native.Mathlib.Omega.{arith}
-use borrow.Author.Tests.{eqb-true, le-leb, lt-leb, leb-true}
+use borrow.Author.Tests.{eqb-true, leb-true}
 use lib.Dec.{leb}
 use lib.ListN.{length, get_or, drop, replicate, length-append, length-drop}
 use lib.Seq.{take_at}
 use Rattle.definitions.specs.Lists.{concat, range}
 use Rattle.definitions.specs.Family.{fam_of}
 use Rattle.definitions.specs.Columns.{pieces, token_list, listing}
-use Rattle.definitions.specs.Questions.{Limits, limits, covers, question_1, question_2, question_3, refusal}
+use Rattle.definitions.specs.Questions.{Limits, limits, covers}
 use Rattle.definitions.specs.Recover.{defined_families}
 use Rattle.definitions.specs.SplitPoints.{split_points, split_key, split_starts}
 use Rattle.definitions.specs.Answers.{no_family, per_token, mark, accepted, splits}
 use Rattle.definitions.specs.Answers as Answers
 use Rattle.definitions.specs.Calls.{Lent, Called, filled, written, split_call}
 use Rattle.text.specs.Zeroed.{zeroed}
-use Rattle.questions.specs.Refusals.{first_three, first_questions, number}
+use Rattle.questions.specs.Refusals.{number}
 use Rattle.questions.specs.declared.Refusal.{Refusal}
-use Rattle.questions.proofs.Refusing.{refusal_yes, refusal_earlier, refusal_later}
+use Rattle.questions.proofs.Refusing.{refusal_yes}
 use Rattle.model.proofs.Ands.{both}
 use Rattle.model.proofs.Decode.{length_listing}
 use Rattle.model.proofs.Formed.{formed_lines}
@@ -107,30 +106,6 @@ filled_by s sub old out n p q e =
 -- Questions
 
 module _ (m : Limits) (l t x : List ℕ) (a b : ℕ) where
-  abbrev fourth : List (ℕ × Bool)
-  fourth = (4, leb (length t) a && leb (length t) b) ∷ []
-
-  pub questions_first : (k : ℕ) → Some k ≡ first_questions m l t x → Some k ≡ questions m l t x a b
-  unfolding questions
-  questions_first k e = refusal_earlier k (first_three m l t x) fourth e
-
-  module _ (e : None ≡ first_questions m l t x) where
-    last : questions m l t x a b ≡ refusal fourth
-    unfolding questions
-    last = refusal_later (first_three m l t x) fourth e
-
-    pub questions_yes : length t ≤ a → length t ≤ b → None ≡ questions m l t x a b
-    unfolding refusal
-    questions_yes p r = rw (last, le-leb (length t) a p, le-leb (length t) b r)
-
-    pub questions_few_marks : length t ≤ a → b < length t → Some 4 ≡ questions m l t x a b
-    unfolding refusal
-    questions_few_marks p r = rw (last, le-leb (length t) a p, lt-leb (length t) b r)
-
-    pub questions_few_numbers : a < length t → Some 4 ≡ questions m l t x a b
-    unfolding refusal
-    questions_few_numbers p = rw (last, lt-leb (length t) a p)
-
   pub room : None ≡ questions m l t x a b → m.lines ≤ 1024
       → (length l ≤ 1024) × (covers 512 0 l (length t) ≡ true) × (length t ≤ a) × (length t ≤ b)
   unfolding questions
@@ -164,5 +139,3 @@ module _ (m : Limits) (l t x ns₀ ms₀ : List ℕ) where
 pub within_limits : (l t x : List ℕ) (o : Lent) → split_within limits l t x o ≡ split_call l t x o
 unfolding split_within split_call questions
 within_limits l t x o = refl
-
-pub ruleset asks = (questions_first, questions_yes, questions_few_marks, questions_few_numbers)

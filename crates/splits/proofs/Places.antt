@@ -3,13 +3,13 @@
 --   number_is, mark_is           the number and the mark of a token of a family
 -- Assumes nothing.
 use Rattle.std.specs.Prelude.{Option, None, Some}
-use Prim.Native.Nat.{ℕ, zero, suc, ◌+◌, ◌-◌, ◌<◌, ◌≤◌}
+use Prim.Native.Nat.{ℕ, zero, suc, ◌+◌, ◌<◌, ◌≤◌}
 use mathlib.Core.Path.{◌≡◌, refl, sym, ap, ◌∙◌}
 use mathlib.Core.Logic.{inl, inr}
 use mathlib.Core.Bool.{Bool, true, false, cond, ◌&&◌, not}
 use mathlib.Core.List.{List, []}
 use native.Mathlib.Omega.{arith}
-use borrow.Author.Tests.{eq-eqb, ne_eqb, eqb-true}
+use borrow.Author.Tests.{eq-eqb, ne_eqb, eqb-true, lt-ltb}
 use lib.Dec.{eqb}
 use lib.ListN.{length, get_or}
 use Rattle.definitions.specs.Lists.{any, count, up_to, ◌≟◌}
@@ -110,35 +110,23 @@ module _ (L : List Line) (ds : List ℕ) (S : Starts L ds) (few : length L ≤ 1
   number_is None = refl
   number_is (Some x) = go (place (defined_families L) x.name) refl
     where
-      go : (c : ℕ) → place (defined_families L) x.name ≡ c → number_of (tally ds (i + 1)) (suc c) ≡ split_key (split_points L) x.name i
+      go : (c : ℕ) → place (defined_families L) x.name ≡ c → number_of (tally ds (i + 1)) (Some c) ≡ split_key (split_points L) x.name i
       go zero z = sym (key_none x.name z)
-      go (suc c) z =
-          let a = ne_eqb (suc (suc c)) 0 (λ q. omega arith) in
-          let b = ne_eqb (suc (suc c)) 1 (λ q. omega arith) in
-          let d : suc (suc c) - 1 ≡ suc c = omega arith in
-          rw (a, b, d) (tally_is x.name c z)
+      go (suc c) z = let a = ne_eqb (suc c) 0 (λ q. omega arith) in rw a (tally_is x.name c z)
 
   pub mark_is : (o : Option Family) → mark_of (get_or ds i 0) (found (defined_families L) o) ≡ (elim o [ None ↦ 0 | Some x ↦ mark (split_starts (split_points L) x.name i) ])
   unfolding mark_of
-  mark_is None = go (get_or ds i 0)
-    where
-      go : (d : ℕ) → mark_of d 0 ≡ 0
-      go zero = refl
-      go (suc d) = let a = ne_eqb 0 (suc d + 1) (λ q. omega arith) in rw (ne_eqb (suc d) 0 (λ q. omega arith), a)
+  mark_is None = refl
   mark_is (Some x) = rw (S.at i h, split_starts_is L x.name i h) (go (place (defined_families L) x.name) refl)
     where
-      other : (d : ℕ) → mark_of d 1 ≡ 0
+      other : (d : ℕ) → mark_of d (Some 0) ≡ 0
       other zero = refl
-      other (suc d) = let a = ne_eqb 1 (suc d + 1) (λ q. omega arith) in rw (ne_eqb (suc d) 0 (λ q. omega arith), a)
+      other (suc d) = let a = ne_eqb (suc d) 0 (λ q. omega arith) in rw (lt-ltb 0 (suc d) (omega arith), a)
 
-      same : (d c : ℕ) → mark_of d (suc (suc c)) ≡ mark (eqb d (suc c))
+      same : (d c : ℕ) → mark_of d (Some (suc c)) ≡ mark (eqb d (suc c))
       same zero c = let a = ne_eqb 0 (suc c) (λ q. omega arith) in rw a
-      same (suc d) c =
-          let a = same_test (eqb (suc (suc c)) (suc d + 1)) (eqb (suc d) (suc c))
-          (λ e. eq-eqb (suc d) (suc c) (omega (arith, eqb-true (suc (suc c)) (suc d + 1) e)))
-          (λ e. eq-eqb (suc (suc c)) (suc d + 1) (omega (arith, eqb-true (suc d) (suc c) e))) in
-          rw (ne_eqb (suc d) 0 (λ q. omega arith), a)
+      same (suc d) c = rw (lt-ltb 0 (suc d) (omega arith))
 
-      go : (c : ℕ) → place (defined_families L) x.name ≡ c → mark_of (start_place L i) (suc c) ≡ mark (starts L x.name i)
+      go : (c : ℕ) → place (defined_families L) x.name ≡ c → mark_of (start_place L i) (Some c) ≡ mark (starts L x.name i)
       go zero z = other (start_place L i) ∙ ap mark (sym (starts_none L x.name z i h))
       go (suc c) z = same (start_place L i) c ∙ ap mark (starts_place L x.name c z i)

@@ -1,15 +1,11 @@
 -- Rules for the needs of `tokens`.
---   number_none, number_zero, number_some     `number_of`
---   mark_none, mark_zero, mark_yes, mark_no   `mark_of`
---   number_by, mark_by, over_start, over_next, over_done     the loop of `write_part`
---   over_join                                 one part after the other
---   line_order_by, line_by                    `write_line`
---   count_fits, count_low, count_by           `count_before`
+--   number_by, mark_by, over_start, over_next, over_done, line_order_by, line_by     the loop of `write_line`
 --   Tallied ds i cs             cs has how many of the first i entries of ds are c, for each c
 --   Written l t g us ms₀ i ms   ms is ms₀ with g of the elements us of the first i lines
---   start_low, tallied_start, tallied_few, tallied_next, number_tallied, written_start, written_next, written_end     the loop of `write_lines`
+--   tallied_start, tallied_fits, tallied_next, number_tallied, written_start, written_next, written_end     the loop of `write_lines`
 -- Assumes nothing.
-use Prim.Native.Nat.{ℕ, zero, suc, ◌+◌, ◌-◌, ◌<◌, ◌≤◌}
+use Rattle.std.specs.Prelude.{Option}
+use Prim.Native.Nat.{ℕ, ◌+◌, ◌<◌, ◌≤◌}
 use mathlib.Core.Path.{◌≡◌, refl, sym, ap, ◌∙◌, fun_ext}
 use mathlib.Core.Bool.{true, cond}
 use mathlib.Core.List.{List, [], ◌∷◌, ◌++◌, map, map-append, append_assoc}
@@ -22,11 +18,14 @@ use mir.Syntax.{w16}
 use mir.Val.{Fits}
 use lib.Dec.{eqb}
 use lib.ListN.{length, get_or, set, take, drop, length-append, length-map, take-append-drop}
-use lib.Seq.{set_at, append_snoc, length-take-le, take_at, drop_at, drop-drop, get_or-set_same, get_or-set_other}
+use lib.Seq.{set_at, append_snoc, length-take-le, get_or-set_same, get_or-set_other}
 use Rattle.definitions.specs.Lists.{part, filter, count, range, up_to}
-use Rattle.definitions.specs.Model.{Token}
+use Rattle.definitions.specs.Model.{Token, no_token}
 use Rattle.definitions.specs.Family.{fam_of}
 use Rattle.definitions.specs.Questions.{covers}
+use Rattle.definitions.specs.Recover.{defined_families}
+use Rattle.model.specs.declared.listing.Listing.{Listing}
+use Rattle.model.specs.Listings.{listing_of, tokens_of}
 use Rattle.text.proofs.Parts.{drop_step, part_step, part_none, part_join, length_part}
 use Rattle.theory.proofs.ListLaws.{count_all, length_range}
 use Rattle.model.specs.Places.{line_start, line_end}
@@ -37,50 +36,14 @@ use Rattle.splits.proofs.ByLine.{line_upward, by_line_start, by_line_next, by_li
 
 -- One token
 
-module _ (f : ℕ → ℕ) (c : ℕ) where
-  pub number_none : c ≡ 0 → 4294967295 ≡ number_of f c
-  unfolding number_of
-  number_none e = rw (eq-eqb c 0 e)
-
-  module _ (n : c ≡ 0 → ⊥) where
-    pub number_zero : c ≡ 1 → 0 ≡ number_of f c
-    unfolding number_of
-    number_zero e = rw (ne_eqb c 0 n, eq-eqb c 1 e)
-
-    pub number_some : (u v : ℕ) → (c ≡ 1 → ⊥) → u ≡ f (c - 1) → v ≡ u → v ≡ number_of f c
-    unfolding number_of
-    number_some u v e q r = rw (ne_eqb c 0 n, ne_eqb c 1 e) (r ∙ q)
-
-module _ (d c : ℕ) where
-  pub mark_zero : d ≡ 0 → 0 ≡ mark_of d c
-  unfolding mark_of
-  mark_zero e = rw (eq-eqb d 0 e)
-
-  pub mark_none : c ≡ 0 → 0 ≡ mark_of d c
-  unfolding mark_of
-  mark_none e = go d
-    where
-      go : (d : ℕ) → 0 ≡ mark_of d c
-      go zero = refl
-      go (suc d) = let a = ne_eqb c (suc d + 1) (λ q. omega arith) in rw (ne_eqb (suc d) 0 (λ q. omega arith), a)
-
-  module _ (n : d ≡ 0 → ⊥) where
-    pub mark_yes : c ≡ d + 1 → 1 ≡ mark_of d c
-    unfolding mark_of
-    mark_yes e = rw (ne_eqb d 0 n, eq-eqb c (d + 1) e)
-
-    pub mark_no : (c ≡ d + 1 → ⊥) → 0 ≡ mark_of d c
-    unfolding mark_of
-    mark_no e = rw (ne_eqb d 0 n, ne_eqb c (d + 1) e)
-
-module _ (fs : List (List ℕ)) (u : Token) (c : ℕ) (e : c ≡ found fs (fam_of u)) where
-  pub number_by : (f : ℕ → ℕ) (v : ℕ) → v ≡ number_of f c → v ≡ token_number fs f u
+module _ (a b : Listing) (e : a ≡ b) (k : ℕ) (c : Option ℕ) (p : c ≡ found (defined_families (listing_of a)) (fam_of (get_or (tokens_of a) k no_token))) where
+  pub number_by : (f : ℕ → ℕ) (v : ℕ) → v ≡ number_of f c → v ≡ token_number (defined_families (listing_of b)) f (get_or (tokens_of b) k no_token)
   unfolding token_number
-  number_by f v q = rw (← e) q
+  number_by f v q = rw (← e, ← p) q
 
-  pub mark_by : (d m : ℕ) → m ≡ mark_of d c → m ≡ token_mark fs d u
+  pub mark_by : (d m : ℕ) → m ≡ mark_of d c → m ≡ token_mark (defined_families (listing_of b)) d (get_or (tokens_of b) k no_token)
   unfolding token_mark
-  mark_by d m q = rw (← e) q
+  mark_by d m q = rw (← e, ← p) q
 
 -- A part
 
@@ -101,20 +64,6 @@ module _ {A : Type 0} (z : A) (f : A → ℕ) (a : ℕ) (ws : List A) (ms : List
         ∙ ap (◌++ drop (t + 1) ms) (append_assoc (take a ms) (map f (part a t ws)) (f (get_or ws t z) ∷ []) ∙ ap (take a ms ++◌) (sym (map-append f (part a t ws) (get_or ws t z ∷ [])) ∙ ap (map f) (sym more)))
         ∙ append_assoc (take a ms) (map f (part a (t + 1) ws)) (drop (t + 1) ms)
 
-    pub over_join : (e : ℕ) (o' : List ℕ) → t ≤ e → e ≤ length ws → e ≤ length ms → o' ≡ over t e f ws o → o' ≡ over a e f ws ms
-    over_join e o' l g b q =
-        let front = take a ms ++ map f (part a t ws) in
-        let size : length front ≡ t = rw (length-append, length-map, length-take-le a ms (omega arith), length_part ws a t) (omega arith) in
-        let x : o ≡ front ++ drop t ms = inv ∙ sym (append_assoc (take a ms) (map f (part a t ws)) (drop t ms)) in
-        let y : take t o ≡ front = ap (take t) x ∙ take_at front (drop t ms) t size in
-        let m : t + (e - t) ≡ e = omega arith in
-        let v : drop e o ≡ drop e ms =
-        ap (drop e) x ∙ ap (λ (j : ℕ). drop j (front ++ drop t ms)) (sym m) ∙ sym (drop-drop (e - t) t (front ++ drop t ms)) ∙ ap (drop (e - t)) (drop_at front (drop t ms) t size)
-        ∙ drop-drop (e - t) t ms ∙ ap (λ (j : ℕ). drop j ms) m in
-        q ∙ rw (y, v) (sym (append_assoc front (map f (part t e ws)) (drop e ms))
-        ∙ ap (◌++ drop e ms) (append_assoc (take a ms) (map f (part a t ws)) (map f (part t e ws)) ∙ ap (take a ms ++◌) (sym (map-append f (part a t ws) (part t e ws)) ∙ ap (map f) (part_join ws a t e h l)))
-        ∙ append_assoc (take a ms) (map f (part a e ws)) (drop e ms))
-
     pub over_done : (e : ℕ) → t ≤ e → e ≤ t → o ≡ over a e f ws ms
     over_done e l g = let n : t ≡ e = omega arith in rw n at inv
 
@@ -127,23 +76,10 @@ module _ (l t : List ℕ) (i s e : ℕ) (p : s ≡ line_start l i) (q : e ≡ li
   pub line_by : {A : Type 0} (f : A → ℕ) (us : List A) (ms next : List ℕ) → next ≡ over s e f us ms → next ≡ over (line_start l i) (line_end l t i) f us ms
   line_by f us ms next u = rw (p, q) at u
 
-module _ (ds cs : List ℕ) (e k c w : ℕ) (r : k ≡ e - 1) (p : c ≡ get_or ds k 0) (q : w ≡ get_or cs c 0) where
-  pub count_fits : get_or cs (get_or ds (e - 1) 0) 0 < 65535 → Fits w16 (w + 1)
-  count_fits h = record { fits = (let z : w < 65535 = rw (q, p, r) h in omega arith) }
-
-  pub count_low : get_or ds (e - 1) 0 < length cs → c < length cs
-  count_low h = rw (p, r) h
-
-  pub count_by : set cs c (w + 1) ≡ set cs (get_or ds (e - 1) 0) (get_or cs (get_or ds (e - 1) 0) 0 + 1)
-  count_by = rw (q, p, r)
-
 -- The loops
 
 pub record Tallied (ds : List ℕ) (i : ℕ) (cs : List ℕ) : Type 0 where
   pub at : (c : ℕ) → get_or cs c 0 ≡ tally ds i c
-
-pub start_low : (ds : List ℕ) (n : ℕ) → ((j : ℕ) → j < n → get_or ds j 0 < 1024) → (k : ℕ) → k < n → (m : ℕ) → 1024 ≤ m → get_or ds k 0 < m
-start_low ds n p k h m e = omega (arith, p k h)
 
 pub tallied_start : (ds cs : List ℕ) → ((c : ℕ) → get_or cs c 0 ≡ 0) → Tallied ds 0 cs
 unfolding tally range filter
@@ -154,8 +90,8 @@ module _ (ds : List ℕ) (i : ℕ) (cs : List ℕ) (T : Tallied ds i cs) where
   unfolding tally
   tally_few c = omega (arith, count_all (λ j. eqb (get_or ds j 0) c) (up_to i), length_range 0 i)
 
-  pub tallied_few : (d : ℕ) → i < 1024 → get_or cs d 0 < 65535
-  tallied_few d h = omega (arith, T.at d, tally_few d)
+  pub tallied_fits : (d : ℕ) → i < 1024 → Fits w16 (get_or cs d 0 + 1)
+  tallied_fits d h = record { fits = omega (arith, T.at d, tally_few d) }
 
   tally_more : (c : ℕ) → tally ds (i + 1) c ≡ tally ds i c + cond (eqb (get_or ds i 0) c) 1 0
   unfolding tally
@@ -164,11 +100,11 @@ module _ (ds : List ℕ) (i : ℕ) (cs : List ℕ) (T : Tallied ds i cs) where
       ∙ count_snoc (λ j. eqb (get_or ds j 0) c) (up_to i) (0 + i)
       ∙ ap (λ (j : ℕ). count (λ j. eqb (get_or ds j 0) c) (up_to i) + cond (eqb (get_or ds j 0) c) 1 0) (zero-add i)
 
-  pub tallied_next : (k : ℕ) → k ≡ i → (next : List ℕ) → get_or ds i 0 < length cs → next ≡ set cs (get_or ds k 0) (get_or cs (get_or ds k 0) 0 + 1) → Tallied ds (i + 1) next
-  tallied_next k q next h e = record {
-    at = λ c. elim (ℕ_discrete (get_or ds i 0) c) [
-      | yes z ↦ rw (e, q, ← z, get_or-set_same cs (get_or ds i 0) (get_or cs (get_or ds i 0) 0 + 1) 0 h, T.at (get_or ds i 0), tally_more (get_or ds i 0), eq-eqb (get_or ds i 0) (get_or ds i 0) refl)
-      | no z ↦ rw (e, q, get_or-set_other cs (get_or ds i 0) c (get_or cs (get_or ds i 0) 0 + 1) 0 (λ y. z (sym y)), T.at c, tally_more c, ne_eqb (get_or ds i 0) c z) (omega arith)
+  pub tallied_next : (d : ℕ) → d ≡ get_or ds i 0 → (next : List ℕ) → d < length cs → next ≡ set cs d (get_or cs d 0 + 1) → Tallied ds (i + 1) next
+  tallied_next d q next h e = record {
+    at = λ c. elim (ℕ_discrete d c) [
+      | yes z ↦ rw (e, ← z, get_or-set_same cs d (get_or cs d 0 + 1) 0 h, T.at d, tally_more d, ← q, eq-eqb d d refl)
+      | no z ↦ rw (e, get_or-set_other cs d c (get_or cs d 0 + 1) 0 (λ y. z (sym y)), T.at c, tally_more c, ← q, ne_eqb d c z) (omega arith)
     ];
   }
 
@@ -195,5 +131,3 @@ module _ (l t : List ℕ) (ok : covers 512 0 l (length t) ≡ true) {A : Type 0}
 -- the numbers of the families after line i
 pub number_tallied : (fs : List (List ℕ)) (ds : List ℕ) (i : ℕ) (cs : List ℕ) → Tallied ds (i + 1) cs → token_number fs (λ c. get_or cs c 0) ≡ number_at fs ds i
 number_tallied fs ds i cs T = ap (token_number fs) (fun_ext (λ c. T.at c))
-
-pub ruleset writes = (number_none, number_zero, number_some, mark_none, mark_zero, mark_yes, mark_no, count_fits, count_low, count_by)

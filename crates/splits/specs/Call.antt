@@ -9,7 +9,7 @@ use Rattle.definitions.specs.Columns.{listing}
 use Rattle.definitions.specs.Questions.{Limits, question_1, question_2, question_3, refusal}
 use Rattle.definitions.specs.Answers.{refused, accepted, splits}
 use Rattle.definitions.specs.Calls.{Lent, Called, written}
-use Rattle.questions.specs.Refusals.{first_three, answer_of}
+use Rattle.questions.specs.Refusals.{answer_of}
 use Rattle.questions.specs.declared.Refusal.{Refusal}
 
 abbrev pub lent : List ℕ → List ℕ → Lent

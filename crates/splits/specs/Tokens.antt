@@ -1,13 +1,13 @@
 -- What is written for tokens, line by line.
 --   tally ds i c          how many of the first i entries of ds are c
---   number_of f c         the number of a token of which that is c, where f has the number of each place
+--   number_of f c         the number of a token whose family has place c, where f has the number of each place
 --   mark_of d c           the mark of such a token on a line whose entry is d
 --   token_number fs f u   the number of the token u
 --   token_mark fs d u     its mark
 --   over a e f us ms      ms with f of the elements of us from place a up to, not with, place e in their places
 --   by_line l t g us n    g i of each element of line i, for the first n lines
 -- Assumes nothing.
-use Rattle.std.specs.Prelude.{if◌then◌else◌, ℕ, ◌+◌, ◌-◌, List, ◌++◌, map, eqb, get_or, take, drop}
+use Rattle.std.specs.Prelude.{if◌then◌else◌, ℕ, ◌&&◌, List, ◌++◌, map, eqb, ltb, get_or, take, drop, Option, None, Some}
 use Rattle.definitions.specs.Lists.{count, concat, up_to, part}
 use Rattle.definitions.specs.Model.{Token}
 use Rattle.definitions.specs.Family.{fam_of}
@@ -18,11 +18,13 @@ use Rattle.memo.specs.Found.{found}
 unfoldable pub tally : List ℕ → ℕ → ℕ → ℕ
 tally ds i c = count (λ j. eqb (get_or ds j 0) c) (up_to i)
 
-unfoldable pub number_of : (ℕ → ℕ) → ℕ → ℕ
-number_of f c = if eqb c 0 then no_family else if eqb c 1 then 0 else f (c - 1)
+unfoldable pub number_of : (ℕ → ℕ) → Option ℕ → ℕ
+number_of f None = no_family
+number_of f (Some c) = if eqb c 0 then 0 else f c
 
-unfoldable pub mark_of : ℕ → ℕ → ℕ
-mark_of d c = if eqb d 0 then 0 else if eqb c (d + 1) then 1 else 0
+unfoldable pub mark_of : ℕ → Option ℕ → ℕ
+mark_of d None = 0
+mark_of d (Some c) = if ltb 0 d && eqb d c then 1 else 0
 
 unfoldable pub token_number : List (List ℕ) → (ℕ → ℕ) → Token → ℕ
 token_number fs f u = number_of f (found fs (fam_of u))

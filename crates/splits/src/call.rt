@@ -1,6 +1,6 @@
 // The split call: questions 1 to 4, then a number and a mark for each token, and zeros behind them.
 //
-// Contracts cite `splits` of Rattle.definitions.specs.Answers and `split_call` of Rattle.definitions.specs.Calls. Local arrays take 11,776
+// Contracts cite `splits` of Rattle.definitions.specs.Answers and `split_call` of Rattle.definitions.specs.Calls. Local arrays take 12,288
 // bytes, and 2,560 more where there is a goto.
 ghost use Rattle.std.specs.Prelude.{◌≡◌, true, ℕ, ◌≤◌, ◌<◌, length, get_or};
 ghost use Rattle.definitions.specs.Questions.{covers};
@@ -16,6 +16,7 @@ use crate::starts::starts;
 use crate::tokens::write_lines;
 use crossings::crossings;
 use families::families;
+use memo::lookup::Lookup;
 use model::listing::Listing;
 use questions::{Limits, Refusal};
 
@@ -52,18 +53,9 @@ fn write(code: &Listing, numbers: &mut [u32], marks: &mut [u8])
     let mut table = [0u16; 2304];
     let mut defs = [0u16; 1024];
     let mut counts = [0u16; 1024];
-    let mut memo = [0usize; 128];
     let count = find_starts(code, &mut table, &mut defs);
-    write_lines(
-        code,
-        &table,
-        count,
-        &defs,
-        &mut counts,
-        &mut memo,
-        numbers,
-        marks,
-    );
+    let mut lookup = Lookup::new(code, &table, count);
+    write_lines(&mut lookup, &defs, &mut counts, numbers, marks);
 }
 
 // The same of any listing: without a line there is no token.

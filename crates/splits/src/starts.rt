@@ -1,6 +1,8 @@
 // The split points by line, one step a line: the indent-1 definitions that no goto crosses.
 //
 // Contracts cite `all_jumps` and `crosses` of Rattle.definitions.specs.SplitPoints.
+#![tactic(auto, using(crate::proofs::StartRules::start_rules))]
+
 ghost use Rattle.std.specs.Prelude.{if◌then◌else◌, ◌≡◌, ◌&&◌, ℕ, ◌≤◌, ◌<◌, eqb, ltb, length, get_or};
 ghost use Rattle.definitions.specs.Lists.{any};
 ghost use Rattle.definitions.specs.Model.{line};
@@ -41,8 +43,7 @@ pub fn starts(code: &Listing, far: &[u16], defs: &mut [u16])
 {
     let mut reach = 0;
     for i in 0..code.lines.len() {
-        let v = start_of(code, defs, i, reach);
-        defs[i] = v;
+        defs[i] = start_of(code, defs, i, reach);
         reach = reach.max(number(far, i));
     }
 }

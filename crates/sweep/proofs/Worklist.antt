@@ -202,10 +202,10 @@ module _ (n r w : ℕ) (nums : List ℕ) where
       (sweep_skip (preds_of n r l₀) nums n (w * 64) (outs n r w l₀) (outs n r w l) k (q - k) (todo n r l) (next n r l) z (omega arith)
       (λ j x y. ap (bit l) (omega arith) ∙ none (a + j) (omega arith) (omega arith)) W)
 
-  pub work_start : (l : List ℕ) (q : ℕ) → Listed n r w nums l (todo n r l) → First l ((n * r + n * r) * 64) ((n * r + n * r) * 64 + n) q
+  work_first : (l : List ℕ) (q : ℕ) → Listed n r w nums l (todo n r l) → First l ((n * r + n * r) * 64) ((n * r + n * r) * 64 + n) q
       → Working l l ((n * r + n * r) * 64) ((n * r + n * r) * 64 + n) q false
   unfolding Listed
-  work_start l q L F = record {
+  work_first l q L F = record {
     low = F.from;
     high = F.upto;
     kept = kept_none n r w l;
@@ -213,11 +213,14 @@ module _ (n r w : ℕ) (nums : List ℕ) where
         (sweep_none (preds_of n r l) nums n (w * 64) (outs n r w l) (todo n r l) (next n r l) L);
   }
 
-  pub work_next : (l₀ l l' : List ℕ) (q q' : ℕ) (t y z : Bool) → n + 64 ≤ r * 64 → Agree n r l₀
+  pub work_start : (l : List ℕ) (q a : ℕ) → a ≡ (n * r + n * r) * 64 → Listed n r w nums l (todo n r l) → First l a (a + n) q → Working l l a (a + n) q false
+  work_start l q a e L F = rw e (work_first l q L (rw e at F))
+
+  work_more : (l₀ l l' : List ℕ) (q q' : ℕ) (t y z : Bool) → n + 64 ≤ r * 64 → Agree n r l₀
       → Working l₀ l ((n * r + n * r) * 64) ((n * r + n * r) * 64 + n) q t → q < (n * r + n * r) * 64 + n
       → Step n r w (q - (n * r + n * r) * 64) nums l l' y → z ≡ (t || y) → First l' (q + 1) ((n * r + n * r) * 64 + n) q'
       → Working l₀ l' ((n * r + n * r) * 64) ((n * r + n * r) * 64 + n) q' z
-  work_next l₀ l l' q q' t y z wide A W hq P ez F =
+  work_more l₀ l l' q q' t y z wide A W hq P ez F =
       let a = (n * r + n * r) * 64 in
       let k = q - a in
       record {
@@ -227,6 +230,10 @@ module _ (n r w : ℕ) (nums : List ℕ) where
         sweeping = skip_to l₀ l' a (suc k) (q' - a) z refl (omega (arith, F.from, W.low)) (omega (arith, F.upto)) (λ j x y. F.none j (omega (arith, W.low)) (omega (arith, F.from, W.low)))
             (swept_visit l₀ l l' k t y z wide A W.kept (omega (arith, W.low)) P (ez ∙ or_comm t y) W.sweeping);
       }
+
+  pub work_next : (l₀ l l' : List ℕ) (q q' a : ℕ) (t y z : Bool) → a ≡ (n * r + n * r) * 64 → n + 64 ≤ r * 64 → Agree n r l₀ → Working l₀ l a (a + n) q t → q < a + n
+      → Step n r w (q - a) nums l l' y → z ≡ (t || y) → First l' (q + 1) (a + n) q' → Working l₀ l' a (a + n) q' z
+  work_next l₀ l l' q q' a t y z e wide A W hq P ez F = rw e (work_more l₀ l l' q q' t y z wide A (rw e at W) (rw e at hq) (rw e at P) ez (rw e at F))
 
   pub work_agree : (l₀ l : List ℕ) (a e q : ℕ) (z : Bool) → n + 64 ≤ r * 64 → Working l₀ l a e q z → Agree n r l₀ → Agree n r l
   work_agree l₀ l a e q z wide W A = kept_both n r w l₀ l wide W.kept A

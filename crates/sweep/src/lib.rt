@@ -1,5 +1,5 @@
-// Reaching definitions of one register family, by sweeps over bit rows: the inner loop of `recover` of pseudo_ssa.rs. Crate `visit` has
-// the layout of the working space.
+// Reaching definitions of one register family, by sweeps over bit rows: the inner loop of `recover` of pseudo_ssa.rs. Module `layout` of
+// crate `visit` says where the rows stand in the working space.
 //
 // The first sweep visits every line. Any other visits, in order, only the lines of which a predecessor changed since their last visit: a
 // line that it passes over would not change, so the outgoing rows after each sweep, and the number of sweeps, are those of `sweeps` of
@@ -10,35 +10,37 @@
 
 ghost use Rattle.std.specs.Prelude.{◌≡◌, true, ◌+◌, ◌*◌, ◌<◌, ◌≤◌, length};
 ghost use Rattle.bits.specs.Edges.{Agree};
-ghost use Rattle.visit.specs.Layout.{making, Room, todo};
-ghost use Rattle.visit.specs.Numbers.{Numbered, Numbering, Counted};
+ghost use Rattle.visit.specs.Layout.{making, Fits, todo};
+ghost use Rattle.visit.specs.Numbers.{Numbering, Counted};
 ghost use Rattle.visit.specs.Steps.{Full, Listed, Sweep, Started, Turned};
 ghost use Rattle.sweep.specs.Solved.{Solved, Incoming};
 
-use visit::{coming_row, step_line};
+use visit::layout::{Definitions, Layout};
 use words::narrow;
 
 // After `solve`: the incoming set of line i, in the row in the making. Answers the row's first bit.
-pub fn incoming_row(space: &mut [u64], n: usize, r: usize, w: usize, i: usize) -> usize
-    requires { Room n r w space.old × (i < n) × Agree n r space.old }
-    ensures value { result ≡ making n r w * 64 }
-    ensures incoming { Incoming n r w i space.old space.new }
+pub fn incoming_row(layout: Layout, space: &mut [u64], i: usize) -> usize
+    requires { Fits layout.n layout.r layout.w space.old × (i < layout.n) × Agree layout.n layout.r space.old }
+    ensures value { result ≡ making layout.n layout.r layout.w * 64 }
+    ensures incoming { Incoming layout.n layout.r layout.w i space.old space.new }
 {
-    coming_row(space, n, r, w, i);
-    (n * r + n * r + r + r + n * w) * 64
+    layout.coming_row(space, i);
+    layout.making() * 64
 }
 
 // One sweep over the lines to visit, in the first sweep all; answers whether an outgoing row changed.
-fn sweep(space: &mut [u64], defs: &[u16], n: usize, r: usize, w: usize, first: bool) -> bool
-    requires { Room n r w space.old × Numbered n w defs.now × Agree n r space.old × Listed n r w defs.now space.old (todo n r space.old) × (first ≡ true → Full n r space.old) }
-    ensures { Sweep n r w defs.now space.old space.new result }
+fn sweep(defs: &Definitions, space: &mut [u64], first: bool) -> bool
+    requires fits { let m = defs.now.layout in Fits m.n m.r m.w space.old × Agree m.n m.r space.old }
+    requires listed { let m = defs.now.layout in Listed m.n m.r m.w defs.now.nums.now space.old (todo m.n m.r space.old) × (first ≡ true → Full m.n m.r space.old) }
+    ensures { let m = defs.now.layout in Sweep m.n m.r m.w defs.now.nums.now space.old space.new result }
 {
-    let a = (n * r + n * r) * 64;
-    let e = a + n;
+    let a = defs.layout.todo() * 64;
+    let e = a + defs.layout.n;
     let mut changed = false;
     let mut q = bits::find_bit(space, a, e);
+    // A `while`: it goes from set bit to set bit, and a visit sets more of them.
     while q < e {
-        let c = step_line(space, defs, n, r, w, q - a, first);
+        let c = defs.step_line(space, q - a, first);
         changed |= c;
         q = bits::find_bit(space, q + 1, e);
     }
@@ -46,79 +48,70 @@ fn sweep(space: &mut [u64], defs: &[u16], n: usize, r: usize, w: usize, first: b
 }
 
 // All outgoing rows are empty, and all lines are to be visited.
-fn start(space: &mut [u64], n: usize, r: usize, w: usize)
-    requires { Room n r w space.old }
-    ensures { Started n r w space.old space.new }
+fn start(layout: Layout, space: &mut [u64])
+    requires { Fits layout.n layout.r layout.w space.old }
+    ensures { Started layout.n layout.r layout.w space.old space.new }
 {
-    let todo = n * r + n * r;
-    bits::clear_row(space, todo + r, r + n * w);
-    bits::fill_row(space, todo, r);
+    bits::clear_row(space, layout.next(), layout.r + layout.n * layout.w);
+    bits::fill_row(space, layout.todo(), layout.r);
 }
 
 // The next sweep's list is this sweep's.
-fn turn(space: &mut [u64], n: usize, r: usize, w: usize)
-    requires { Room n r w space.old }
-    ensures { Turned n r space.old space.new }
+fn turn(layout: Layout, space: &mut [u64])
+    requires { Fits layout.n layout.r layout.w space.old }
+    ensures { Turned layout.n layout.r space.old space.new }
 {
-    let todo = n * r + n * r;
-    let next = todo + r;
-    bits::copy_row(space, todo, next, r);
-    bits::clear_row(space, next, r);
+    let next = layout.next();
+    bits::copy_row(space, layout.todo(), next, layout.r);
+    bits::clear_row(space, next, layout.r);
 }
 
 // Sweeps until one changes nothing, and answers how many there were, with that one; none where the budget does not allow it.
-pub fn solve(
-    space: &mut [u64],
-    defs: &[u16],
-    n: usize,
-    r: usize,
-    w: usize,
-    budget: usize,
-) -> Option<usize>
-    requires { Room n r w space.old × Numbered n w defs.now × Agree n r space.old }
-    ensures { Solved n r w defs.now budget space.old space.new result }
+pub fn solve(defs: &Definitions, space: &mut [u64], budget: usize) -> Option<usize>
+    requires { let m = defs.now.layout in Fits m.n m.r m.w space.old × Agree m.n m.r space.old }
+    ensures { let m = defs.now.layout in Solved m.n m.r m.w defs.now.nums.now budget space.old space.new result }
 {
-    start(space, n, r, w);
+    start(defs.layout, space);
     if budget == 0 {
         return None;
     }
-    if !sweep(space, defs, n, r, w, true) {
+    if !sweep(defs, space, true) {
         return Some(1);
     }
-    turn(space, n, r, w);
+    turn(defs.layout, space);
     for count in 1..budget {
-        if !sweep(space, defs, n, r, w, false) {
+        if !sweep(defs, space, false) {
             return Some(count + 1);
         }
-        turn(space, n, r, w);
+        turn(defs.layout, space);
     }
     None
 }
 
 // The number of line i, where its family is f; c are given so far. Answers how many are given.
-fn number_line(families: &[u16], f: u16, defs: &mut [u16], i: usize, c: usize) -> usize
-    requires { (0 < i) × (i < length families.now) × (i < length defs.old) × (i < 65536) × Numbering families.now f defs.old i c }
-    ensures { Numbering families.now f defs.new (i + 1) result }
+fn number_line(families: &[u16], f: u16, nums: &mut [u16], i: usize, c: usize) -> usize
+    requires { (0 < i) × (i < length families.now) × (i < length nums.old) × (i < 65536) × Numbering families.now f nums.old i c }
+    ensures { Numbering families.now f nums.new (i + 1) result }
 {
     let g = families[i];
     if g == f {
         let v = narrow(c + 1);
-        defs[i] = v;
+        nums[i] = v;
         return c + 1;
     }
-    defs[i] = 0;
+    nums[i] = 0;
     c
 }
 
 // Numbers the lines from 1 on whose family is f, in order; answers how many there are. It takes a step a line.
-pub fn number(families: &[u16], f: u16, defs: &mut [u16], n: usize) -> usize
-    requires { (0 < n) × (n ≤ 65536) × (n ≤ length families.now) × (n ≤ length defs.old) }
-    ensures { Counted n families.now f defs.new result }
+pub fn number(families: &[u16], f: u16, nums: &mut [u16], n: usize) -> usize
+    requires { (0 < n) × (n ≤ 65536) × (n ≤ length families.now) × (n ≤ length nums.old) }
+    ensures { Counted n families.now f nums.new result }
 {
-    defs[0] = 0;
+    nums[0] = 0;
     let mut c = 0;
     for i in 1..n {
-        c = number_line(families, f, defs, i, c);
+        c = number_line(families, f, nums, i, c);
     }
     c
 }

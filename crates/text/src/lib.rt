@@ -16,6 +16,7 @@ ghost use Rattle.text.specs.Zeroed.{filled_from};
 pub fn word(ws: &[u32], k: usize) -> usize
     ensures { result ≡ get_or ws.now k 0 }
 {
+    // A cast: std has no `From` of 32 bits to `usize`.
     ws.get(k).copied().unwrap_or(0) as usize
 }
 
@@ -36,8 +37,12 @@ pub fn byte(s: &[u8], k: usize) -> usize
 pub fn part(s: &[u8], a: usize, e: usize) -> &[u8]
     ensures { result.now ≡ part a e s.now }
 {
-    let e = e.min(s.len());
-    if a < e { &s[a..e] } else { &s[..0] }
+    // Branches and no `min`, for speed: mostly the part is within the text.
+    if e <= s.len() {
+        if a < e { &s[a..e] } else { &s[..0] }
+    } else {
+        if a < s.len() { &s[a..] } else { &s[..0] }
+    }
 }
 
 // The same bytes.
@@ -139,8 +144,10 @@ pub fn code_point(s: &[u8], i: usize) -> usize
     }
 }
 
-// The bytes are UTF-8. A byte below 0x80 is passed over without asking `code_point`. Not std's `from_utf8`: that tells what it takes by
-// decoding and encoding again, and no lemma ties this to the ranges of RFC 3629; and other readers need `code_point`.
+// The bytes are UTF-8. A byte below 0x80 is passed over without asking `code_point`. A `while`: it goes from code point to code point, which is no
+// range. Not std's `from_utf8`: that tells what it takes by decoding and encoding again, and no lemma ties this to the ranges of RFC 3629; and
+// other readers need `code_point`.
+#[tactic(auto, using(crate::proofs::CodePoints::code_points))]
 pub fn is_utf8(s: &[u8]) -> bool
     ensures { result ≡ is_utf8 s.now }
 {
@@ -161,7 +168,7 @@ pub fn is_utf8(s: &[u8]) -> bool
 
 // Zeroing
 
-// An unsigned number of any size.
+// An unsigned number of any size. The four impls stand out in full: one that a macro of the repository makes is refused.
 pub trait Unsigned: Copy {
     ghost ZERO: { Self };
 
@@ -192,7 +199,8 @@ impl Unsigned for u64 {
     const ZERO: u64 = 0;
 }
 
-// Zeroes the words from place `from` on: what stands before is kept.
+// Zeroes the words from place `from` on: what stands before is kept. Not std's `fill`, which asks that a clone cannot fail: nothing says so of
+// any T.
 pub fn zero<T: Unsigned>(words: &mut [T], from: usize)
     ensures { words.new ≡ filled_from from T.ZERO words.old }
 {

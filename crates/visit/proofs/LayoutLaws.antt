@@ -1,6 +1,7 @@
 -- The layout: rows that are untouched hold what they held.
---   room                          the words of question 5 have room for every w up to r
---   room_same                     so has a list of the same length
+--   small, room                   the words of a layout are few, and the words of question 5 have room for them
+--   room_by                       what a layout knows of itself, and words that fit
+--   room_same                     a list of the same length has room too
 --   outs_at, outs_past            an outgoing bit, by its place
 --   outs_word, same_outs, same_preds    equal words hold equal outgoing bits, equal outgoing rows, and equal edges
 --   kept-*                        the same for words that are `Kept`
@@ -20,15 +21,26 @@ use Rattle.bits.specs.Rows.{bit}
 use Rattle.bits.specs.Edges.{row_words, Agree, preds_of}
 use Rattle.bits.proofs.RowLaws.{same_bit}
 use Rattle.bits.proofs.EdgeLaws.{row_in, kept_edges, kept_agree, preds_of_kept}
-use Rattle.visit.specs.Layout.{base, Room, outs, Kept}
+use Rattle.visit.specs.Layout.{base, Fits, Room, outs, Kept}
+use Rattle.visit.specs.declared.layout.Layout.{Layout}
 
-pub room : (n w : ℕ) (l : List ℕ) → 0 < n → n ≤ 1024 → 0 < w → w ≤ (n + 63) / 64 → space_words n ≤ length l → Room n (row_words n) w l
-room n w l p h q s e =
+-- the words that a layout takes are few
+pub small : (n w : ℕ) → 0 < n → n ≤ 1024 → w ≤ (n + 63) / 64
+    → (n * row_words n + n * row_words n + row_words n + row_words n + n * w + w ≤ 65536) × (n * row_words n + n * row_words n + row_words n + row_words n + n * w + w ≤ space_words n)
+small n w p h s =
     let r = (n + 63) / 64 in
     let a : n * r ≤ n * 16 = mul-le-mul_left n (omega arith) in
     let b : n * w ≤ n * r = mul-le-mul_left n s in
     let c : n * (r + 1) ≡ n * r + n * 1 = mul-add n r 1 in
-    record { lines = p; some = q; wide = omega arith; room = omega arith; small = omega arith }
+    (omega arith, omega arith)
+
+-- the layout for c definitions
+pub room : (n c : ℕ) (m : Layout) (l : List ℕ) → (m.n ≡ n) × (m.r ≡ row_words n) × (m.w ≡ c / 64 + 1) → n ≤ 1024 → c < n → space_words n ≤ length l → Fits m.n m.r m.w l
+room n c m l e h q s = rw (e.0, e.1, e.2) (omega (arith, (small n (c / 64 + 1) (omega arith) h (omega arith)).1))
+
+-- what a layout knows of itself, and that the words have room
+pub room_by : (m : Layout) (l : List ℕ) → Fits m.n m.r m.w l → Room m.n m.r m.w l
+room_by m l h = record { lines = m.lines; some = m.some; wide = m.wide; room = h; small = m.small }
 
 pub room_same : (n r w : ℕ) (l l' : List ℕ) → length l' ≡ length l → Room n r w l → Room n r w l'
 room_same n r w l l' e R = record { lines = R.lines; some = R.some; wide = R.wide; room = rw e R.room; small = R.small }

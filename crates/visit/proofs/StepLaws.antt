@@ -35,10 +35,9 @@ use Rattle.bits.specs.Rows.{word_bit, bit, Away, Filled, joined, joined_low, cop
 use Rattle.bits.specs.Edges.{edges, succs, Spanned, Agree, preds_of, Between}
 use Rattle.bits.specs.declared.Span.{Span}
 use Rattle.bits.proofs.Words.{zero_bit, or_bit, one_bit}
-use Rattle.bits.proofs.RowLaws.{bit_in_word, same_bit, filled_off, fill_none, fill_next, differ_none, differ_next}
+use Rattle.bits.proofs.RowLaws.{bit_in_word, same_bit, filled_off, fill_none, fill_next, fill_end, differ_none, differ_next}
 use Rattle.bits.proofs.EdgeLaws.{row_in, rows_apart, kept_succs, kept_agree, preds_of_at}
-use Rattle.visit.specs.Layout.{base, making, Room, outs, todo, next, Kept}
-use Rattle.visit.specs.Numbers.{Numbered}
+use Rattle.visit.specs.Layout.{base, making, Fits, Room, outs, todo, next, Kept}
 use Rattle.visit.specs.Steps.{Word, coming, given, Visit, Full, Ahead, Back, Marked, Step, Started, Turned}
 use Rattle.visit.proofs.LayoutLaws.{room_same, outs_at, outs_past, outs_word, same_outs, same_preds}
 
@@ -109,9 +108,9 @@ module _ (n r w i k t : ℕ) (l : List ℕ) (et : t ≡ i * r) (hi : i < n) (hk 
           preds_of_at n r l i hi ∙ ap (λ (m : ℕ). filter (λ p. edges n r l p i) (range 0 m)) e
           ∙ filter_skip (λ p. edges n r l p i) 0 (x.from - t * 64) (t * 64 + n - x.from) none ∙ rw f
 
-  pub gather_next : (e y q q' u : ℕ) → Gathering n r w i k l (t * 64) e y q → q < e → u ≡ (q - t * 64) * w → First l (q + 1) e q'
+  gather_word : (e y q q' u : ℕ) → Gathering n r w i k l (t * 64) e y q → q < e → u ≡ (q - t * 64) * w → First l (q + 1) e q'
       → Gathering n r w i k l (t * 64) e (bit_or y (get_or l (base n r + k + u) 0)) q'
-  gather_next e y q q' u G hq eu S = record {
+  gather_word e y q q' u G hq eu S = record {
     low = omega (arith, S.from, G.low);
     high = S.upto;
     end = G.end;
@@ -148,6 +147,10 @@ module _ (n r w i k t : ℕ) (l : List ℕ) (et : t ≡ i * r) (hi : i < n) (hk 
           ap (◌|| R) (or_bit y (get_or l (base n r + k + u) 0) b ∙ ap (word_bit y b ||◌) (out b hb))
           ∙ or_assoc (word_bit y b) (f p) R
           ∙ ap (word_bit y b ||◌) (sym rest) ∙ G.left b hb
+
+  pub gather_next : (e y q q' u s : ℕ) → Gathering n r w i k l (t * 64) e y q → q < e → u ≡ (q - t * 64) * w → s ≡ base n r → First l (q + 1) e q'
+      → Gathering n r w i k l (t * 64) e (bit_or y (get_or l (s + k + u) 0)) q'
+  gather_next e y q q' u s G hq eu es S = rw es (gather_word e y q q' u G hq eu S)
 
   pub gather_end : (x : Span) (y q : ℕ) → Between n l t x → Gathering n r w i k l (t * 64) x.end y q → x.end ≤ q → Word k y (λ b. any (outs n r w l b) (get_or (preds_of n r l) i []))
   unfolding any filter range
@@ -187,15 +190,15 @@ module _ (n r w i k : ℕ) (l₀ l : List ℕ) (R : Room n r w l₀) (F : Filled
   row_agree : Agree n r l₀ → Agree n r l
   row_agree A = kept_agree n r l₀ l R.wide (λ v h. F.outside v (λ x y. omega arith)) A
 
-  pub row_ready : length l ≡ length l₀ → i < n → Agree n r l₀ → Room n r w l × (i < n) × (k < w) × Agree n r l
-  row_ready e hi A = (room_same n r w l₀ l e R, hi, hk, row_agree A)
+  pub row_ready : length l ≡ length l₀ → i < n → Agree n r l₀ → Fits n r w l × (i < n) × (k < w) × Agree n r l
+  row_ready e hi A = ((room_same n r w l₀ l e R).room, hi, hk, row_agree A)
 
-  pub row_next : (y : ℕ) → length l ≡ length l₀ → Word k y (λ b. coming (preds_of n r l) b (outs n r w l b) i)
-      → Filled l₀ (set l (making n r w + k) y) (making n r w) (k + 1) (λ b. coming (preds_of n r l₀) b (outs n r w l₀ b) i)
-  row_next y e W = fill_next l₀ l (making n r w) k y (λ b. coming (preds_of n r l₀) b (outs n r w l₀ b) i) F (omega (arith, R.room))
+  pub row_next : (y t : ℕ) → t ≡ making n r w → length l ≡ length l₀ → Word k y (λ b. coming (preds_of n r l) b (outs n r w l b) i)
+      → Filled l₀ (set l (t + k) y) (making n r w) (k + 1) (λ b. coming (preds_of n r l₀) b (outs n r w l₀ b) i)
+  row_next y t et e W = rw et (fill_next l₀ l (making n r w) k y (λ b. coming (preds_of n r l₀) b (outs n r w l₀ b) i) F (omega (arith, R.room))
       (λ b h. W.bits b h ∙ ap₂ (λ (f : ℕ → Bool) (ps : List (List ℕ)). coming ps (k * 64 + b) f i)
       (same_outs n r w l₀ l (λ v x y. F.outside v (λ a b. omega arith)) (k * 64 + b) (omega arith))
-      (same_preds n r l₀ l R.wide (λ v x. F.outside v (λ a b. omega arith))))
+      (same_preds n r l₀ l R.wide (λ v x. F.outside v (λ a b. omega arith)))))
 
 -- A visit: the first k words are written
 
@@ -207,11 +210,11 @@ pub visiting_start : (n r w i : ℕ) (nums l : List ℕ) → Visiting n r w i 0 
 visiting_start n r w i nums l = record { filled = fill_none l (base n r + i * w) _; differs = differ_none l (base n r + i * w) _ }
 
 module _ (n r w i k : ℕ) (nums l₀ l : List ℕ) (t : Bool) (R : Room n r w l₀) (G : Visiting n r w i k nums l₀ l t) (hi : i < n) where
-  pub visiting_ready : length l ≡ length l₀ → k < w → Numbered n w nums → Agree n r l₀ → Room n r w l × (i < n) × (k < w) × Numbered n w nums × Agree n r l
-  visiting_ready e hk N A = (room_same n r w l₀ l e R, hi, hk, N, kept_agree n r l₀ l R.wide (λ v h. G.filled.outside v (λ x y. omega arith)) A)
+  pub visiting_ready : length l ≡ length l₀ → k < w → Agree n r l₀ → Fits n r w l × (i < n) × (k < w) × Agree n r l
+  visiting_ready e hk A = ((room_same n r w l₀ l e R).room, hi, hk, kept_agree n r l₀ l R.wide (λ v h. G.filled.outside v (λ x y. omega arith)) A)
 
-  pub visiting_next : (x u : ℕ) (l' : List ℕ) (c z : Bool) → length l ≡ length l₀ → k < w → u ≡ i * w → Word k x (λ b. given (preds_of n r l) nums b (outs n r w l b) i)
-      → Put l l' (base n r + u + k) x c → z ≡ (c || t) → Visiting n r w i (k + 1) nums l₀ l' z
+  pub visiting_next : (x u : ℕ) (l' : List ℕ) (c z : Bool) → length l ≡ length l₀ → k < w → u ≡ base n r + i * w → Word k x (λ b. given (preds_of n r l) nums b (outs n r w l b) i)
+      → Put l l' (u + k) x c → z ≡ (c || t) → Visiting n r w i (k + 1) nums l₀ l' z
   visiting_next x u l' c z el hk eu W Q ez = record {
     filled = rw (Q.word, eu) (fill_next l₀ l (base n r + i * w) k x _ G.filled (omega (arith, row_in i n w hi, R.room)) bits);
     differs = differ_next l₀ l l' (base n r + i * w) k x _ t c z G.filled bits G.differs (rw eu at Q) ez;
@@ -257,35 +260,32 @@ pub visit_made : (n r w i k : ℕ) (nums l₀ l : List ℕ) (z : Bool) → i < n
 visit_made n r w i k nums l₀ l z hi h g G = let e : k ≡ w = omega arith in visit_all n r w i nums l₀ l z hi (rw e at G)
 
 pub visit_word : (n r i x : ℕ) (nums l₀ l : List ℕ) (z : Bool) → i < n → Room n r 1 l₀ → Word 0 x (λ b. given (preds_of n r l₀) nums b (outs n r 1 l₀ b) i)
-    → Put l₀ l (base n r + i) x z → Visit n r 1 i nums l₀ l z
-visit_word n r i x nums l₀ l z hi R W Q =
-    let p : base n r + i ≡ base n r + i + 0 = omega arith in
+    → (u : ℕ) → u ≡ base n r → Put l₀ l (u + i) x z → Visit n r 1 i nums l₀ l z
+visit_word n r i x nums l₀ l z hi R W u eu Q =
+    let p : u + i ≡ base n r + i + 0 = omega arith in
     visit_all n r 1 i nums l₀ l z hi
-    (visiting_next n r 1 i 0 nums l₀ l₀ false R (visiting_start n r 1 i nums l₀) hi x i l z z refl (omega arith) (omega arith) W (rw p at Q) (sym (or-false z)))
+    (visiting_next n r 1 i 0 nums l₀ l₀ false R (visiting_start n r 1 i nums l₀) hi x (base n r + i) l z z refl (omega arith) (omega arith) W (rw p at Q) (sym (or-false z)))
 
 -- The lists of lines
 
 or_none : (a b : Bool) → (a || b) ≡ false → (a ≡ false) × (b ≡ false)
 or_none a b e = (not_so a (λ q. clash (or_left a b q) e), not_so b (λ q. clash (or_right a b q) e))
 
--- u is row i of the successors, and x has its bits
-module _ (n r i u : ℕ) (l₀ l : List ℕ) (x : Span) (wide : n + 64 ≤ r * 64) (hi : i < n) (eu : u ≡ i * r) (S : Between n l₀ (n * r + i * r) x) where
-  abbrev row : ℕ
-  row = n * r + u
-
+-- row i of the successors is at word `row`, and x has its bits
+module _ (n r i row : ℕ) (l₀ l : List ℕ) (x : Span) (wide : n + 64 ≤ r * 64) (hi : i < n) (er : row ≡ n * r + i * r) (S : Between n l₀ (n * r + i * r) x) where
   abbrev word : ℕ
   word = x.from / 64
 
   B : Between n l₀ row x
-  B = rw eu S
+  B = rw er S
 
   succ_bit : (j : ℕ) → succs n r l₀ i j ≡ bit l₀ (row * 64 + j)
   unfolding succs
-  succ_bit j = ap (λ (v : ℕ). bit l₀ ((n * r + v) * 64 + j)) (sym eu)
+  succ_bit j = ap (λ (v : ℕ). bit l₀ (v * 64 + j)) (sym er)
 
-  pub ahead_by : Filled l₀ l (n * r + n * r + (word - row)) ((x.end + 63) / 64 - word) (joined l₀ (n * r + n * r + (word - row)) word) → Ahead n r i l₀ l
+  ahead_at : Filled l₀ l (n * r + n * r + (word - row)) ((x.end + 63) / 64 - word) (joined l₀ (n * r + n * r + (word - row)) word) → Ahead n r i l₀ l
   unfolding todo
-  ahead_by F = record {
+  ahead_at F = record {
     kept = λ v h. F.outside v (λ a b. h (omega arith) (omega (arith, B.low, B.order, B.high)));
     old = old;
     new = λ j h e. succ_bit j ∙ (elim (lt_or_ge (row * 64 + j) x.from) [
@@ -313,13 +313,16 @@ module _ (n r i u : ℕ) (l₀ l : List ℕ) (x : Span) (wide : n + 64 ≤ r * 6
         ]
       ]
 
+  pub ahead_by : (t : ℕ) → t ≡ n * r + n * r → Filled l₀ l (t + (word - row)) ((x.end + 63) / 64 - word) (joined l₀ (t + (word - row)) word) → Ahead n r i l₀ l
+  ahead_by t e F = ahead_at (rw e at F)
+
   pub back_none : row * 64 + i < x.from → Back n r i l₀ l₀
   back_none g = record { kept = λ v h. refl; old = λ j h e. e; new = λ j h e. succ_bit j ∙ B.below j (omega arith) (omega arith) }
 
-  pub back_by : x.from ≤ row * 64 + i
+  back_at : x.from ≤ row * 64 + i
       → Filled l₀ l (n * r + n * r + r + (word - row)) ((row * 64 + i - word * 64) / 64 + 1) (joined_low l₀ (n * r + n * r + r + (word - row)) word (row * 64 + i - word * 64)) → Back n r i l₀ l
   unfolding next
-  back_by g F = record {
+  back_at g F = record {
     kept = λ v h. F.outside v (λ a b. h (omega arith) (omega (arith, B.low)));
     old = old;
     new = λ j h e. succ_bit j ∙ (elim (lt_or_ge (row * 64 + j) x.from) [
@@ -347,6 +350,10 @@ module _ (n r i u : ℕ) (l₀ l : List ℕ) (x : Span) (wide : n + 64 ≤ r * 6
           | inr b ↦ sym (filled_off l₀ l _ _ _ F ((n * r + n * r + r) * 64 + j) (λ y z. omega (arith, B.low))) ∙ e
         ]
       ]
+
+  pub back_by : (t : ℕ) → t ≡ n * r + n * r + r → x.from ≤ row * 64 + i
+      → Filled l₀ l (t + (word - row)) ((row * 64 + i - word * 64) / 64 + 1) (joined_low l₀ (t + (word - row)) word (row * 64 + i - word * 64)) → Back n r i l₀ l
+  back_by t e g F = back_at g (rw e at F)
 
 module _ (n r i : ℕ) (l₀ l₁ : List ℕ) (wide : n + 64 ≤ r * 64) (hi : i < n) (P : Ahead n r i l₀ l₁) where
   pub ahead_between : (x : Span) → Between n l₀ (n * r + i * r) x → Between n l₁ (n * r + i * r) x
@@ -381,10 +388,10 @@ module _ (n r i : ℕ) (l₀ l₁ : List ℕ) (wide : n + 64 ≤ r * 64) (hi : i
 pub preds_row : (n r i u : ℕ) (l : List ℕ) → Agree n r l → i < n → u ≡ i * r → Spanned n r l u
 preds_row n r i u l A hi e = rw e (A.preds_in i hi)
 
-pub succs_row : (n r i u : ℕ) (l : List ℕ) → Agree n r l → i < n → u ≡ i * r → Spanned n r l (n * r + u)
+pub succs_row : (n r i u : ℕ) (l : List ℕ) → Agree n r l → i < n → u ≡ n * r + i * r → Spanned n r l u
 succs_row n r i u l A hi e = rw e (A.succs_in i hi)
 
-pub succs_between : (n r i u : ℕ) (l : List ℕ) (x : Span) → u ≡ i * r → Between n l (n * r + u) x → Between n l (n * r + i * r) x
+pub succs_between : (n r i u : ℕ) (l : List ℕ) (x : Span) → u ≡ n * r + i * r → Between n l u x → Between n l (n * r + i * r) x
 succs_between n r i u l x e B = rw (← e) B
 
 -- the lists are not where a visit writes
@@ -461,3 +468,5 @@ turn_lists n r l₀ l₁ l wide F G = record {
   kept = λ v h. G.outside v (λ x y. h (omega arith) (omega arith)) ∙ F.outside v (λ x y. h (omega arith) (omega arith));
   list = λ j h. filled_off l₁ l (n * r + n * r + r) r (λ k. false) G ((n * r + n * r) * 64 + j) (λ x y. omega arith) ∙ F.inside j (omega arith);
 }
+
+pub ruleset step_rules = (fill_none, fill_end, word_there, word_none, come_entry, come_later, make_coming, make_own, gather_start, gather_next, preds_row, succs_row, succs_between, ahead_full, ahead_by, back_none, back_by, mark_both, visiting_start, visit_made, step_same)

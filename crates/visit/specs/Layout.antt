@@ -1,6 +1,7 @@
 -- Where the rows of one family stand in the working space, for n lines, r words a row of lines and w words a row of definitions.
 --   base n r            the first word of the outgoing rows, one of w words for each line
 --   making n r w        the first word of the row in the making
+--   Fits n r w l        the words l have room for all
 --   Room n r w l        the words l have room for all, a row of lines has a bit for each line and a word more, and no place of a bit overflows
 --   outs n r w l b j    bit b of the outgoing row of line j
 --   todo, next          line j is to be visited in this sweep, in the next
@@ -14,6 +15,9 @@ base n r = n * r + n * r + r + r
 
 abbrev pub making : ℕ → ℕ → ℕ → ℕ
 making n r w = n * r + n * r + r + r + n * w
+
+abbrev pub Fits : ℕ → ℕ → ℕ → List ℕ → Type 0
+Fits n r w l = n * r + n * r + r + r + n * w + w ≤ length l
 
 pub record Room (n r w : ℕ) (l : List ℕ) : Type 0 where
   pub lines : 0 < n

@@ -1,10 +1,12 @@
 // Passes over one family's tokens, along its chain: a step for each of them, and for some passes one for each line.
 //
+//   chained    what all of them take: the listing, its families and their chains
 //   reads      the lines that read a family, and whether its address is taken
 //   writing    numbers and marks of the tokens
 // Contracts cite Rattle.definitions.specs.Recover.
 
 #![tactic(auto)]
 
+pub mod chained;
 pub mod reads;
 pub mod writing;

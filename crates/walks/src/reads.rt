@@ -2,17 +2,19 @@
 // lines takes one step a line. The text of a token is looked at only before a token of the family.
 //
 // Contracts cite `takes_address`, `address_taken` and `read_tokens` of Rattle.definitions.specs.Recover.
+#![tactic(auto, using(crate::proofs::Taken::taken_rules, crate::proofs::Seen::seen_rules))]
+
 ghost use Rattle.std.specs.Prelude.{◌≡◌, cond, ◌+◌, ◌-◌, ◌<◌, ◌≤◌, eqb, length, get_or, set, take};
 ghost use Rattle.definitions.specs.Lists.{any, filter, range};
 ghost use Rattle.definitions.specs.Model.{line};
 ghost use Rattle.definitions.specs.Family.{names};
 ghost use Rattle.definitions.specs.Recover.{takes_address, address_taken, read_tokens};
 ghost use Rattle.model.specs.Listings.{listing_of, tokens_of};
-ghost use Rattle.families.specs.Families.{Table, Defs};
 ghost use Rattle.families.specs.Tokens.{family_name};
 ghost use Rattle.chains.specs.Chains.{Chain};
 ghost use Rattle.walks.specs.Lines.{takes, reads, Seen};
 
+use crate::chained::Chained;
 use chains::links::{line_at, next_at};
 use model::listing::Listing;
 use recover::sets::put;
@@ -22,22 +24,18 @@ use words::{number, word};
 fn takes_at(code: &Listing, i: usize, p: usize) -> bool
     ensures { result ≡ takes code.now.lines.now (tokens_of code.now) i p }
 {
-    if 0 < i {
-        let s = code.line_start(i);
-        if s < p {
-            return text::ends_with(code.token_text(p - 1), b"&");
-        }
-        return false;
-    }
-    false
+    0 < i && code.line_start(i) < p && text::ends_with(code.token_text(p - 1), b"&")
 }
 
 // A line from 1 on takes the address of family k.
-fn lines_take(code: &Listing, numbers: &[u32], first: &[u16], k: usize) -> bool
-    requires { Chain code.now.lines.now code.now.tokens.now code.now.text.now k numbers.now first.now }
-    ensures { let L = listing_of code.now in result ≡ any (λ i. takes_address (family_name L k) (line L i).tokens) (range 1 (length L - 1)) }
+fn lines_take(chained: &Chained, numbers: &[u32], k: usize) -> bool
+    requires { let code = chained.now.code.now in
+        Chain code.lines.now code.tokens.now code.text.now k numbers.now chained.now.first.now }
+    ensures { let L = listing_of chained.now.code.now in result ≡ any (λ i. takes_address (family_name L k) (line L i).tokens) (range 1 (length L - 1)) }
 {
-    let mut p = number(first, k);
+    let code = chained.code;
+    // A `while`: it follows the chain's links, which is no range.
+    let mut p = number(chained.first, k);
     while p < code.tokens.len() {
         if takes_at(code, line_at(numbers, p), p) {
             return true;
@@ -56,18 +54,12 @@ pub fn is_rsp(table: &[u16], k: usize) -> bool
 }
 
 // The address of family k is taken: never that of rsp.
-pub fn address_taken(
-    code: &Listing,
-    table: &[u16],
-    numbers: &[u32],
-    first: &[u16],
-    count: usize,
-    k: usize,
-) -> bool
-    requires { Table (listing_of code.now) count table.now × (k < count) × (k < 1024) × Chain code.now.lines.now code.now.tokens.now code.now.text.now k numbers.now first.now }
-    ensures { let L = listing_of code.now in result ≡ address_taken L (family_name L k) }
+pub fn address_taken(chained: &Chained, numbers: &[u32], k: usize) -> bool
+    requires { let code = chained.now.code.now in
+        (k < chained.now.count) × Chain code.lines.now code.tokens.now code.text.now k numbers.now chained.now.first.now }
+    ensures { let L = listing_of chained.now.code.now in result ≡ address_taken L (family_name L k) }
 {
-    lines_take(code, numbers, first, k) && !is_rsp(table, k)
+    lines_take(chained, numbers, k) && !is_rsp(chained.table, k)
 }
 
 // The token at place p of line i is not the register that the line defines.
@@ -87,18 +79,20 @@ fn mark_if(seen: &mut [u8], i: usize, yes: bool)
 }
 
 // Marks the lines from 1 on that read family k; line 0 may be marked too.
-fn see_lines(
-    code: &Listing,
-    numbers: &[u32],
-    first: &[u16],
-    defs: &[u16],
-    k: usize,
-    seen: &mut [u8],
-)
-    requires { Chain code.now.lines.now code.now.tokens.now code.now.text.now k numbers.now first.now × Defs (listing_of code.now) defs.now × (length code.now.lines.now ≤ length seen.old) }
-    ensures { Seen code.now.lines.now code.now.tokens.now code.now.text.now k seen.new }
+fn see_lines(chained: &Chained, numbers: &[u32], k: usize, seen: &mut [u8])
+    requires { let code = chained.now.code.now in
+        Chain code.lines.now code.tokens.now code.text.now k numbers.now chained.now.first.now × (length code.lines.now ≤ length seen.old) }
+    ensures { let code = chained.now.code.now in
+        Seen code.lines.now code.tokens.now code.text.now k seen.new }
 {
+    let Chained {
+        code,
+        first,
+        defs,
+        ..
+    } = *chained;
     text::zero(seen, 0);
+    // A `while`, as in `lines_take`.
     let mut p = number(first, k);
     while p < code.tokens.len() {
         let i = line_at(numbers, p);
@@ -129,18 +123,17 @@ fn list_lines(code: &Listing, k: usize, seen: &[u8], reads: &mut [u16]) -> usize
 
 // Lists the lines from 1 on that read family k; answers how many there are. `seen` has a byte for each line.
 pub fn read_lines(
-    code: &Listing,
+    chained: &Chained,
     numbers: &[u32],
-    first: &[u16],
-    defs: &[u16],
     k: usize,
     seen: &mut [u8],
     reads: &mut [u16],
 ) -> usize
-    requires chain { Chain code.now.lines.now code.now.tokens.now code.now.text.now k numbers.now first.now × Defs (listing_of code.now) defs.now × (length code.now.lines.now ≤ length seen.old) }
-    requires lines_nonzero { (0 < length code.now.lines.now) × (length code.now.lines.now ≤ length reads.old) × (length code.now.lines.now ≤ 65536) }
-    ensures { (result ≤ length code.now.lines.now) × (let L = listing_of code.now in take result reads.new ≡ filter (λ i. any (names (family_name L k)) (read_tokens (line L i))) (range 1 (length L - 1))) }
+    requires chain { let code = chained.now.code.now in
+        Chain code.lines.now code.tokens.now code.text.now k numbers.now chained.now.first.now }
+    requires room { let n = length chained.now.code.now.lines.now in (n ≤ length seen.old) × (n ≤ length reads.old) }
+    ensures { (result ≤ length chained.now.code.now.lines.now) × (let L = listing_of chained.now.code.now in take result reads.new ≡ filter (λ i. any (names (family_name L k)) (read_tokens (line L i))) (range 1 (length L - 1))) }
 {
-    see_lines(code, numbers, first, defs, k, seen);
-    list_lines(code, k, seen, reads)
+    see_lines(chained, numbers, k, seen);
+    list_lines(chained.code, k, seen, reads)
 }

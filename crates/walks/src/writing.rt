@@ -2,26 +2,23 @@
 // line.
 //
 // Contracts cite `Written` and `lines_marked` of specs/Lines.
+#![tactic(auto, using(crate::proofs::WriteRules::write_rules))]
+
 ghost use Rattle.std.specs.Prelude.{◌≡◌, cond, ◌+◌, ◌<◌, eqb, get_or};
 ghost use Rattle.definitions.specs.Lists.{up_to};
 ghost use Rattle.chains.specs.Chains.{Chain};
 ghost use Rattle.walks.specs.Lines.{own_place, Written, line_marked, lines_marked};
 
+use crate::chained::Chained;
 use chains::links::{line_at, next_at};
 use model::listing::Listing;
 use words::{number, word};
-
-fn wide32(x: u16) -> u32
-    ensures { result ≡ x }
-{
-    x as u32
-}
 
 // The word at k, 0 past the end.
 fn word32(ws: &[u16], k: usize) -> u32
     ensures { result ≡ get_or ws.now k 0 }
 {
-    wide32(word(ws, k))
+    u32::from(word(ws, k))
 }
 
 // The place of the family that line i defines is k + 1: it defines family k.
@@ -54,24 +51,26 @@ fn token_number(
     ensures { result ≡ cond (own_place code.now.lines.now defs.now k i p) (get_or own.now i 0) (get_or read.now i 0) }
 {
     if is_own(code, defs, k, i, p) {
-        return word32(own, i);
+        word32(own, i)
+    } else {
+        word32(read, i)
     }
-    word32(read, i)
 }
 
 // The tokens of family k get their numbers: `own` has the number of each line's definition, `read` that of its reads.
-pub fn write_tokens(
-    code: &Listing,
-    numbers: &mut [u32],
-    first: &[u16],
-    k: usize,
-    defs: &[u16],
-    own: &[u16],
-    read: &[u16],
-)
-    requires { Chain code.now.lines.now code.now.tokens.now code.now.text.now k numbers.old first.now × (k < 1024) }
-    ensures { Written code.now.lines.now code.now.tokens.now code.now.text.now k defs.now own.now read.now numbers.old numbers.new }
+pub fn write_tokens(chained: &Chained, numbers: &mut [u32], k: usize, own: &[u16], read: &[u16])
+    requires { let code = chained.now.code.now in
+        (k < chained.now.count) × Chain code.lines.now code.tokens.now code.text.now k numbers.old chained.now.first.now }
+    ensures { let code = chained.now.code.now in
+        Written code.lines.now code.tokens.now code.text.now k chained.now.defs.now own.now read.now numbers.old numbers.new }
 {
+    let Chained {
+        code,
+        first,
+        defs,
+        ..
+    } = *chained;
+    // A `while`: it follows the chain's links, and writes over each once it is read.
     let mut p = number(first, k);
     while p < numbers.len() {
         let i = line_at(numbers, p);
@@ -95,10 +94,11 @@ fn mark_line(code: &Listing, marks: &mut [u8], i: usize, k: usize, defs: &[u16])
 }
 
 // Marks the first token of each of the first n lines that defines family k.
-pub fn mark_lines(code: &Listing, marks: &mut [u8], n: usize, k: usize, defs: &[u16])
-    requires { k < 1024 }
-    ensures { marks.new ≡ lines_marked code.now.lines.now k defs.now marks.old (up_to n) }
+pub fn mark_lines(chained: &Chained, marks: &mut [u8], n: usize, k: usize)
+    requires { k < chained.now.count }
+    ensures { marks.new ≡ lines_marked chained.now.code.now.lines.now k chained.now.defs.now marks.old (up_to n) }
 {
+    let Chained { code, defs, .. } = *chained;
     for i in 0..n {
         mark_line(code, marks, i, k, defs);
     }

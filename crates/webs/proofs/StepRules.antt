@@ -2,7 +2,6 @@
 --   known_chain, reads_below                `family_free`: the tokens are chained, the reading lines are lines
 --   free_done, free_over                    its answers
 --   taken_done                              a family whose address is taken
---   scratch_still, scratch_seen             the lent words are as many as before
 -- Assumes nothing.
 use Prim.Native.Nat.{ℕ, ◌-◌, ◌<◌, ◌≤◌}
 use mathlib.Core.Path.{◌≡◌, refl, sym, ap, ◌∙◌}
@@ -30,11 +29,12 @@ use Rattle.families.specs.Tokens.{family_name}
 use Rattle.families.proofs.Finding.{unique_families, place_here}
 use Rattle.families.proofs.Numbered.{place_cases}
 use Rattle.chains.specs.Chains.{Chain}
+use Rattle.walks.specs.Known.{Known}
 use Rattle.walks.specs.Lines.{Written}
 use Rattle.webs.specs.Progress.{webs_over, family_sweeps}
-use Rattle.numbering.specs.Lines.{Below, LineNumbers, FamilyLines, Scratch}
+use Rattle.numbering.specs.Lines.{Below, LineNumbers, FamilyLines}
 use Rattle.family_tokens.specs.Writes.{Writes}
-use Rattle.webs.specs.Steps.{Known, State, FamilyDone}
+use Rattle.webs.specs.Steps.{State, FamilyDone}
 use Rattle.webs.proofs.Progress.{key_none}
 use Rattle.numbering.proofs.LineRules.{answer_over}
 use Rattle.webs.proofs.Family.{family_count, family_keys}
@@ -42,7 +42,7 @@ use Rattle.webs.proofs.Next.{chain_by, numbers_next, marks_next, marks_taken}
 
 -- What is known of family k
 
-module _ (l t x table first ds : List ℕ) (count r k : ℕ) (K : Known l t x table first ds count r) (h : k < count) (space₀ ns₀ ms₀ : List ℕ) (S : State l t x r k space₀ ns₀ ms₀) where
+module _ (l t x table first ds : List ℕ) (count r k : ℕ) (K : Known l t x table first ds count) (h : k < count) (space₀ ns₀ ms₀ : List ℕ) (S : State l t x r k space₀ ns₀ ms₀) where
   abbrev L : List Line
   L = listing l t x
 
@@ -124,28 +124,3 @@ module _ (l t x table first ds : List ℕ) (count r k : ℕ) (K : Known l t x ta
 
       zeros : (i j : ℕ) → cond (defines_at L f i && eqb j 0) (get_or (zeroed 0 own) i 0) (get_or (zeroed 0 read) i 0) ≡ key (webs_over L preds) f i j
       zeros i j = rw (replicate_default {A = ℕ} (length own - 0) i 0, replicate_default {A = ℕ} (length read - 0) i 0) (both (defines_at L f i && eqb j 0)) ∙ sym (key_none L preds f (inr taken) i j)
-
--- the lent words are as many as before
-pub scratch_still : (n : ℕ) (nums rep rank set seen own read nums' rep' rank' set' seen' own' read' : List ℕ) → Scratch n nums rep rank set seen own read
-    → length nums' ≡ length nums → length rep' ≡ length rep → length rank' ≡ length rank → length set' ≡ length set → length seen' ≡ length seen
-    → length own' ≡ length own → length read' ≡ length read → Scratch n nums' rep' rank' set' seen' own' read'
-scratch_still n nums rep rank set seen own read nums' rep' rank' set' seen' own' read' F a b c d e f g = record {
-  nums_room = rw a F.nums_room;
-  rep_room = rw b F.rep_room;
-  rank_room = rw c F.rank_room;
-  set_room = rw d F.set_room;
-  seen_room = rw e F.seen_room;
-  own_room = f ∙ F.own_room;
-  read_room = g ∙ F.read_room;
-}
-
-pub scratch_seen : (n : ℕ) (nums rep rank set seen seen' own read : List ℕ) → Scratch n nums rep rank set seen own read → length seen' ≡ length seen → Scratch n nums rep rank set seen' own read
-scratch_seen n nums rep rank set seen seen' own read F e = record {
-  nums_room = F.nums_room;
-  rep_room = F.rep_room;
-  rank_room = F.rank_room;
-  set_room = F.set_room;
-  seen_room = rw e F.seen_room;
-  own_room = F.own_room;
-  read_room = F.read_room;
-}

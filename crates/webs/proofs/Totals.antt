@@ -22,7 +22,8 @@ use Rattle.bits.specs.Edges.{preds_of}
 use Rattle.std.specs.Prelude.{Option, Some, None}
 use Rattle.families.specs.Tokens.{family_name}
 use Rattle.webs.specs.Progress.{webs_over, family_sweeps, sweeps_before}
-use Rattle.webs.specs.Steps.{Known, State, FamilyDone, Going, AllDone}
+use Rattle.walks.specs.Known.{Known}
+use Rattle.webs.specs.Steps.{State, FamilyDone, Going, AllDone}
 use Rattle.numbering.proofs.LineRules.{answer_done, answer_over}
 use Rattle.webs.proofs.Progress.{number_end, mark_end}
 
@@ -81,7 +82,7 @@ module _ (L : List Line) (preds : List (List ℕ)) where
 
 -- The loop
 
-module _ (l t x table first ds : List ℕ) (count r budget : ℕ) (K : Known l t x table first ds count r) (space₀ : List ℕ) where
+module _ (l t x table first ds : List ℕ) (count r budget : ℕ) (K : Known l t x table first ds count) (space₀ : List ℕ) where
   abbrev L : List Line
   L = listing l t x
 

@@ -1,7 +1,6 @@
 -- The whole: from the drawn graph and the words of the tokens to the answer.
 --   bounds_by, finds_all, known_by     what is known when the families are numbered
 --   state_start             no family is done
---   part_of                    a part of a fresh array
 --   drawn_webs              the webs over the drawn graph are those of `recover`
 --   whole_by                `recover`
 -- Assumes nothing.
@@ -12,7 +11,7 @@ use mathlib.Core.Bool.{true}
 use mathlib.Core.List.{List, [], map}
 use native.Mathlib.Omega.{arith}
 use borrow.Author.Tests.{le-leb}
-use lib.ListN.{length, take, replicate, length-take, length-replicate}
+use lib.ListN.{length, length-replicate}
 use Rattle.definitions.specs.Lists.{or_else, up_to}
 use Rattle.definitions.specs.Model.{Token, Line, token, line}
 use Rattle.definitions.specs.Family.{Family, fam_of}
@@ -25,14 +24,15 @@ use Rattle.text.specs.Zeroed.{zeroed}
 use Rattle.theory.proofs.ListLaws.{replicate_default}
 use Rattle.model.specs.Places.{line_start}
 use Rattle.model.proofs.Decode.{length_listing}
-use Rattle.bits.specs.Edges.{row_words, preds_of}
+use Rattle.bits.specs.Edges.{preds_of}
 use Rattle.std.specs.Prelude as rust
 use Rattle.families.specs.Families.{families_before, Numbered}
 use Rattle.families.specs.Tokens.{Finds}
 use Rattle.chains.specs.Chains.{waiting, token_word, Bounds, Chained}
 use Rattle.families.proofs.Numbered.{families_all}
+use Rattle.walks.specs.Known.{Known}
 use Rattle.webs.specs.Progress.{webs_over, waiting_at, Drawn}
-use Rattle.webs.specs.Steps.{Known, State, AllDone}
+use Rattle.webs.specs.Steps.{State, AllDone}
 use Rattle.chains.proofs.Places.{of_family, place_token, place_inside, per_token_by}
 use Rattle.webs.proofs.Progress.{number_start, mark_start}
 
@@ -50,11 +50,10 @@ module _ (l t x table ds : List ℕ) (count : ℕ) (N : Numbered (listing l t x)
     few = omega (arith, N.small, N.upto, N.few);
   }
 
-  pub known_by : (r : ℕ) → Bounds l t → 2 ≤ length l → r ≡ row_words (length l) → (ns first : List ℕ) → Chained l t x count 0 ns first → Known l t x table first ds count r
-  known_by r B two e ns first C = record {
+  pub known_by : Bounds l t → 2 ≤ length l → (ns first : List ℕ) → Chained l t x count 0 ns first → Known l t x table first ds count
+  known_by B two ns first C = record {
     bounds = B;
     some = omega arith;
-    words = e;
     finds = finds_all;
     defs = record { at = λ j h. N.defs j (omega (arith, length_listing l t x)) };
     heads = C.heads;
@@ -93,10 +92,6 @@ module _ (l t x : List ℕ) (r : ℕ) (space ms : List ℕ) (B : Bounds l t) whe
     numbers = chained_numbers count ns first C ∙ ap (λ (g : List ℕ → ℕ → ℕ → ℕ). per_token no_family g (listing l t x)) (sym (number_start l t x (preds_of (length l) r space)));
     marks = z ∙ no_marks e ∙ ap (λ (g : List ℕ → ℕ → ℕ → ℕ). per_token 0 g (listing l t x)) (sym (mark_start l t x (preds_of (length l) r space)));
   }
-
--- a part of a fresh array
-pub part_of : (k n : ℕ) → n ≤ k → length (take n (replicate {A = ℕ} k 0)) ≡ n
-part_of k n h = length-take n (replicate k 0) ∙ omega (arith, length-replicate {A = ℕ} k 0)
 
 -- The drawn graph
 

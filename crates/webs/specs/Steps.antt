@@ -1,30 +1,17 @@
--- What is known of the listing before its families are done, and what one family does.
---   Known l t x table first ds count r    the columns are well-formed, the table finds the families, `first` has the first token of each, ds has
---                                     the family that each line defines
+-- What one family does, and all of them.
 --   State l t x r k space ns ms       the first k families are done: ns has the numbers, ms the marks; space holds the graph
 --   FamilyDone                        what `family` does
 --   Going                             the same, with the sweeps so far
 --   AllDone budget N ns ms a          the numbers, the marks and the sweeps N are answered, where the budget allows them
 -- Assumes nothing.
-use Rattle.std.specs.Prelude.{ℕ, ◌+◌, ◌<◌, ◌≤◌, ◌≡◌, List, length, get_or}
-use Rattle.definitions.specs.Columns.{token_list, listing}
+use Rattle.std.specs.Prelude.{ℕ, ◌+◌, ◌≤◌, ◌≡◌, List, length}
+use Rattle.definitions.specs.Columns.{listing}
 use Rattle.definitions.specs.Answers.{no_family, per_token, Numbered}
-use Rattle.bits.specs.Edges.{row_words, Agree, preds_of}
+use Rattle.bits.specs.Edges.{Agree, preds_of}
 use Rattle.sweep.specs.Solved.{answer}
 use Rattle.std.specs.Prelude.{Option}
-use Rattle.families.specs.Families.{Defs}
-use Rattle.families.specs.Tokens.{Finds, family_name}
-use Rattle.chains.specs.Chains.{next_place, Bounds}
+use Rattle.families.specs.Tokens.{family_name}
 use Rattle.webs.specs.Progress.{webs_over, number_after, mark_after, family_sweeps, sweeps_before}
-
-pub record Known (l t x table first ds : List ℕ) (count r : ℕ) : Type 0 where
-  pub bounds : Bounds l t
-  pub some : 0 < length l
-  pub words : r ≡ row_words (length l)
-  pub finds : Finds (listing l t x) count table
-  pub defs : Defs (listing l t x) ds
-  pub heads : (k : ℕ) → k < count → get_or first k 0 ≡ next_place (family_name (listing l t x) k) (token_list t x) 0
-  pub room : length l ≤ length ds
 
 pub record State (l t x : List ℕ) (r k : ℕ) (space ns ms : List ℕ) : Type 0 where
   pub agree : Agree (length l) r space

@@ -7,151 +7,112 @@ ghost use Rattle.definitions.specs.Questions.{space_words};
 ghost use Rattle.definitions.specs.Recover.{address_taken};
 ghost use Rattle.definitions.specs.Answers.{numbered_webs};
 ghost use Rattle.model.specs.Listings.{listing_of};
-ghost use Rattle.bits.specs.Edges.{preds_of};
+ghost use Rattle.bits.specs.Edges.{row_words, preds_of};
 ghost use Rattle.families.specs.Tokens.{family_name};
 ghost use Rattle.webs.specs.Progress.{webs_over};
-ghost use Rattle.numbering.specs.Lines.{Scratch};
-ghost use Rattle.webs.specs.Steps.{Known, State, FamilyDone, AllDone};
+ghost use Rattle.webs.specs.Steps.{State, FamilyDone, AllDone};
 
 use family_tokens::{family_reads, write_family, write_zeros};
-use model::listing::Listing;
-use numbering::family_lines;
+use numbering::{Scratch, family_lines};
+use walks::chained::Chained;
 use walks::reads::address_taken;
 
 // Family k, whose address is not taken.
-fn family_free(
-    code: &Listing,
-    table: &[u16],
-    first: &[u16],
-    count: usize,
-    defs: &[u16],
+fn family_free<const N: usize>(
+    chained: &Chained,
     k: usize,
     space: &mut [u64],
-    r: usize,
     budget: usize,
     numbers: &mut [u32],
     marks: &mut [u8],
-    reads: &mut [u16],
-    nums: &mut [u16],
-    rep: &mut [u16],
-    rank: &mut [u16],
-    set: &mut [u16],
-    seen: &mut [u8],
-    own: &mut [u16],
-    read: &mut [u16],
+    scratch: &mut Scratch<N>,
 ) -> Option<usize>
-    requires known { Known code.now.lines.now code.now.tokens.now code.now.text.now table.now first.now defs.now count r × (k < count) × State code.now.lines.now code.now.tokens.now code.now.text.now r k space.old numbers.old marks.old }
-    requires k_value { (let L = listing_of code.now in address_taken L (family_name L k) ≡ false) × (space_words (length code.now.lines.now) ≤ length space.old) }
-    requires lines_in_bounds { (length code.now.lines.now ≤ length reads.old) × Scratch (length code.now.lines.now) nums.old rep.old rank.old set.old seen.old own.old read.old }
-    ensures { FamilyDone code.now.lines.now code.now.tokens.now code.now.text.now r k budget space.old space.new numbers.new marks.new result }
+    requires known { let code = chained.now.code.now in
+        (k < chained.now.count) × State code.lines.now code.tokens.now code.text.now (row_words (length code.lines.now)) k space.old numbers.old marks.old }
+    requires k_value { let L = listing_of chained.now.code.now in address_taken L (family_name L k) ≡ false }
+    requires lines_in_bounds { let n = length chained.now.code.now.lines.now in (space_words n ≤ length space.old) × (n ≤ N) × (N ≤ 1024) }
+    ensures { let code = chained.now.code.now in
+        FamilyDone code.lines.now code.tokens.now code.text.now (row_words (length code.lines.now)) k budget space.old space.new numbers.new marks.new result }
 {
-    let m = family_reads(code, table, first, numbers, defs, count, k, seen, reads);
-    let n = code.lines.len();
-    let s = family_lines(
-        space,
-        defs,
+    let n = chained.code.lines.len();
+    let m = family_reads(chained, numbers, k, &mut scratch.seen, &mut scratch.reads);
+    let sweeps = family_lines(space, chained.defs, k, n, budget, m, scratch)?;
+    write_family(
+        chained,
+        numbers,
+        marks,
         k,
-        n,
-        r,
-        budget,
-        &reads[..m],
-        nums,
-        rep,
-        rank,
-        set,
-        seen,
-        own,
-        read,
-    )?;
-    write_family(code, first, numbers, marks, k, defs, own, read);
-    Some(s)
+        &scratch.own[..n],
+        &scratch.read[..n],
+    );
+    Some(sweeps)
 }
 
 // Family k.
-fn family(
-    code: &Listing,
-    table: &[u16],
-    first: &[u16],
-    count: usize,
-    defs: &[u16],
+fn family<const N: usize>(
+    chained: &Chained,
     k: usize,
     space: &mut [u64],
-    r: usize,
     budget: usize,
     numbers: &mut [u32],
     marks: &mut [u8],
-    reads: &mut [u16],
-    nums: &mut [u16],
-    rep: &mut [u16],
-    rank: &mut [u16],
-    set: &mut [u16],
-    seen: &mut [u8],
-    own: &mut [u16],
-    read: &mut [u16],
+    scratch: &mut Scratch<N>,
 ) -> Option<usize>
-    requires known { Known code.now.lines.now code.now.tokens.now code.now.text.now table.now first.now defs.now count r × (k < count) × State code.now.lines.now code.now.tokens.now code.now.text.now r k space.old numbers.old marks.old }
-    requires lines_in_bounds { (space_words (length code.now.lines.now) ≤ length space.old) × (length code.now.lines.now ≤ length reads.old) × Scratch (length code.now.lines.now) nums.old rep.old rank.old set.old seen.old own.old read.old }
-    ensures { FamilyDone code.now.lines.now code.now.tokens.now code.now.text.now r k budget space.old space.new numbers.new marks.new result }
+    requires known { let code = chained.now.code.now in
+        (k < chained.now.count) × State code.lines.now code.tokens.now code.text.now (row_words (length code.lines.now)) k space.old numbers.old marks.old }
+    requires lines_in_bounds { let n = length chained.now.code.now.lines.now in (space_words n ≤ length space.old) × (n ≤ N) × (N ≤ 1024) }
+    ensures { let code = chained.now.code.now in
+        FamilyDone code.lines.now code.tokens.now code.text.now (row_words (length code.lines.now)) k budget space.old space.new numbers.new marks.new result }
 {
-    if address_taken(code, table, numbers, first, count, k) {
-        write_zeros(code, first, numbers, k, defs, own, read);
+    let n = chained.code.lines.len();
+    if address_taken(chained, numbers, k) {
+        write_zeros(
+            chained,
+            numbers,
+            k,
+            &mut scratch.own[..n],
+            &mut scratch.read[..n],
+        );
         return Some(0);
     }
-    family_free(
-        code, table, first, count, defs, k, space, r, budget, numbers, marks, reads, nums, rep,
-        rank, set, seen, own, read,
-    )
+    family_free(chained, k, space, budget, numbers, marks, scratch)
 }
 
-// All families, one after the other.
-pub fn all_families(
-    code: &Listing,
-    table: &[u16],
-    first: &[u16],
-    count: usize,
-    defs: &[u16],
+// All families, one after the other. To zero the words that they share is most of what a short listing costs.
+pub fn all_families<const N: usize>(
+    chained: &Chained,
     space: &mut [u64],
-    r: usize,
     budget: usize,
     numbers: &mut [u32],
     marks: &mut [u8],
-    reads: &mut [u16],
-    nums: &mut [u16],
-    rep: &mut [u16],
-    rank: &mut [u16],
-    set: &mut [u16],
-    seen: &mut [u8],
-    own: &mut [u16],
-    read: &mut [u16],
 ) -> Option<usize>
-    requires known { Known code.now.lines.now code.now.tokens.now code.now.text.now table.now first.now defs.now count r × State code.now.lines.now code.now.tokens.now code.now.text.now r 0 space.old numbers.old marks.old }
-    requires lines_in_bounds { (space_words (length code.now.lines.now) ≤ length space.old) × (length code.now.lines.now ≤ length reads.old) × Scratch (length code.now.lines.now) nums.old rep.old rank.old set.old seen.old own.old read.old }
-    ensures { let L = listing_of code.now in AllDone budget (numbered_webs L (webs_over L (preds_of (length code.now.lines.now) r space.old))) numbers.new marks.new result }
+    requires known { let code = chained.now.code.now in
+        State code.lines.now code.tokens.now code.text.now (row_words (length code.lines.now)) 0 space.old numbers.old marks.old }
+    requires lines_in_bounds { let n = length chained.now.code.now.lines.now in (space_words n ≤ length space.old) × (n ≤ N) × (N ≤ 1024) }
+    ensures { let code = chained.now.code.now in
+        AllDone budget (numbered_webs (listing_of code) (webs_over (listing_of code) (preds_of (length code.lines.now) (row_words (length code.lines.now)) space.old))) numbers.new marks.new result }
 {
+    let mut scratch = Scratch::<N> {
+        reads: [0; N],
+        seen: [0; N],
+        nums: [0; N],
+        rep: [0; N],
+        rank: [0; N],
+        set: [0; N],
+        own: [0; N],
+        read: [0; N],
+    };
     let mut total = 0;
-    for k in 0..count {
-        let s = family(
-            code,
-            table,
-            first,
-            count,
-            defs,
+    for k in 0..chained.count {
+        total += family(
+            chained,
             k,
             space,
-            r,
             budget - total,
             numbers,
             marks,
-            reads,
-            nums,
-            rep,
-            rank,
-            set,
-            seen,
-            own,
-            read,
+            &mut scratch,
         )?;
-        total += s;
     }
     Some(total)
 }

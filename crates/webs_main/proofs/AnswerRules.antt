@@ -24,9 +24,9 @@ use Rattle.rows.specs.Rows.{all_rows, refused_text, Short, Printed}
 use Rattle.rows.proofs.Accepted.{web_asked, printed}
 use Rattle.webs_main.specs.Program.{room, web_room, webs_text, columns_text, read_text, program}
 
-pub refused_printed : (n : ℕ) (out out' : List ℕ) (e : ℕ) → Appended out 0 (refused_text n) out' e → length (refused_text n) ≤ 29 → 36864 ≤ length out
-    → Printed (refused_text n) out' e
-refused_printed n out out' e f h k = printed (refused_text n) out out' e f (omega arith)
+pub refused_printed : (n m : ℕ) (out out' : List ℕ) (e : ℕ) → n ≡ m → Appended out 0 (refused_text n) out' e → length (refused_text n) ≤ 29 → 36864 ≤ length out
+    → Printed (refused_text m) out' e
+refused_printed n m out out' e q f h k = rw (← q) (printed (refused_text n) out out' e f (omega arith))
 
 module _ (out' : List ℕ) (e : ℕ) where
   module _ (l t x numbers marks space : List ℕ) (a : Result ℕ Refusal) (answer : called a numbers marks space ≡ web_call l t x web_room) where
@@ -38,9 +38,9 @@ module _ (out' : List ℕ) (e : ℕ) where
         let asked = web_asked l t x web_room sweeps y in
         rw (← answer, q) (printed (all_rows l t x numbers marks) out out' e f (omega (arith, s asked.0 asked.1)))
 
-    pub webs_refused : (r : Refusal) (n : ℕ) → a ≡ Err r → n ≡ number r → Printed (refused_text n) out' e → Printed (columns_text l t x) out' e
+    pub webs_refused : (r : Refusal) → a ≡ Err r → Printed (refused_text (number r)) out' e → Printed (columns_text l t x) out' e
     unfolding columns_text webs_text
-    webs_refused r n q z f = rw (← answer, q, ← z) f
+    webs_refused r q f = rw (← answer, q) f
 
   module _ (s : List ℕ) where
     pub program_long : 32768 < length s → Printed (refused_text 10) out' e → Printed (program s) out' e

@@ -2,17 +2,26 @@
 //
 // Contracts cite `program` of this crate's specs/Program.antt.
 ghost use Rattle.std.specs.Prelude.{◌≤◌, length};
-ghost use Rattle.rows.specs.Rows.{Printed};
+ghost use Rattle.questions.specs.Refusals.{number};
+ghost use Rattle.rows.specs.Rows.{refused_text, Printed};
 ghost use Rattle.webs_main.specs.Program.{columns_text, program};
 
 use json_read::read_json;
 use model::listing::Listing;
 use pseudo_ssa::recover;
-use rows::columns::{first, first_bytes};
-use rows::{put_refused, put_rows};
+use questions::Refusal;
+use rows::columns::first;
+use rows::put_rows;
 
 // The most bytes of input.
 const MOST_INPUT: usize = 32768;
+
+fn put_refused(out: &mut [u8], refusal: Refusal) -> usize
+    requires { 36864 ≤ length out.old }
+    ensures { Printed (refused_text (number refusal)) out.new result }
+{
+    rows::put_refused(out, refusal.number())
+}
 
 // The answer of the web call, made with room for 1,024 tokens and working space for 64 lines.
 fn put_webs(out: &mut [u8], code: &Listing) -> usize
@@ -24,7 +33,7 @@ fn put_webs(out: &mut [u8], code: &Listing) -> usize
     let mut space = [0u64; 832];
     match recover(code, &mut numbers, &mut marks, &mut space) {
         Ok(_) => put_rows(out, code, &numbers, &marks),
-        Err(refusal) => put_refused(out, refusal.number()),
+        Err(refusal) => put_refused(out, refusal),
     }
 }
 
@@ -38,19 +47,17 @@ pub fn put_answer(out: &mut [u8], s: &[u8]) -> usize
     let mut tokens = [0u32; 1024];
     let mut text = [0u8; 8192];
     if MOST_INPUT < s.len() {
-        return put_refused(out, 10);
+        return put_refused(out, Refusal::NotJson);
     }
-    match read_json(s, &mut lines, &mut addresses, &mut tokens, &mut text) {
-        Some(n) => {
-            let rows = first(&lines, n.lines);
-            let words = first(&tokens, n.tokens);
-            let code = Listing {
-                lines: rows,
-                tokens: words,
-                text: first_bytes(&text, n.text),
-            };
-            put_webs(out, &code)
-        }
-        None => put_refused(out, 10),
-    }
+    let Some(n) = read_json(s, &mut lines, &mut addresses, &mut tokens, &mut text) else {
+        return put_refused(out, Refusal::NotJson);
+    };
+    let rows = first(&lines, n.lines);
+    let words = first(&tokens, n.tokens);
+    let code = Listing {
+        lines: rows,
+        tokens: words,
+        text: first(&text, n.text),
+    };
+    put_webs(out, &code)
 }

@@ -17,6 +17,7 @@ pub fn wide(x: u16) -> usize
     usize::from(x)
 }
 
+// A cast: callers show that the number fits, where `try_from` would answer whether it does.
 pub fn narrow(x: usize) -> u16
     requires { x < 65536 }
     ensures { result ≡ x }

@@ -10,7 +10,7 @@ use native.Mathlib.Omega.{arith}
 use borrow.Author.Tests.{leb-true}
 use lib.Dec.{leb}
 use lib.ListN.{length}
-use Rattle.definitions.specs.Model.{Line, text}
+use Rattle.definitions.specs.Model.{Line}
 use Rattle.definitions.specs.Columns.{all_tokens, text_bytes}
 use Rattle.definitions.specs.Questions.{Limits, limits, question_1, pass_room}
 use Rattle.definitions.specs.Calls.{Columns, has_room}

@@ -6,6 +6,7 @@
 --   extension_none, extension_passed, extension_full    no last token, none in its column, no room for its new end
 --   bytes_added, token_ended, line_ended, token_extended    a step that writes
 --   apart                                       a token that joins no other
+--   same_self, same_more, not_written           of the same columns
 --   nothing_held                                before the first step
 --   finished                                    zeros behind the cursor
 --   steps                                       the rules
@@ -25,8 +26,9 @@ use Rattle.definitions.specs.Statements.{joins}
 use Rattle.definitions.specs.Calls.{Columns, filled}
 use Rattle.text.specs.Zeroed.{zeroed}
 use Rattle.write.specs.State.{State, done, add_bytes, end_token, end_merged, end_line, merge_last, kinds_join, last_kind, written_tokens, written_bytes}
-use Rattle.write.specs.Holds.{columns, Filled, Held, Room, Holds, Writes, Finished}
+use Rattle.write.specs.Holds.{columns, columns_of, Filled, Held, Room, Holds, Writing, Finished, Same, Writes}
 use Rattle.write.specs.declared.Cursor.{Cursor}
+use Rattle.write.specs.declared.Writer.{Writer}
 use Rattle.write.proofs.Words.{text_append, text_snoc, all_tokens_snoc, token_words_snoc, line_words_snoc, address_words_snoc, length_token_words, length_line_words, filled_start, filled_push, filled_within, filled_last}
 use Rattle.write.proofs.Merging.{end_view, last_snoc, merge_last_snoc, glue_joins, glue_apart, joins_kind, length_merge_last, text_merge_last}
 
@@ -132,37 +134,37 @@ module _ (l a t x : List ℕ) (c : Cursor) where
     bytes_fit : (s : State) → Room (add_bytes b s) (columns l a t x) → Held s (columns l a t x) c → c.text + length b ≤ length x
     bytes_fit s r h = omega (arith, held_counts h, r.text, ap length (bytes_with_bytes s b), length-append (written_bytes s) b)
 
-    pub text_passed : length x < c.text → Writes (add_bytes b) (columns l a t x) c (columns l a t x) c
+    pub text_passed : length x < c.text → Writing (add_bytes b) (columns l a t x) c (columns l a t x) c
     text_passed full s = still (grows_bytes s b) (λ r h. omega (arith, bytes_fit s r h))
 
-    pub text_full : length x - c.text < length b → Writes (add_bytes b) (columns l a t x) c (columns l a t x) c
+    pub text_full : length x - c.text < length b → Writing (add_bytes b) (columns l a t x) c (columns l a t x) c
     text_full full s = still (grows_bytes s b) (λ r h. omega (arith, bytes_fit s r h))
 
   module _ (k : ℕ) where
-    pub tokens_full : length t ≤ c.tokens → Writes (end_token k) (columns l a t x) c (columns l a t x) c
+    pub tokens_full : length t ≤ c.tokens → Writing (end_token k) (columns l a t x) c (columns l a t x) c
     tokens_full full s =
         still (grows_token s k)
         (λ r h. omega (arith, held_counts h, r.tokens, ap length (tokens_with_token s k), length-append (written_tokens s) (tok s.bytes k ∷ [])))
 
-    pub token_ends_full : 16777216 ≤ c.text → Writes (end_token k) (columns l a t x) c (columns l a t x) c
+    pub token_ends_full : 16777216 ≤ c.text → Writing (end_token k) (columns l a t x) c (columns l a t x) c
     token_ends_full full s = still (grows_token s k) (λ r h. omega (arith, held_counts h, r.token_ends, ap length (bytes_with_token s k)))
 
   module _ (d : Option ℕ) (i : ℕ) where
-    pub lines_full : length l ≤ c.lines → Writes (end_line d i) (columns l a t x) c (columns l a t x) c
+    pub lines_full : length l ≤ c.lines → Writing (end_line d i) (columns l a t x) c (columns l a t x) c
     lines_full full s =
         still (grows_line s d i) (λ r h. omega (arith, held_counts h, r.lines, length-append s.lines (pseudo_line d i s.tokens ∷ [])))
 
-    pub addresses_full : length a ≤ c.lines → Writes (end_line d i) (columns l a t x) c (columns l a t x) c
+    pub addresses_full : length a ≤ c.lines → Writing (end_line d i) (columns l a t x) c (columns l a t x) c
     addresses_full full s =
         still (grows_line s d i) (λ r h. omega (arith, held_counts h, r.addresses, length-append s.lines (pseudo_line d i s.tokens ∷ [])))
 
-    pub line_ends_full : 8388608 ≤ c.tokens → Writes (end_line d i) (columns l a t x) c (columns l a t x) c
+    pub line_ends_full : 8388608 ≤ c.tokens → Writing (end_line d i) (columns l a t x) c (columns l a t x) c
     line_ends_full full s = still (grows_line s d i) (λ r h. omega (arith, held_counts h, r.line_ends, ap length (tokens_with_line s d i)))
 
   -- A step that writes
 
   pub bytes_added : (b x' : List ℕ) → Filled (take c.text x ++ b) (c.text + length b) x' → length x' ≡ length x
-      → Writes (add_bytes b) (columns l a t x) c (columns l a t x')
+      → Writing (add_bytes b) (columns l a t x) c (columns l a t x')
       (record { lines = c.lines; tokens = c.tokens; text = c.text + length b; last = c.last })
   bytes_added b x' f e s =
       step (grows_bytes s b) (record { lines = refl; addresses = refl; tokens = refl; text = e })
@@ -175,7 +177,7 @@ module _ (l a t x : List ℕ) (c : Cursor) where
       })
 
   pub token_ended : (k : ℕ) → c.tokens < length t
-      → Writes (end_token k) (columns l a t x) c (columns l a (set t c.tokens (c.text * 256 + k)) x)
+      → Writing (end_token k) (columns l a t x) c (columns l a (set t c.tokens (c.text * 256 + k)) x)
       (record { lines = c.lines; tokens = c.tokens + 1; text = c.text; last = k })
   token_ended k room s =
       step (grows_token s k) (record { lines = refl; addresses = refl; tokens = length-set t c.tokens (c.text * 256 + k); text = refl })
@@ -189,7 +191,7 @@ module _ (l a t x : List ℕ) (c : Cursor) where
       })
 
   pub line_ended : (d : Option ℕ) (i v w : ℕ) → v ≡ (if is_some d then 256 else 0) → w ≡ or_else d 0 → c.lines < length l → c.lines < length a
-      → Writes (end_line d i) (columns l a t x) c (columns (set l c.lines (c.tokens * 512 + v + i)) (set a c.lines w) t x)
+      → Writing (end_line d i) (columns l a t x) c (columns (set l c.lines (c.tokens * 512 + v + i)) (set a c.lines w) t x)
       (record { lines = c.lines + 1; tokens = c.tokens; text = c.text; last = 256 })
   line_ended d i v w ev ew in_lines in_addresses s =
       let m : Line = pseudo_line d i s.tokens in
@@ -267,15 +269,46 @@ apart_any (t ∷ T) u j =
     subst (λ (T : List Token). kinds_join (last_kind T) u.kind ≡ false → merge_last T u ≡ T ++ (u ∷ [])) (sym v.2)
     (λ j. merge_last_snoc v.0 v.1 u ∙ rw (glue_apart v.1 u [] (rw (last_snoc v.0 v.1) at j), append_assoc)) j
 
-module _ (l a t x t' : List ℕ) (c c' : Cursor) (k : ℕ) (j : Bool) (is : j ≡ kinds_join c.last k) where
-  pub apart : j ≡ false → length t' ≡ length t
-      → Writes (end_token k) (columns l a t x) c (columns l a t' x) c' → Writes (end_merged k) (columns l a t x) c (columns l a t' x) c'
-  apart f e writes s h = record {
+pub apart : {w w' : Writer} (k : ℕ) (j : Bool) → j ≡ kinds_join w.written.last k → j ≡ false → Writes (end_token k) w w' → Writes (end_merged k) w w'
+apart k j is f writes = record {
+  same = writes.same;
+  holds = λ s h. record {
     given = λ r.
-        let held = h.given (room_before (grows_merged s k) (record { lines = refl; addresses = refl; tokens = e; text = refl }) r) in
+        let e = writes.same in
+        let held = h.given (room_before (grows_merged s k) (record { lines = e.lines_length; addresses = e.addresses_length; tokens = e.tokens_length; text = e.text_length }) r) in
         let q = apart_any s.tokens (tok s.bytes k) (rw (← held.last) (sym is ∙ f)) in
-        rw q ((writes s h).given (rw q at r));
-  }
+        rw q ((writes.holds s h).given (rw q at r));
+  };
+}
+
+-- A destination
+
+pub same_self : (w : Writer) → Same w w
+same_self w = record {
+  lines = refl;
+  addresses = refl;
+  tokens = refl;
+  text = refl;
+  lines_length = refl;
+  addresses_length = refl;
+  tokens_length = refl;
+  text_length = refl;
+}
+
+pub same_more : {u v w : Writer} → Same u v → Same v w → Same u w
+same_more a b = record {
+  lines = b.lines ∙ a.lines;
+  addresses = b.addresses ∙ a.addresses;
+  tokens = b.tokens ∙ a.tokens;
+  text = b.text ∙ a.text;
+  lines_length = b.lines_length ∙ a.lines_length;
+  addresses_length = b.addresses_length ∙ a.addresses_length;
+  tokens_length = b.tokens_length ∙ a.tokens_length;
+  text_length = b.text_length ∙ a.text_length;
+}
+
+pub not_written : {f : State → State} {w : Writer} → Writing f (columns_of w) w.written (columns_of w) w.written → Writes f w w
+not_written {f} {w} h = record { same = same_self w; holds = h }
 
 -- The first and the last
 

@@ -4,16 +4,21 @@
 --   Held s out c           the columns up to the cursor are the words of the state
 --   Room s out             the state has room in the columns, and its ends in the words
 --   Holds s out c          the columns hold the state, if it has room in them
---   Writes f out c out' c' what held a state holds f of it
+--   Writing f out c out' c'    what held a state holds f of it
 --   Finished M out c out'  the columns are those of the listing M and zeros, and the cursor has its counts
+--   columns_of w           the columns of a destination
+--   Same w w'              they are the same columns, of the same lengths
+--   Writes f w w'          what held a state holds f of it
+--   Finishes w w'          zeros are behind what is written
 -- Assumes nothing.
 use Rattle.std.specs.Prelude.{ℕ, ◌≤◌, ◌<◌, ◌≡◌, List, length, take}
 use Rattle.definitions.specs.Model.{Line}
 use Rattle.definitions.specs.Columns.{line_words, address_words, token_words_from}
 use Rattle.definitions.specs.Questions.{Limits}
 use Rattle.definitions.specs.Calls.{Columns, packed, counts}
-use Rattle.write.specs.State.{State, last_kind, written_tokens, written_bytes}
+use Rattle.write.specs.State.{State, done, last_kind, written_tokens, written_bytes}
 use Rattle.write.specs.declared.Cursor.{Cursor}
+use Rattle.write.specs.declared.Writer.{Writer}
 
 abbrev pub columns : List ℕ → List ℕ → List ℕ → List ℕ → Columns
 columns l a t x = record { lines = l; addresses = a; tokens = t; text = x }
@@ -41,8 +46,8 @@ pub record Room (s : State) (out : Columns) : Type 0 where
 pub record Holds (s : State) (out : Columns) (c : Cursor) : Type 0 where
   pub given : Room s out → Held s out c
 
-abbrev pub Writes : (State → State) → Columns → Cursor → Columns → Cursor → Type 0
-Writes f out c out' c' = (s : State) → Holds s out c → Holds (f s) out' c'
+abbrev pub Writing : (State → State) → Columns → Cursor → Columns → Cursor → Type 0
+Writing f out c out' c' = (s : State) → Holds s out c → Holds (f s) out' c'
 
 abbrev pub counted : Cursor → Limits
 counted c = record { lines = c.lines; tokens = c.tokens; text = c.text }
@@ -50,3 +55,28 @@ counted c = record { lines = c.lines; tokens = c.tokens; text = c.text }
 pub record Finished (M : List Line) (out : Columns) (c : Cursor) (out' : Columns) : Type 0 where
   pub columns : out' ≡ packed M out
   pub counts : counted c ≡ counts M
+
+-- A destination
+
+abbrev pub columns_of : Writer → Columns
+columns_of w = columns w.lines.now w.addresses.now w.tokens.now w.text.now
+
+pub record Same (w w' : Writer) : Type 0 where
+  pub lines : w'.lines.ghost_name ≡ w.lines.ghost_name
+  pub addresses : w'.addresses.ghost_name ≡ w.addresses.ghost_name
+  pub tokens : w'.tokens.ghost_name ≡ w.tokens.ghost_name
+  pub text : w'.text.ghost_name ≡ w.text.ghost_name
+  pub lines_length : length w'.lines.now ≡ length w.lines.now
+  pub addresses_length : length w'.addresses.now ≡ length w.addresses.now
+  pub tokens_length : length w'.tokens.now ≡ length w.tokens.now
+  pub text_length : length w'.text.now ≡ length w.text.now
+
+pub record Writes (f : State → State) (w w' : Writer) : Type 0 where
+  pub same : Same w w'
+  pub holds : Writing f (columns_of w) w.written (columns_of w') w'.written
+
+pub record Finishes (w w' : Writer) : Type 0 where
+  pub same : Same w w'
+  pub written : w'.written ≡ w.written
+  pub finished : (M : List Line) → Holds (done M) (columns_of w) w.written → Room (done M) (columns_of w)
+      → Finished M (columns_of w) w.written (columns_of w')

@@ -10,10 +10,11 @@
 #![tactic(auto)]
 
 ghost use Rattle.std.specs.Prelude.{if◌then◌else◌, ◌≡◌, true, List, [], ◌++◌, ℕ, ◌+◌, ◌<◌, ◌≤◌, length, take};
-ghost use Rattle.definitions.specs.Lists.{is_some, or_else};
-ghost use Rattle.definitions.specs.Model.{Line};
-ghost use Rattle.write.specs.State.{State, add_bytes, end_token, end_merged, add_token, add_merged, end_line, done, kinds_join};
-ghost use Rattle.write.specs.Holds.{columns, Filled, Room, Holds, Writes, Finished};
+ghost use Rattle.definitions.specs.Lists.{is_some};
+ghost use Rattle.write.specs.State.{add_bytes, end_token, end_merged, add_token, add_merged, end_line, done, kinds_join};
+ghost use Rattle.write.specs.Holds.{columns, Filled, Holds, Writes, Finishes};
+
+use model::kind::Kind;
 
 // How many lines, tokens and bytes are written, and the kind of the open line's last token, NO_KIND where it has none.
 #[derive(Clone, Copy)]
@@ -24,6 +25,16 @@ pub struct Cursor {
     pub last: usize,
 }
 
+// A destination: four lent columns, and how much of each is written.
+#[derive(Drop)]
+pub struct Writer<'a> {
+    pub lines: &'a mut [u32],
+    pub addresses: &'a mut [u64],
+    pub tokens: &'a mut [u32],
+    pub text: &'a mut [u8],
+    pub written: Cursor,
+}
+
 const NO_KIND: usize = 256;
 
 // What a token's end, a number of bytes, is less than, and a line's, a number of tokens.
@@ -32,6 +43,7 @@ const MOST_BYTES: usize = 16777216;
 const MOST_TOKENS: usize = 8388608;
 
 // The cursor before the first write.
+#[tactic(auto, using(crate::proofs::Steps::nothing_held))]
 pub fn start() -> Cursor
     ensures { (l a t x : List ℕ) → Holds (done []) (columns l a t x) result }
 {
@@ -53,201 +65,121 @@ fn copy(text: &mut [u8], from: usize, bytes: &[u8])
     }
 }
 
-// Appends bytes to the open token.
-pub fn add_bytes(text: &mut [u8], c: Cursor, bytes: &[u8]) -> Cursor
-    ensures { (l a t : List ℕ) → Writes (add_bytes bytes.now) (columns l a t text.old) c (columns l a t text.new) result }
-{
-    let from = c.text;
-    let n = bytes.len();
-    if text.len() < from {
-        return c;
-    }
-    if text.len() - from < n {
-        return c;
-    }
-    copy(text, from, bytes);
-    let end = from + n;
-    Cursor {
-        lines: c.lines,
-        tokens: c.tokens,
-        text: end,
-        last: c.last,
-    }
-}
-
-// Ends the open token.
-fn end_token(tokens: &mut [u32], c: Cursor, kind: usize) -> Cursor
-    requires { kind < 256 }
-    ensures { (l a x : List ℕ) → Writes (end_token kind) (columns l a tokens.old x) c (columns l a tokens.new x) result }
-{
-    let k = c.tokens;
-    let end = c.text;
-    if tokens.len() <= k {
-        return c;
-    }
-    if MOST_BYTES <= end {
-        return c;
-    }
-    tokens[k] = (end * 256 + kind) as u32;
-    let next = k + 1;
-    Cursor {
-        lines: c.lines,
-        tokens: next,
-        text: end,
-        last: kind,
-    }
-}
-
 // A token of the kind joins one of the kind `last` before it: text behind text, punctuation behind punctuation.
+#[tactic(auto, using(crate::proofs::Merging::joining))]
 fn joins(last: usize, kind: usize) -> bool
     ensures { result ≡ kinds_join last kind }
 {
-    match kind {
-        0 => last == kind,
-        1 => false,
-        2 => false,
-        3 => false,
-        4 => false,
-        5 => false,
-        6 => last == kind,
-        7 => false,
-        _ => false,
-    }
-}
-
-// Ends the open token as the end of the last one, which is of the kind.
-fn extend_token(tokens: &mut [u32], c: Cursor, kind: usize)
-    requires { kind < 256 }
-    ensures { (l a x : List ℕ) (s : State) → kinds_join c.last kind ≡ true
-        → Holds s (columns l a tokens.old x) c → Holds (end_merged kind s) (columns l a tokens.new x) c }
-{
-    let k = c.tokens;
-    let end = c.text;
-    if k == 0 {
-        return;
-    }
-    let last = k - 1;
-    if tokens.len() <= last {
-        return;
-    }
-    if MOST_BYTES <= end {
-        return;
-    }
-    tokens[last] = (end * 256 + kind) as u32;
-}
-
-// Ends the open token, which joins the last one where `merge` joins them.
-pub fn end_merged(tokens: &mut [u32], c: Cursor, kind: usize) -> Cursor
-    requires { kind < 256 }
-    ensures { (l a x : List ℕ) → Writes (end_merged kind) (columns l a tokens.old x) c (columns l a tokens.new x) result }
-{
-    let last = c.last;
-    if joins(last, kind) {
-        extend_token(tokens, c, kind);
-        return c;
-    }
-    end_token(tokens, c, kind)
-}
-
-// Appends a token.
-pub fn add_token(
-    tokens: &mut [u32],
-    text: &mut [u8],
-    c: Cursor,
-    bytes: &[u8],
-    kind: usize,
-) -> Cursor
-    requires { kind < 256 }
-    ensures { (l a : List ℕ) → Writes (add_token bytes.now kind) (columns l a tokens.old text.old) c (columns l a tokens.new text.new) result }
-{
-    let d = add_bytes(text, c, bytes);
-    end_token(tokens, d, kind)
-}
-
-// Appends a token, which joins the last one where `merge` joins them.
-pub fn add_merged(
-    tokens: &mut [u32],
-    text: &mut [u8],
-    c: Cursor,
-    bytes: &[u8],
-    kind: usize,
-) -> Cursor
-    requires { kind < 256 }
-    ensures { (l a : List ℕ) → Writes (add_merged bytes.now kind) (columns l a tokens.old text.old) c (columns l a tokens.new text.new) result }
-{
-    let d = add_bytes(text, c, bytes);
-    end_merged(tokens, d, kind)
+    last == kind && matches!(Kind::of(kind), Some(Kind::Text | Kind::Punct))
 }
 
 // What a line's word says of its address.
 fn flag(addr: Option<u64>) -> usize
     ensures { (result ≡ (if is_some addr then 256 else 0)) × (result ≤ 256) }
 {
-    match addr {
-        Some(_) => 256,
-        None => 0,
-    }
+    if addr.is_some() { 256 } else { 0 }
 }
 
-fn address_word(addr: Option<u64>) -> u64
-    ensures { result ≡ or_else addr 0 }
-{
-    match addr {
-        Some(a) => a,
-        None => 0,
+impl Writer<'_> {
+    // Appends bytes to the open token.
+    pub fn add_bytes(&mut self, bytes: &[u8])
+        ensures { Writes (add_bytes bytes.now) self.old self.new }
+    {
+        let from = self.written.text;
+        if self.text.len() < from || self.text.len() - from < bytes.len() {
+            return;
+        }
+        copy(self.text, from, bytes);
+        self.written.text = from + bytes.len();
     }
-}
 
-// Ends the open line.
-pub fn end_line(
-    lines: &mut [u32],
-    addresses: &mut [u64],
-    c: Cursor,
-    addr: Option<u64>,
-    indent: usize,
-) -> Cursor
-    requires { indent < 256 }
-    ensures { (t x : List ℕ) → Writes (end_line addr indent) (columns lines.old addresses.old t x) c (columns lines.new addresses.new t x) result }
-{
-    let k = c.lines;
-    let end = c.tokens;
-    if lines.len() <= k {
-        return c;
+    // Ends the open token.
+    fn end_token(&mut self, kind: usize)
+        requires { kind < 256 }
+        ensures { Writes (end_token kind) self.old self.new }
+    {
+        let k = self.written.tokens;
+        let end = self.written.text;
+        if self.tokens.len() <= k || MOST_BYTES <= end {
+            return;
+        }
+        // A cast: an end is below `MOST_BYTES`, so that the word has 32 bits, which `TryFrom` would ask again.
+        self.tokens[k] = (end * 256 + kind) as u32;
+        self.written.tokens = k + 1;
+        self.written.last = kind;
     }
-    if addresses.len() <= k {
-        return c;
-    }
-    if MOST_TOKENS <= end {
-        return c;
-    }
-    lines[k] = (end * 512 + flag(addr) + indent) as u32;
-    addresses[k] = address_word(addr);
-    let next = k + 1;
-    Cursor {
-        lines: next,
-        tokens: end,
-        text: c.text,
-        last: NO_KIND,
-    }
-}
 
-// Zeroes what is behind the cursor. The columns are then `packed`, if no line or token is open.
-pub fn finish(
-    lines: &mut [u32],
-    addresses: &mut [u64],
-    tokens: &mut [u32],
-    text: &mut [u8],
-    c: Cursor,
-)
-    ensures { let out = columns lines.old addresses.old tokens.old text.old in
-        (M : List Line) → Holds (done M) out c → Room (done M) out
-        → Finished M out c (columns lines.new addresses.new tokens.new text.new) }
-{
-    let n = c.lines;
-    let k = c.tokens;
-    let end = c.text;
-    text::zero(lines, n);
-    text::zero(addresses, n);
-    text::zero(tokens, k);
-    text::zero(text, end);
+    // Ends the open token as the end of the last one, which is of the kind.
+    fn extend_token(&mut self, kind: usize)
+        requires { (kind < 256) × (kinds_join self.old.written.last kind ≡ true) }
+        ensures { Writes (end_merged kind) self.old self.new }
+    {
+        let k = self.written.tokens;
+        let end = self.written.text;
+        if k == 0 || self.tokens.len() < k || MOST_BYTES <= end {
+            return;
+        }
+        // A cast, as in `end_token`.
+        self.tokens[k - 1] = (end * 256 + kind) as u32;
+    }
+
+    // Ends the open token, which joins the last one where `merge` joins them.
+    pub fn end_merged(&mut self, kind: usize)
+        requires { kind < 256 }
+        ensures { Writes (end_merged kind) self.old self.new }
+    {
+        if joins(self.written.last, kind) {
+            self.extend_token(kind);
+        } else {
+            self.end_token(kind);
+        }
+    }
+
+    // Appends a token.
+    pub fn add_token(&mut self, bytes: &[u8], kind: usize)
+        requires { kind < 256 }
+        ensures { Writes (add_token bytes.now kind) self.old self.new }
+    {
+        self.add_bytes(bytes);
+        self.end_token(kind);
+    }
+
+    // Appends a token, which joins the last one where `merge` joins them.
+    pub fn add_merged(&mut self, bytes: &[u8], kind: usize)
+        requires { kind < 256 }
+        ensures { Writes (add_merged bytes.now kind) self.old self.new }
+    {
+        self.add_bytes(bytes);
+        self.end_merged(kind);
+    }
+
+    // Ends the open line.
+    pub fn end_line(&mut self, addr: Option<u64>, indent: usize)
+        requires { indent < 256 }
+        ensures { Writes (end_line addr indent) self.old self.new }
+    {
+        let k = self.written.lines;
+        let end = self.written.tokens;
+        if self.lines.len() <= k || self.addresses.len() <= k || MOST_TOKENS <= end {
+            return;
+        }
+        // A cast: the word has 32 bits, which `TryFrom` would ask again.
+        self.lines[k] = (end * 512 + flag(addr) + indent) as u32;
+        self.addresses[k] = addr.unwrap_or(0);
+        self.written.lines = k + 1;
+        self.written.last = NO_KIND;
+    }
+
+    // Zeroes what is behind the cursor. The columns are then `packed`, if no line or token is open.
+    pub fn finish(&mut self)
+        ensures { Finishes self.old self.new }
+    {
+        let n = self.written.lines;
+        let k = self.written.tokens;
+        let end = self.written.text;
+        text::zero(self.lines, n);
+        text::zero(self.addresses, n);
+        text::zero(self.tokens, k);
+        text::zero(self.text, end);
+    }
 }

@@ -11,7 +11,7 @@ use Prim.Native.Nat.{ℕ, zero, suc, ◌+◌, ◌-◌, ◌*◌, ◌/◌, ◌≤�
 use native.Mathlib.Omega.{arith}
 use lib.ListN.{length, take, get_or, set, length-map}
 use Rattle.definitions.specs.Lists.{part}
-use Rattle.definitions.specs.Model.{Token, no_token, text}
+use Rattle.definitions.specs.Model.{Token, no_token}
 use Rattle.definitions.specs.Columns.{token_list, token_words_from}
 use Rattle.definitions.specs.Questions.{covers}
 use Rattle.text.proofs.Parts.{part_step, part_none, length_part}

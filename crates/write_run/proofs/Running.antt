@@ -18,10 +18,11 @@ use Rattle.model.specs.Places.{token_start, start_from}
 use Rattle.model.proofs.Decode.{start_pred, token_at, length_tokens}
 use Rattle.model.proofs.Formed.{run_text, token_within}
 use Rattle.write.specs.State.{State, add_bytes, last_kind, written_tokens, written_bytes}
-use Rattle.write.specs.Holds.{columns, Filled, Held, Room, Writes}
+use Rattle.write.specs.Holds.{columns, columns_of, Filled, Held, Room, Writes}
 use Rattle.write.specs.declared.Cursor.{Cursor}
+use Rattle.write.specs.declared.Writer.{Writer}
 use Rattle.write.proofs.Words.{text_append, length_token_words}
-use Rattle.write_run.specs.Runs.{moved, add_run, Runs}
+use Rattle.write_run.specs.Runs.{moved, add_run, Running}
 use Rattle.write_run.proofs.Moving.{starts_rise, run_words}
 
 token_words_append : (n : ℕ) (ts us : List Token) → token_words_from n (ts ++ us) ≡ token_words_from n ts ++ token_words_from (n + length (text ts)) us
@@ -138,11 +139,9 @@ module _ (t x : List ℕ) (ok : covers 256 0 t (length x) ≡ true) (f e : ℕ) 
 
   module _ (l a w b : List ℕ) (c : Cursor) where
     no_run : ((s : State) → Room (add_run (part f e (token_list t x)) s) (columns l a w b) → Held s (columns l a w b) c → s.bytes ≡ [] → ⊥)
-        → Runs (part f e (token_list t x)) (columns l a w b) c (columns l a w b) c
-    no_run full = record {
-      runs = λ s none holds. record {
-        given = λ r. absurd (full s r (holds.given (room_before (part f e (token_list t x)) s none (columns l a w b) (columns l a w b) (alike (columns l a w b)) r)) none);
-      };
+        → Running (part f e (token_list t x)) (columns l a w b) c (columns l a w b) c
+    no_run full s none holds = record {
+      given = λ r. absurd (full s r (holds.given (room_before (part f e (token_list t x)) s none (columns l a w b) (columns l a w b) (alike (columns l a w b)) r)) none);
     }
 
     few : (s : State) → s.bytes ≡ [] → Room (add_run (part f e (token_list t x)) s) (columns l a w b) → Held s (columns l a w b) c → c.tokens + (e - f) ≤ length w
@@ -154,50 +153,54 @@ module _ (t x : List ℕ) (ok : covers 256 0 t (length x) ≡ true) (f e : ℕ) 
     low s none r held =
         omega (arith, r.token_ends, ap length (run_bytes (part f e (token_list t x)) s none), length-append (written_bytes s) (text (part f e (token_list t x))), text_length, count_text held)
 
-    pub run_words_full : length w < c.tokens → Runs (part f e (token_list t x)) (columns l a w b) c (columns l a w b) c
+    pub run_words_full : length w < c.tokens → Running (part f e (token_list t x)) (columns l a w b) c (columns l a w b) c
     run_words_full g = no_run (λ s r held none. omega (arith, few s none r held))
 
-    pub run_words_short : length w - c.tokens < e - f → Runs (part f e (token_list t x)) (columns l a w b) c (columns l a w b) c
+    pub run_words_short : length w - c.tokens < e - f → Running (part f e (token_list t x)) (columns l a w b) c (columns l a w b) c
     run_words_short g = no_run (λ s r held none. omega (arith, few s none r held))
 
-    pub run_ends_passed : 16777216 ≤ c.text → Runs (part f e (token_list t x)) (columns l a w b) c (columns l a w b) c
+    pub run_ends_passed : 16777216 ≤ c.text → Running (part f e (token_list t x)) (columns l a w b) c (columns l a w b) c
     run_ends_passed g = no_run (λ s r held none. omega (arith, low s none r held))
 
     pub run_ends_full : (a₁ e₁ : ℕ) → a₁ ≡ token_start t f → e₁ ≡ token_start t e → c.text < 16777216 → 16777216 - c.text ≤ e₁ - a₁
-        → Runs (part f e (token_list t x)) (columns l a w b) c (columns l a w b) c
+        → Running (part f e (token_list t x)) (columns l a w b) c (columns l a w b) c
     run_ends_full a₁ e₁ p q g m = no_run (λ s r held none. omega (arith, low s none r held, p, q))
 
-    module _ (w' b' y : List ℕ) (d : Cursor) (a₁ e₁ v : ℕ) (p : a₁ ≡ token_start t f) (q : e₁ ≡ token_start t e) (sw : length w' ≡ length w) (sb : length b' ≡ length b)
-        (yy : y ≡ part a₁ e₁ x) (vv : v ≡ get_or t (e - 1) 0) where
-      pub run_added : Writes (add_bytes y) (columns l a w b) c (columns l a w b') d
-          → Filled (take c.tokens w ++ map (moved a₁ c.text) (part f e t)) (c.tokens + length (part f e t)) w'
-          → Runs (part f e (token_list t x)) (columns l a w b) c (columns l a w' b') (record { lines = c.lines; tokens = c.tokens + (e - f); text = d.text; last = v % 256 })
-      run_added writes moves = record {
-        runs = λ s none holds. record {
-          given = λ r.
-              let us : List Token = part f e (token_list t x) in
-              let ty : y ≡ text us = yy ∙ rw (p, q) (sym (run_text t x ok f e (omega arith) k)) in
-              let held = holds.given (room_before us s none (columns l a w b) (columns l a w' b') (record { lines = refl; addresses = refl; tokens = sw; text = sb }) r) in
-              let room = room_bytes us s none (columns l a w b') (columns l a w' b') (record { lines = refl; addresses = refl; tokens = sw; text = refl }) r in
-              let after = (writes s holds).given (rw ty room) in
-              record {
-                lines = held.lines;
-                addresses = held.addresses;
-                tokens = filled s none held;
-                text = rw (ty, bytes_run us s none) at after.text;
-                last = rw vv (sym (last_kind_run s.tokens));
-              };
-        };
-      }
-        where
-          filled : (s : State) → s.bytes ≡ [] → Held s (columns l a w b) c
-              → Filled (token_words_from 0 (written_tokens (add_run (part f e (token_list t x)) s))) (c.tokens + (e - f)) w'
-          filled s none held =
-              let us : List Token = part f e (token_list t x) in
-              let z : length (part f e t) ≡ e - f = length_part t f e ∙ omega arith in
-              let n : 0 + length (text (written_tokens s)) ≡ token_start t f - a₁ + c.text =
-              omega (arith, p, count_text held, length-append (text (written_tokens s)) s.bytes, ap length none) in
-              let words : token_words_from 0 (written_tokens (add_run us s)) ≡ take c.tokens w ++ map (moved a₁ c.text) (part f e t) =
-              ap (token_words_from 0) (run_tokens us s none) ∙ token_words_append 0 (written_tokens s) us
-              ∙ rw (n, run_words t x ok a₁ c.text (e - f) f e (omega arith) k (omega (arith, p)), held.tokens.is) in
-              rw words (subst (λ (m : ℕ). Filled (take c.tokens w ++ map (moved a₁ c.text) (part f e t)) (c.tokens + m) w') z moves)
+  module _ (u v : Writer) (t' y : List ℕ) (a₁ e₁ z : ℕ) (p : a₁ ≡ token_start t f) (q : e₁ ≡ token_start t e)
+      (st : length t' ≡ length v.tokens.now) (yy : y ≡ part a₁ e₁ x) (zz : z ≡ get_or t (e - 1) 0) where
+    pub run_added : Writes (add_bytes y) u v
+        → Filled (take u.written.tokens v.tokens.now ++ map (moved a₁ u.written.text) (part f e t)) (u.written.tokens + length (part f e t)) t'
+        → Running (part f e (token_list t x)) (columns_of u) u.written (columns v.lines.now v.addresses.now t' v.text.now)
+        (record { lines = v.written.lines; tokens = u.written.tokens + (e - f); text = v.written.text; last = z % 256 })
+    run_added writes moves s none holds = record {
+      given = λ r.
+          let us : List Token = part f e (token_list t x) in
+          let w = writes.same in
+          let ty : y ≡ text us = yy ∙ rw (p, q) (sym (run_text t x ok f e (omega arith) k)) in
+          let held = holds.given (room_before us s none (columns_of u) (columns v.lines.now v.addresses.now t' v.text.now)
+          (record { lines = w.lines_length; addresses = w.addresses_length; tokens = st ∙ w.tokens_length; text = w.text_length }) r) in
+          let room = room_bytes us s none (columns_of v) (columns v.lines.now v.addresses.now t' v.text.now)
+          (record { lines = refl; addresses = refl; tokens = st; text = refl }) r in
+          let after = (writes.holds s holds).given (rw ty room) in
+          record {
+            lines = after.lines;
+            addresses = after.addresses;
+            tokens = filled s none held after;
+            text = rw (ty, bytes_run us s none) at after.text;
+            last = rw zz (sym (last_kind_run s.tokens));
+          };
+    }
+      where
+        filled : (s : State) → s.bytes ≡ [] → Held s (columns_of u) u.written → Held (add_bytes y s) (columns_of v) v.written
+            → Filled (token_words_from 0 (written_tokens (add_run (part f e (token_list t x)) s))) (u.written.tokens + (e - f)) t'
+        filled s none held after =
+            let us : List Token = part f e (token_list t x) in
+            let d : length (part f e t) ≡ e - f = length_part t f e ∙ omega arith in
+            let n : 0 + length (text (written_tokens s)) ≡ token_start t f - a₁ + u.written.text =
+            omega (arith, p, count_text held, length-append (text (written_tokens s)) s.bytes, ap length none) in
+            let before : take u.written.tokens v.tokens.now ≡ token_words_from 0 (written_tokens s) =
+            ap (λ (m : ℕ). take m v.tokens.now) (sym held.tokens.count ∙ after.tokens.count) ∙ after.tokens.is in
+            let words : token_words_from 0 (written_tokens (add_run us s)) ≡ take u.written.tokens v.tokens.now ++ map (moved a₁ u.written.text) (part f e t) =
+            ap (token_words_from 0) (run_tokens us s none) ∙ token_words_append 0 (written_tokens s) us
+            ∙ rw (n, run_words t x ok a₁ u.written.text (e - f) f e (omega arith) k (omega (arith, p)), before) in
+            rw words (subst (λ (m : ℕ). Filled (take u.written.tokens v.tokens.now ++ map (moved a₁ u.written.text) (part f e t)) (u.written.tokens + m) t') d moves)

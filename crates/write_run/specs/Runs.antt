@@ -1,14 +1,16 @@
 -- Tokens written as they stand in the columns that they are read from.
 --   moved a b w               the token word w, its end moved from byte a of one text to byte b of another
 --   add_run us s              the tokens us behind those of the open line
---   Runs us out c out' c'     what held a state without an open byte holds the tokens us more
+--   Running us out c out' c'  what held a state without an open byte holds the tokens us more
+--   Runs us w w'              the same of a destination
 -- Assumes nothing.
 use Rattle.std.specs.Prelude.{ℕ, ◌+◌, ◌-◌, ◌*◌, ◌/◌, ◌%◌, ◌≡◌, List, [], ◌++◌}
 use Rattle.definitions.specs.Model.{Token}
 use Rattle.definitions.specs.Calls.{Columns}
 use Rattle.write.specs.State.{State}
-use Rattle.write.specs.Holds.{Holds}
+use Rattle.write.specs.Holds.{columns_of, Holds, Same}
 use Rattle.write.specs.declared.Cursor.{Cursor}
+use Rattle.write.specs.declared.Writer.{Writer}
 
 abbrev pub moved : ℕ → ℕ → ℕ → ℕ
 moved a b w = (w / 256 - a + b) * 256 + w % 256
@@ -16,5 +18,9 @@ moved a b w = (w / 256 - a + b) * 256 + w % 256
 abbrev pub add_run : List Token → State → State
 add_run us s = record { lines = s.lines; tokens = s.tokens ++ us; bytes = [] }
 
-pub record Runs (us : List Token) (out : Columns) (c : Cursor) (out' : Columns) (c' : Cursor) : Type 0 where
-  pub runs : (s : State) → s.bytes ≡ [] → Holds s out c → Holds (add_run us s) out' c'
+abbrev pub Running : List Token → Columns → Cursor → Columns → Cursor → Type 0
+Running us out c out' c' = (s : State) → s.bytes ≡ [] → Holds s out c → Holds (add_run us s) out' c'
+
+pub record Runs (us : List Token) (w w' : Writer) : Type 0 where
+  pub same : Same w w'
+  pub runs : Running us (columns_of w) w.written (columns_of w') w'.written

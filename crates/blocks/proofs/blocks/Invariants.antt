@@ -1,5 +1,5 @@
 -- `blocks::blocks` meets its contract. The columns stand for what the definition has at line i, and the rest of the listing is left to read. Assumes nothing.
-use Prim.Native.Nat.{◌≤◌, ◌-◌}
+use Prim.Native.Nat.{◌≤◌}
 use mathlib.Core.Path.{◌≡◌}
 use lib.ListN.{length}
 use Rattle.definitions.specs.Columns.{listing}

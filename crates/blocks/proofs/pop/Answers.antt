@@ -1,11 +1,7 @@
 -- `blocks::pop` meets its contract. By the count. Assumes nothing.
 use borrow.Author.Rules.{rules}
 use Rattle.text.proofs.Bools.{bools}
-use Rattle.blocks.proofs.Links.{wider}
 use Rattle.blocks.proofs.pop.Goals as goal
-
-pub overflow_cast-result : goal.overflow_cast-result
-overflow_cast-result c = search (wider, rules)
 
 pub returns-then-c-eq1 : goal.returns-then-c-eq1
 returns-then-c-eq1 c = search (bools, rules)

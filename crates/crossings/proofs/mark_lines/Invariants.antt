@@ -1,5 +1,4 @@
 -- `crossings::mark_lines` meets its contract. The gotos of the lines from i on are left to mark. Assumes nothing.
-use Prim.Native.Nat.{◌-◌, ◌≤◌}
 use mathlib.Core.Path.{◌≡◌}
 use lib.ListN.{length}
 use Rattle.definitions.specs.Columns.{listing}
@@ -9,4 +8,4 @@ use Rattle.crossings.proofs.Joins.{lines_from}
 use Rattle.crossings.proofs.mark_lines.Given as goal
 
 abbrev pub invariant-loop-i : goal.invariant-loop-i
-invariant-loop-i l = (l.i ≤ l.n) × (length l.far ≡ length l.initial.far) × Marking l.initial.far l.far (all_jumps (listing l.code.lines.now l.code.tokens.now l.code.text.now)) (lines_from (listing l.code.lines.now l.code.tokens.now l.code.text.now) l.i)
+invariant-loop-i l = (length l.far ≡ length l.initial.far) × Marking l.initial.far l.far (all_jumps (listing l.labels.code.lines.now l.labels.code.tokens.now l.labels.code.text.now)) (lines_from (listing l.labels.code.lines.now l.labels.code.tokens.now l.labels.code.text.now) l.i)

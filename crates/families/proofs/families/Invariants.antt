@@ -1,7 +1,6 @@
 -- `families::families` meets its contract. The lines before line i are done.
 -- Assumes nothing.
 use mathlib.Core.Path.{◌≡◌}
-use Prim.Native.Nat.{◌-◌}
 use lib.ListN.{length}
 use Rattle.definitions.specs.Columns.{listing}
 use Rattle.families.specs.Families.{Numbered}

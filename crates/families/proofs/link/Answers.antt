@@ -2,12 +2,7 @@
 -- Assumes nothing.
 use native.Mathlib.Omega.{arith}
 use lib.ListN.{length-set}
-use Rattle.families.proofs.Numbered.{place_rules}
-use borrow.Author.Rules.{rules}
 use Rattle.families.proofs.link.Goals as goal
 
 pub bounds-table-h-2 : goal.bounds-table-h-2
 bounds-table-h-2 c = simp length-set (omega arith)
-
-pub returns : goal.returns
-returns c = search (place_rules, rules)

@@ -4,15 +4,6 @@ use Rattle.families.proofs.Numbered.{place_rules}
 use borrow.Author.Rules.{rules}
 use Rattle.families.proofs.number_line.Goals as goal
 
-pub place_line-c-requires : goal.place_line-c-requires
-place_line-c-requires c = search (place_rules, rules)
-
-pub narrow-v-requires : goal.narrow-v-requires
-narrow-v-requires c = search (place_rules, rules)
-
-pub offset_bounds-defs-i : goal.offset_bounds-defs-i
-offset_bounds-defs-i c = search (place_rules, rules)
-
 pub bounds-defs-i : goal.bounds-defs-i
 bounds-defs-i c = search (place_rules, rules)
 

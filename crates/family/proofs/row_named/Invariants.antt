@@ -1,6 +1,6 @@
 -- `family::row_named` meets its contract. No row before row i has the name.
 -- Assumes nothing.
-use Prim.Native.Nat.{ℕ, ◌-◌, ◌<◌, ◌≤◌}
+use Prim.Native.Nat.{ℕ, ◌<◌, ◌≤◌}
 use mathlib.Core.Path.{◌≡◌}
 use mathlib.Core.Bool.{false}
 use Rattle.definitions.specs.Lists.{◌≟◌}

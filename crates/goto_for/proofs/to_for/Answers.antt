@@ -6,44 +6,17 @@ use Prim.Native.Nat.{◌+◌}
 use borrow.Author.Rules.{rules}
 use Rattle.goto_for.proofs.to_for.Goals as goal
 
-pub returns-then-w-eq0 : goal.returns-then-w-eq0
-returns-then-w-eq0 c = search (for_answers, rules)
-
-pub offset_bounds-plan-w : goal.offset_bounds-plan-w
-offset_bounds-plan-w c = search (for_answers, rules)
-
-pub bounds-plan-w : goal.bounds-plan-w
-bounds-plan-w c = search (for_answers, rules)
-
-pub overflow_add-w : goal.overflow_add-w
-overflow_add-w c = search (for_answers, rules)
-
-pub indent-requires : goal.indent-requires
-indent-requires c = search (for_answers, rules)
-
-pub first_end-requires : goal.first_end-requires
-first_end-requires c = search (for_answers, rules)
-
-pub enum_known-e : goal.enum_known-e
-enum_known-e c = search (for_answers, rules)
-
-pub returns-in_default : goal.returns-in_default
-returns-in_default c = search (for_answers, rules)
-
 pub for_place-requires : goal.for_place-requires
 for_place-requires c = let p = c.requires.w_lt_n in let i = place_calls _ _ _ _ _ _ p.0 p.1 c.first_end.ensures c.in-Some.is in (i.0, i.1, p.2, i.2)
-
-pub enum_known-k : goal.enum_known-k
-enum_known-k c = search (for_answers, rules)
-
-pub returns-in_default-for_place : goal.returns-in_default-for_place
-returns-in_default-for_place c = search (for_answers, rules)
 
 pub make_for-requires : goal.make_for-requires
 make_for-requires c = let a = c.args in let i = end_inside _ a.plan.now _ (a.w + 1) _ _ c.requires.w_lt_n.1 c.first_end.ensures c.in-Some.is in let p = place_inside _ _ _ _ _ _ c.for_place.ensures c.in-Some-for_place.is in (p.0, p.1, i.1, c.requires.w_lt_n.1)
 
-pub overflow_sub-result : goal.overflow_sub-result
-overflow_sub-result c = search (for_answers, rules)
+pub returns-then-w-eq0 : goal.returns-then-w-eq0
+returns-then-w-eq0 c = search (for_answers, rules)
+
+pub returns-in_default-for_place : goal.returns-in_default-for_place
+returns-in_default-for_place c = search (for_answers, rules)
 
 pub returns : goal.returns
 returns c = search (for_answers, rules)

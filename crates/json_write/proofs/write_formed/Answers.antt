@@ -9,4 +9,4 @@ pub returns-then-out-listing_size : goal.returns-then-out-listing_size
 returns-then-out-listing_size c = search (four_no, rules)
 
 pub returns : goal.returns
-returns c = four_yes _ _ _ c.listing_size.ensures _ _ _ c.if-out-listing_size.false (omega arith) c.put_listing-e.ensures c.zero.ensures
+returns c = four_yes _ _ _ c.listing_size.ensures _ _ _ c.if-out-listing_size.false (omega arith) (search rules) c.zero.ensures

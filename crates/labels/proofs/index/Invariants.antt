@@ -5,8 +5,5 @@ use lib.ListN.{length, get_or}
 use Rattle.labels.specs.Buckets.{size}
 use Rattle.labels.proofs.index.Given as goal
 
-abbrev pub invariant-loop-left : goal.invariant-loop-left
-invariant-loop-left l = (length l.heads ≡ length l.initial.heads) × (length l.nexts ≡ length l.initial.nexts) × ((b : ℕ) → b < size (length l.heads) → get_or l.heads b 0 ≡ 0)
-
-abbrev pub decreases-loop-left : goal.decreases-loop-left
-decreases-loop-left l = l.left
+abbrev pub invariant-loop : goal.invariant-loop
+invariant-loop l = (length l.heads ≡ length l.initial.heads) × (length l.nexts ≡ length l.initial.nexts) × ((b : ℕ) → b < size (length l.heads) → get_or l.heads b 0 ≡ 0)

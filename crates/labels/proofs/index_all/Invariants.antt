@@ -1,5 +1,5 @@
 -- `labels::index_all` meets its contract. The labels of the first i lines are in their buckets. Assumes nothing.
-use Prim.Native.Nat.{◌≤◌, ◌-◌}
+use Prim.Native.Nat.{◌≤◌}
 use mathlib.Core.Path.{◌≡◌}
 use lib.ListN.{length}
 use Rattle.definitions.specs.Columns.{listing}

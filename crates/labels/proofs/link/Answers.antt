@@ -6,5 +6,5 @@ use Rattle.labels.proofs.link.Goals as goal
 pub returns-then-is_long : goal.returns-then-is_long
 returns-then-is_long c = inr c.behind.ensures
 
-pub returns : goal.returns
-returns c = inl refl
+pub returns-else-is_long : goal.returns-else-is_long
+returns-else-is_long c = inl refl

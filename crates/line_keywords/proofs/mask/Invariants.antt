@@ -1,7 +1,7 @@
 -- `line_keywords::mask` meets its contract. The bits of the tokens from place k on are to come.
 -- Assumes nothing.
 use mathlib.Core.Path.{◌≡◌}
-use Prim.Native.Nat.{◌-◌, ◌≤◌}
+use Prim.Native.Nat.{◌≤◌}
 use Rattle.definitions.specs.Model.{line}
 use Rattle.definitions.specs.Columns.{listing}
 use Rattle.line_keywords.specs.Masks.{mask}

@@ -1,20 +1,21 @@
 -- `numbering::family_lines` meets its contract. By its calls.
 -- Assumes nothing.
-use mathlib.Core.Path.{sym, ◌∙◌}
-use Prim.Native.Nat.{◌+◌}
 use native.Mathlib.Omega.{arith}
 use lib.ListN.{length-take}
-use Rattle.numbering.proofs.LineRules.{family_numbered, family_room, family_sized, family_by}
+use Rattle.numbering.proofs.LineRules.{family_numbered, family_room, family_swept, family_by}
 use Rattle.numbering.proofs.family_lines.Goals as goal
 
-pub slice_bounds-solve_lines-end-2 : goal.slice_bounds-solve_lines-end-2
-slice_bounds-solve_lines-end-2 c = sym (length-take (c.number-c.result + 1) _ ∙ omega (arith, c.number-c.ensures.below, c.requires.k_bound.2.rep_room))
+pub invariant_of-family : goal.invariant_of-family
+invariant_of-family g c = record { numbered = family_numbered _ _ _ _ _ c.number-c.ensures (omega (arith, c.requires.n_nonzero.1, c.requires.n_nonzero.2)) c.new.result c.new.ensures }
 
-pub slice_bounds-solve_lines-end-4 : goal.slice_bounds-solve_lines-end-4
-slice_bounds-solve_lines-end-4 c = sym (length-take (c.number-c.result + 1) _ ∙ omega (arith, c.number-c.ensures.below, c.requires.k_bound.2.rank_room))
+pub solve-requires : goal.solve-requires
+solve-requires g c = family_room _ _ _ _ _ c.number-c.ensures (omega (arith, c.requires.n_nonzero.1, c.requires.n_nonzero.2)) c.new.result c.new.ensures _ c.requires.n_nonzero.3 c.requires.n_nonzero.4
 
-pub solve_lines-requires : goal.solve_lines-requires
-solve_lines-requires c = record { room = (family_room _ _ _ _ _ c.number-c.ensures c.requires.n_nonzero.0 c.requires.n_nonzero.1 _ _ c.requires.n_nonzero.2 c.requires.n_nonzero.3, family_numbered _ _ _ _ _ c.number-c.ensures c.requires.n_nonzero.0 c.requires.n_nonzero.1, c.requires.n_nonzero.4, c.requires.n_nonzero.5); sized = (family_sized _ _ _ _ _ c.number-c.ensures c.requires.n_nonzero.0 c.requires.n_nonzero.1 c.args.rep.now c.args.set.now c.requires.k_bound.2.rep_room c.requires.k_bound.2.set_room, omega (arith, length-take (c.number-c.result + 1) c.args.rep.now, c.number-c.ensures.below, c.requires.n_nonzero.1), omega (arith, length-take (c.number-c.result + 1) c.args.rep.now, length-take (c.number-c.result + 1) c.args.rank.now, c.number-c.ensures.below, c.requires.k_bound.2.rep_room, c.requires.k_bound.2.rank_room), omega (arith, length-take (c.number-c.result + 1) c.args.rep.now, c.number-c.ensures.below, c.requires.k_bound.2.seen_room)); own_len = (c.requires.k_bound.2.own_room, c.requires.k_bound.2.read_room) }
+pub family_reps-requires-clause-swept : goal.family_reps-requires-clause-swept
+family_reps-requires-clause-swept g c =
+    family_swept _ _ _ _ _ c.number-c.ensures (omega (arith, c.requires.n_nonzero.1, c.requires.n_nonzero.2)) c.new.result c.new.ensures _ _ _ _ c.solve.ensures _ c.in_ok-sweeps.was c.requires.n_nonzero.3 c.requires.n_nonzero.4 c.solve.auto.space _ c.requires.reads_below.1
 
 pub returns : goal.returns
-returns c = family_by _ _ _ _ _ c.number-c.ensures c.requires.n_nonzero.0 c.requires.n_nonzero.1 _ _ _ _ _ _ _ _ _ c.narrow.ensures c.solve_lines.ensures
+returns g c =
+    family_by _ _ _ _ _ c.number-c.ensures (omega (arith, c.requires.n_nonzero.1, c.requires.n_nonzero.2)) c.new.result c.new.ensures _ _ _ _ c.solve.ensures _ c.in_ok-sweeps.was _ _ _ _ _ _ _ _ _ _ _ _ c.narrow.ensures c.family_reps.ensures
+    (omega (arith, c.number_defs.auto.own, length-take c.args.n c.args.scratch.now.own, c.requires.n_nonzero.1)) c.number_defs.ensures c.zero.ensures (omega (arith, c.number_reads.auto.read, c.zero.auto.words, length-take c.args.n c.args.scratch.now.read, c.requires.n_nonzero.1)) c.number_reads.ensures

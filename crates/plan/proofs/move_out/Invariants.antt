@@ -1,7 +1,6 @@
 -- `plan::move_out` meets its contract. Line by line.
 -- Assumes nothing.
 use Rattle.plan.proofs.Loops.{Moving}
-use Prim.Native.Nat.{◌-◌}
 use Rattle.plan.proofs.move_out.Given as goal
 
 abbrev pub invariant-loop-k : goal.invariant-loop-k

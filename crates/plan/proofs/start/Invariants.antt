@@ -1,8 +1,6 @@
 -- `plan::start` meets its contract. Line by line.
 -- Assumes nothing.
 use Rattle.plan.proofs.Loops.{Starting}
-use Prim.Native.Nat.{◌-◌}
-use lib.ListN.{length}
 use Rattle.plan.proofs.start.Given as goal
 
 abbrev pub invariant-loop-i : goal.invariant-loop-i

@@ -4,5 +4,5 @@ use lib.ListN.{length}
 use Rattle.questions.specs.Bounds.{Bounded}
 use Rattle.questions.proofs.bound.Given as goal
 
-abbrev pub invariant-loop-k : goal.invariant-loop-k
-invariant-loop-k l = (l.k ≤ length l.s) × Bounded l.most l.k l.s
+abbrev pub invariant-loop-byte : goal.invariant-loop-byte
+invariant-loop-byte l = Bounded l.most l.byte-index l.s

@@ -1,13 +1,6 @@
-use native.Mathlib.Omega.{arith}
-use borrow.Author.Rules.{rules}
-use Rattle.rows.proofs.RowRules.{going_start, going_next, line_done}
+use Rattle.json_append.proofs.Appends.{wrote_as}
+use Rattle.rows.proofs.RowRules.{rows_end, line_is}
 use Rattle.rows.proofs.put_line.Goals as goal
 
-pub loop-k-init : goal.loop-k-init
-loop-k-init c = going_start _ _ _ _ _ _ c.line_start-k.ensures (omega arith)
-
-pub loop-k-preserved : goal.loop-k-preserved
-loop-k-preserved c = search (going_next, rules)
-
 pub returns : goal.returns
-returns c = search (line_done, rules)
+returns c = wrote_as _ _ _ _ (line_is _ _ _ _ _ _ _ c.line_end-end.ensures) (rows_end _ _ _ _ _ _ c.loop-k.invariant c.loop-k-test.false)

@@ -7,7 +7,7 @@ use borrow.Author.Rules.{rules}
 use Rattle.sweep.proofs.number.Goals as goal
 
 pub loop-i-init : goal.loop-i-init
-loop-i-init c = (simp length-set (omega arith), refl, number_start _ _ c.args.defs.now (omega arith))
+loop-i-init c = (simp length-set (omega arith), refl, number_start _ _ c.args.nums.now (omega arith))
 
 pub returns : goal.returns
 returns c = let h : c.loop-i.i ≤ c.args.n = omega arith in search (number_end, rules)

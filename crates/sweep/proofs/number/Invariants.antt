@@ -6,4 +6,4 @@ use Rattle.visit.specs.Numbers.{Numbering}
 use Rattle.sweep.proofs.number.Given as goal
 
 abbrev pub invariant-loop-i : goal.invariant-loop-i
-invariant-loop-i l = (l.n ≤ length l.defs) × (length l.defs ≡ length l.initial.defs) × Numbering l.families l.f l.defs l.i l.c
+invariant-loop-i l = (l.n ≤ length l.nums) × (length l.nums ≡ length l.initial.nums) × Numbering l.families l.f l.nums l.i l.c

@@ -1,4 +1,3 @@
-use Prim.Native.Nat.{◌-◌}
 use lib.ListN.{take, length-set}
 use native.Mathlib.Omega.{arith}
 use borrow.Author.Rules.{rules}

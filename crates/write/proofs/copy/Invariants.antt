@@ -2,7 +2,7 @@
 -- Assumes nothing.
 use mathlib.Core.List.{◌++◌}
 use mathlib.Core.Path.{◌≡◌}
-use Prim.Native.Nat.{◌≤◌, ◌+◌, ◌-◌}
+use Prim.Native.Nat.{◌≤◌, ◌+◌}
 use lib.ListN.{length, take}
 use Rattle.write.specs.Holds.{Filled}
 use Rattle.write.proofs.copy.Given as goal

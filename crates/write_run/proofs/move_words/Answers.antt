@@ -1,9 +1,7 @@
-use Prim.Native.Nat.{◌-◌}
 use lib.ListN.{take, length-set}
 use native.Mathlib.Omega.{arith}
 use borrow.Author.Rules.{rules}
 use Rattle.write.proofs.Words.{copied_start}
-use Rattle.write_run.specs.Runs.{moved}
 use Rattle.write_run.proofs.Moving.{moved_next, moved_end}
 use Rattle.write_run.proofs.move_words.Goals as goal
 

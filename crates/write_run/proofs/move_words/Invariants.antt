@@ -2,7 +2,7 @@
 -- Assumes nothing.
 use mathlib.Core.List.{◌++◌, map}
 use mathlib.Core.Path.{◌≡◌}
-use Prim.Native.Nat.{◌≤◌, ◌+◌, ◌-◌}
+use Prim.Native.Nat.{◌≤◌, ◌+◌}
 use lib.ListN.{length, take}
 use Rattle.write.specs.Holds.{Filled}
 use Rattle.write_run.specs.Runs.{moved}

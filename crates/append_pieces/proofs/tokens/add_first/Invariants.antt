@@ -2,14 +2,10 @@
 -- Assumes nothing.
 use Rattle.definitions.specs.Model.{line}
 use Rattle.definitions.specs.Columns.{listing}
-use Rattle.write.specs.Holds.{columns}
-use mathlib.Core.List.{List}
-use Prim.Native.Nat.{ℕ, ◌-◌}
-use mathlib.Core.Path.{◌≡◌}
-use lib.ListN.{length, take, drop}
+use lib.ListN.{take, drop}
 use Rattle.append_pieces.specs.Dressed.{dressed}
 use Rattle.append_pieces.proofs.Runs.{Left}
 use Rattle.append_pieces.proofs.tokens.add_first.Given as goal
 
 abbrev pub invariant-loop-j : goal.invariant-loop-j
-invariant-loop-j l = (length l.words ≡ length l.initial.words) × (length l.bytes ≡ length l.initial.bytes) × ((ls a : List ℕ) → Left l.merged (dressed l.popped (take l.n (line (listing l.code.lines.now l.code.tokens.now l.code.text.now) l.i).tokens)) (columns ls a l.initial.words l.initial.bytes) l.initial.d (drop l.j (dressed l.popped (take l.n (line (listing l.code.lines.now l.code.tokens.now l.code.text.now) l.i).tokens))) (columns ls a l.words l.bytes) l.d)
+invariant-loop-j l = Left l.merged (dressed l.popped (take l.n (line (listing l.code.lines.now l.code.tokens.now l.code.text.now) l.i).tokens)) l.initial.out (drop l.j (dressed l.popped (take l.n (line (listing l.code.lines.now l.code.tokens.now l.code.text.now) l.i).tokens))) l.out

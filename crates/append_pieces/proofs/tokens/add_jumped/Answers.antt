@@ -6,8 +6,8 @@ use Rattle.append.proofs.Appends.{adds_as, adds_more}
 use Rattle.append_pieces.proofs.Pieces.{jumped_parts, cut_within}
 use Rattle.append_pieces.proofs.tokens.add_jumped.Goals as goal
 
-pub add_first-d-requires : goal.add_first-d-requires
-add_first-d-requires c = cut_within _ _ c.cut_place-n.ensures
+pub add_first-requires : goal.add_first-requires
+add_first-requires c = cut_within _ _ c.cut_place-n.ensures
 
 pub returns : goal.returns
-returns c = let g = c.args in λ l a. adds_as (jumped_parts g.popped (line (listing g.code.now.lines.now g.code.now.tokens.now g.code.now.text.now) g.i) g.kw.now c.cut_place-n.result c.cut_place-n.ensures) (adds_more _ _ (c.add_first-d.ensures l a) (adds_more _ _ (c.add-e.ensures l a) (c.add_last.ensures l a)))
+returns c = let g = c.args in adds_as (jumped_parts g.popped (line (listing g.code.now.lines.now g.code.now.tokens.now g.code.now.text.now) g.i) g.kw.now c.cut_place-n.result c.cut_place-n.ensures) (adds_more _ _ c.add_first.ensures (adds_more _ _ c.add.ensures c.add_last.ensures))

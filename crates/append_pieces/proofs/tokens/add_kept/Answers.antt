@@ -11,5 +11,5 @@ add_run-requires c = search (formed_tokens, rules)
 pub returns-then-s-e : goal.returns-then-s-e
 returns-then-s-e c = search (kept_run, rules)
 
-pub returns : goal.returns
-returns c = search (kept_none, rules)
+pub returns-else-s-e : goal.returns-else-s-e
+returns-else-s-e c = search (kept_none, rules)

@@ -9,14 +9,14 @@ use Rattle.append_pieces.proofs.tokens.add_piece.Goals as goal
 pub add_first-requires : goal.add_first-requires
 add_first-requires c = omega (arith, c.token_count.ensures)
 
-pub returns-in-0 : goal.returns-in-0
-returns-in-0 c = let g = c.args in let C = listing g.code.now.lines.now g.code.now.tokens.now g.code.now.text.now in λ l a. adds_as (kept_dressed g.popped C g.p c.in-0.is _ c.token_count.ensures) (c.add_first.ensures l a)
+pub returns-in-Kept : goal.returns-in-Kept
+returns-in-Kept c = let g = c.args in let C = listing g.code.now.lines.now g.code.now.tokens.now g.code.now.text.now in adds_as (kept_dressed g.popped C g.p _ c.in-Kept.ensures _ c.token_count.ensures) c.add_first.ensures
 
-pub returns-in-1 : goal.returns-in-1
-returns-in-1 c = let g = c.args in let C = listing g.code.now.lines.now g.code.now.tokens.now g.code.now.text.now in λ l a. adds_as (continued_dressed g.popped C g.p c.in-1.is) (c.add_jumped.ensures l a)
+pub returns-in-Continued : goal.returns-in-Continued
+returns-in-Continued c = let g = c.args in let C = listing g.code.now.lines.now g.code.now.tokens.now g.code.now.text.now in adds_as (continued_dressed g.popped C g.p _ c.in-Continued.ensures) c.add_jumped.ensures
 
-pub returns-in-2 : goal.returns-in-2
-returns-in-2 c = let g = c.args in let C = listing g.code.now.lines.now g.code.now.tokens.now g.code.now.text.now in λ l a. adds_as (broken_dressed g.popped C g.p c.in-2.is) (c.add_jumped-in-2.ensures l a)
+pub returns-in-Broken : goal.returns-in-Broken
+returns-in-Broken c = let g = c.args in let C = listing g.code.now.lines.now g.code.now.tokens.now g.code.now.text.now in adds_as (broken_dressed g.popped C g.p _ c.in-Broken.ensures) c.add_jumped-in-Broken.ensures
 
-pub returns-in_default : goal.returns-in_default
-returns-in_default c = let g = c.args in let C = listing g.code.now.lines.now g.code.now.tokens.now g.code.now.text.now in let r = c.in_default.in_default-own.rest in λ l a. adds_as (closed_dressed g.popped C g.p r.0.0.1 r.0.1 r.1) (c.add_last.ensures l a)
+pub returns-in-Closed : goal.returns-in-Closed
+returns-in-Closed c = let g = c.args in let C = listing g.code.now.lines.now g.code.now.tokens.now g.code.now.text.now in adds_as (closed_dressed g.popped C g.p _ c.in-Closed.ensures) c.add_last.ensures

@@ -4,5 +4,5 @@ use borrow.Author.Rules.{rules}
 use Rattle.append_pieces.proofs.Kept.{kept_as_piece}
 use Rattle.append_pieces.proofs.tokens.add_plain.Goals as goal
 
-pub returns-then-p-eq0 : goal.returns-then-p-eq0
-returns-then-p-eq0 c = search (kept_as_piece, rules)
+pub returns-in-Kept : goal.returns-in-Kept
+returns-in-Kept c = search (kept_as_piece, c.in-Kept.ensures, rules)

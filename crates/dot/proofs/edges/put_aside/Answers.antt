@@ -1,11 +1,6 @@
--- `dot::edges::put_aside` meets its contract.
--- Assumes nothing.
-use Rattle.dot.proofs.EdgeRules.{aside_later, aside_earlier}
-use borrow.Author.Rules.{rules}
+use Rattle.json_append.proofs.Appends.{wrote_as}
+use Rattle.dot.proofs.EdgeRules.{aside_earlier}
 use Rattle.dot.proofs.edges.put_aside.Goals as goal
 
-pub returns-then-i-j : goal.returns-then-i-j
-returns-then-i-j c = search (aside_later, rules)
-
-pub returns : goal.returns
-returns c = search (aside_earlier, rules)
+pub returns-else-i-j : goal.returns-else-i-j
+returns-else-i-j c = wrote_as _ _ _ _ (aside_earlier _ _ c.if-i-j.false) c.put_arrow-else-i-j.ensures

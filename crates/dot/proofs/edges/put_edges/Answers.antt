@@ -1,15 +1,10 @@
+use Rattle.json_append.proofs.Appends.{wrote_as}
+use Rattle.rows.proofs.RowRules.{rows_next, rows_end}
 use Rattle.dot.proofs.EdgeRules.{edges_are}
-use Rattle.dot.proofs.Runs.{going_end}
-use Rattle.rows.proofs.RowRules.{going_start, going_next}
-use native.Mathlib.Omega.{arith}
-use borrow.Author.Rules.{rules}
 use Rattle.dot.proofs.edges.put_edges.Goals as goal
 
-pub loop-i-init : goal.loop-i-init
-loop-i-init c = going_start _ _ _ _ _ _ (search rules) (omega arith)
-
 pub loop-i-preserved : goal.loop-i-preserved
-loop-i-preserved c = search (going_next, rules)
+loop-i-preserved c = rows_next _ _ _ _ _ _ c.loop-i.invariant c.loop-i-test.true _ c.put_from.ensures
 
 pub returns : goal.returns
-returns c = search (going_end, edges_are, rules)
+returns c = wrote_as _ _ _ _ (edges_are _ _) (rows_end _ _ _ _ _ _ c.loop-i.invariant c.loop-i-test.false)

@@ -1,15 +1,10 @@
-use Rattle.dot.proofs.LabelRules.{characters_are}
-use Rattle.dot.proofs.Runs.{going_end}
-use Rattle.rows.proofs.RowRules.{going_start, going_next}
 use native.Mathlib.Omega.{arith}
-use borrow.Author.Rules.{rules}
+use Rattle.json_append.proofs.Appends.{begun_next, begun_end}
+use Rattle.dot.proofs.LabelRules.{characters_next, characters_none}
 use Rattle.dot.proofs.node_labels.put_characters.Goals as goal
 
-pub loop-j-init : goal.loop-j-init
-loop-j-init c = going_start _ _ _ _ _ _ (search rules) (omega arith)
-
-pub loop-j-preserved : goal.loop-j-preserved
-loop-j-preserved c = search (going_next, rules)
+pub loop-c-preserved : goal.loop-c-preserved
+loop-c-preserved c = begun_next _ _ _ _ c.loop-c.invariant _ _ c.put_character.ensures _ (characters_next c.args.s.now c.loop-c.c-index (omega arith))
 
 pub returns : goal.returns
-returns c = search (going_end, characters_are, rules)
+returns c = begun_end _ _ _ _ c.loop-c.invariant (characters_none c.args.s.now c.loop-c.c-index (omega arith))

@@ -2,7 +2,6 @@
 -- Assumes nothing.
 use Rattle.dot.proofs.WebRules.{Finding}
 use Rattle.definitions.specs.Columns.{token_list}
-use Prim.Native.Nat.{◌-◌}
 use Rattle.dot.proofs.webs.first_of.Given as goal
 
 abbrev pub invariant-loop-p : goal.invariant-loop-p

@@ -3,7 +3,6 @@
 use Rattle.dot.proofs.WebRules.{Ranking}
 use Rattle.definitions.specs.Columns.{token_list}
 use lib.ListN.{length}
-use Prim.Native.Nat.{◌-◌}
 use Rattle.dot.proofs.webs.rank.Given as goal
 
 abbrev pub invariant-loop-k : goal.invariant-loop-k

@@ -5,7 +5,6 @@ use Rattle.dot.proofs.WidthRules.{Summing}
 use Rattle.dot.specs.Dot.{token_cells}
 use Rattle.model.specs.Places.{line_start}
 use Rattle.definitions.specs.Columns.{token_list}
-use Prim.Native.Nat.{◌-◌}
 use Rattle.dot.proofs.widths.tokens_cells.Given as goal
 
 abbrev pub invariant-loop-k : goal.invariant-loop-k

@@ -3,7 +3,6 @@
 use Rattle.dot.proofs.WidthRules.{Measuring}
 use Rattle.dot.specs.Held.{line_cells}
 use lib.ListN.{length}
-use Prim.Native.Nat.{◌-◌}
 use Rattle.dot.proofs.widths.widest.Given as goal
 
 abbrev pub invariant-loop-i : goal.invariant-loop-i

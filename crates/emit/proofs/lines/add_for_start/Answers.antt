@@ -10,4 +10,4 @@ use mathlib.Core.Bool.{true}
 use Rattle.emit.proofs.lines.add_for_start.Goals as goal
 
 pub returns : goal.returns
-returns c = let g = c.args in let C = listing g.code.now.lines.now g.code.now.tokens.now g.code.now.text.now in λ l a. adds_four _ _ _ _ (c.add-d.ensures l a) (c.add-e.ensures l a) (adds_as (ap (λ p. dressed true (piece C p).tokens) c.initialiser.ensures.0) (c.add_piece-f.ensures l a)) (c.add.ensures l a)
+returns c = let g = c.args in let C = listing g.code.now.lines.now g.code.now.tokens.now g.code.now.text.now in adds_four _ _ _ _ c.add.ensures c.add-2.ensures (adds_as (ap (λ p. dressed true (piece C p).tokens) c.initialiser.ensures.0) c.add_piece.ensures) c.add-3.ensures

@@ -4,4 +4,4 @@ use Rattle.append.proofs.Appends.{adds_four}
 use Rattle.emit.proofs.lines.add_guard.Goals as goal
 
 pub returns : goal.returns
-returns c = λ l a. adds_four _ _ _ _ (c.add-d.ensures l a) (c.add-e.ensures l a) (c.add_condition-f.ensures l a) (c.add.ensures l a)
+returns c = adds_four _ _ _ _ c.add.ensures c.add-2.ensures c.add_condition.ensures c.add-3.ensures

@@ -3,8 +3,8 @@
 use Rattle.append.proofs.Appends.{adds_four}
 use Rattle.emit.proofs.lines.add_while.Goals as goal
 
-pub add_test-f-requires : goal.add_test-f-requires
-add_test-f-requires c = c.requires
+pub add_test-requires : goal.add_test-requires
+add_test-requires c = c.requires
 
 pub returns : goal.returns
-returns c = λ l a. adds_four _ _ _ _ (c.add-d.ensures l a) (c.add-e.ensures l a) (c.add_test-f.ensures l a) (c.add.ensures l a)
+returns c = adds_four _ _ _ _ c.add.ensures c.add-2.ensures c.add_test.ensures c.add-3.ensures

@@ -1,7 +1,7 @@
--- `enters::entering::goes_inside` meets its contract. By its mark, or by its tokens.
+-- `enters::entering::goes_inside` meets its contract. By the mark, or by the tokens.
 -- Assumes nothing.
-use Rattle.enters.proofs.MarkRules.{goes_marked}
 use borrow.Author.Rules.{rules}
+use Rattle.enters.proofs.MarkRules.{goes_marked}
 use Rattle.enters.proofs.entering.goes_inside.Goals as goal
 
 pub returns-then-m-gt2 : goal.returns-then-m-gt2

@@ -2,11 +2,11 @@
 -- Assumes nothing.
 use mathlib.Core.Path.{◌≡◌}
 use mathlib.Core.List.{◌++◌}
-use Prim.Native.Nat.{◌-◌, ◌≤◌}
+use Prim.Native.Nat.{◌≤◌}
 use lib.ListN.{length, take, drop}
 use Rattle.definitions.specs.Columns.{listing}
 use Rattle.enters.specs.Inside.{labels}
 use Rattle.enters.proofs.labels.list_labels.Given as goal
 
-abbrev pub invariant-loop-k : goal.invariant-loop-k
-invariant-loop-k l = (l.m ≤ l.k) × (l.k ≤ length l.words) × (length l.list ≡ length l.initial.list) × (take l.m l.list ++ labels (listing l.code.lines.now l.code.tokens.now l.code.text.now) (drop l.k l.words) ≡ labels (listing l.code.lines.now l.code.tokens.now l.code.text.now) l.words)
+abbrev pub invariant-loop-w : goal.invariant-loop-w
+invariant-loop-w l = (l.m ≤ l.w-index) × (length l.list ≡ length l.initial.list) × (take l.m l.list ++ labels (listing l.code.lines.now l.code.tokens.now l.code.text.now) (drop l.w-index l.words) ≡ labels (listing l.code.lines.now l.code.tokens.now l.code.text.now) l.words)

@@ -1,6 +1,6 @@
 -- `enters::marks::mark_lines` meets its contract. Line by line.
 -- Assumes nothing.
-use Prim.Native.Nat.{◌-◌, ◌≤◌}
+use Prim.Native.Nat.{◌≤◌}
 use lib.ListN.{length}
 use Rattle.definitions.specs.Columns.{listing}
 use Rattle.enters.proofs.MarkRules.{Marking}

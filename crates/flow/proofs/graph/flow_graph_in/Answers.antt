@@ -1,9 +1,16 @@
--- `flow::graph::flow_graph_in` meets its contract.
--- Assumes nothing.
-use native.Mathlib.Omega.{arith}
-use Rattle.definitions.specs.Columns.{listing}
+-- `flow::graph::flow_graph_in` meets its contract. Assumes nothing.
+use mathlib.Core.Path.{ap, ◌∙◌}
+use lib.ListN.{length}
+use Rattle.definitions.specs.Lists.{is_some}
+use Rattle.model.specs.Listings.{listing_of}
+use Rattle.model.proofs.Decode.{length_listing}
+use Rattle.line_keywords.specs.declared.Keywords.{Keywords}
+use Rattle.flow.proofs.Graphs.{graph_drawn}
 use Rattle.flow.proofs.graph.flow_graph_in.Goals as goal
 
-pub label_graph-requires : goal.label_graph-requires
-label_graph-requires c = let p = c.requires in
-    let K = c.blocks-2 in record { fact = (omega (arith, K.auto.ends, p.fact.0), omega (arith, K.auto.parents, p.fact.1), p.fact.3, p.fact.4, p.fact.5); fact_2 = (p.masks, rw c.if-not-blocks.false at K.ensures); by_index = p.by_index; matrices = p.matrices }
+pub returns-clause-fact : goal.returns-clause-fact
+returns-clause-fact g c = let K = c.args.code.now in
+    let e = ap (λ (k : Keywords). k.code) c.in-Some.ensures.same ∙ c.new-keywords.ensures in
+    λ z. graph_drawn (listing_of K) (length K.lines.now) c.args.r _ _ _ (length_listing K.lines.now K.tokens.now K.text.now)
+    _ (rw c.new-keywords.ensures at c.new.ensures.matched) (ap is_some c.in-Some.is) _ (rw e at c.draw.ensures.value) c.if-not-draw.false
+    c.no_edges.ensures (rw e at (c.draw.ensures.fact c.if-not-draw.false))

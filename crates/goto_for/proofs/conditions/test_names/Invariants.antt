@@ -1,7 +1,6 @@
 -- `goto_for::conditions::test_names` meets its contract. The answer is what is left to look for from token k on.
 -- Assumes nothing.
 use mathlib.Core.Path.{◌≡◌}
-use Prim.Native.Nat.{◌-◌}
 use Rattle.definitions.specs.Lists.{any}
 use Rattle.definitions.specs.Model.{line}
 use Rattle.definitions.specs.Columns.{listing}

@@ -1,7 +1,6 @@
 -- `goto_for::ends::continues` meets its contract. The answer is what is left to look for from place j on.
 -- Assumes nothing.
 use mathlib.Core.Path.{◌≡◌}
-use Prim.Native.Nat.{◌-◌}
 use Rattle.definitions.specs.Lists.{any, part}
 use Rattle.definitions.specs.Columns.{listing}
 use Rattle.goto_for.specs.Words.{continue_word}

@@ -1,11 +1,8 @@
--- `goto_targets::seeking::seek_line` meets its contract. By its tests.
+-- `goto_targets::seeking::seek_line` meets its contract. All tokens but the last, then that.
 -- Assumes nothing.
-use Rattle.goto_targets.proofs.SeekRules.{ends}
 use borrow.Author.Rules.{rules}
+use Rattle.goto_targets.proofs.SeekRules.{ends}
 use Rattle.goto_targets.proofs.seeking.seek_line.Goals as goal
-
-pub returns-then-n-eq0 : goal.returns-then-n-eq0
-returns-then-n-eq0 c = search (ends, rules)
 
 pub returns : goal.returns
 returns c = search (ends, rules)

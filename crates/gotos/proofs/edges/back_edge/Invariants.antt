@@ -4,7 +4,6 @@ use Rattle.gotos.specs.Edges.{or_later, back_from}
 use Rattle.plan.specs.Plan.{render}
 use Rattle.definitions.specs.Columns.{listing}
 use lib.ListN.{take}
-use Prim.Native.Nat.{◌-◌}
 use mathlib.Core.Path.{◌≡◌}
 use Rattle.gotos.proofs.edges.back_edge.Given as goal
 

@@ -1,6 +1,5 @@
 -- `gotos::headers::make_header` meets its contract. The header stored, and the leading test removed.
 -- Assumes nothing.
-use lib.ListN.{length-set}
 use Rattle.gotos.proofs.HeadedRules.{fewer_yes, fewer_no, made_plain, made_tested}
 use Rattle.gotos.proofs.headers.make_header.Goals as goal
 

@@ -4,11 +4,13 @@ use Rattle.javrenzu.proofs.Rules.{dot_passing, dot_said, dot_refused}
 use borrow.Author.Rules.{rules}
 use Rattle.javrenzu.proofs.calls.dot.Goals as goal
 
-pub picture-requires : goal.picture-requires
-picture-requires c = record { in_bounds = search rules; passing = (dot_passing _ _ _ _ _ _ _ _ _ _ _ c.recover.ensures.space_after c.in-Ok.is, search rules) }
+pub returns-in_err-recover : goal.returns-in_err-recover
+returns-in_err-recover c =
+    let e = dot_refused _ _ _ _ _ _ _ _ _ c.zeros-numbers.ensures.value c.zeros-marks.ensures.value c.zeros-space.ensures.value _ c.args.out.now c.in_err-recover.ensures.space_after in
+    search rules
 
-pub returns-in-Ok : goal.returns-in-Ok
-returns-in-Ok c = search (dot_said, rules)
+pub picture-requires-clause-passing : goal.picture-requires-clause-passing
+picture-requires-clause-passing c = (dot_passing _ _ _ _ _ _ _ _ _ _ c.in_ok-recover.ensures.space_after, search rules)
 
-pub returns-in-Err : goal.returns-in-Err
-returns-in-Err c = search (dot_refused, rules)
+pub returns : goal.returns
+returns c = dot_said _ _ _ _ _ _ _ _ _ c.zeros-numbers.ensures.value c.zeros-marks.ensures.value c.zeros-space.ensures.value _ _ c.in_ok-recover.ensures.space_after c.picture.ensures

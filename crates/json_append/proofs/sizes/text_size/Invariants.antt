@@ -1,10 +1,8 @@
 -- `json_append::sizes::text_size` meets its contract. Its loop: n is the sum over the first k bytes.
 -- Assumes nothing.
-use Prim.Native.Nat.{◌-◌}
-use lib.ListN.{length}
 use Rattle.json_append.specs.Sizes.{byte_size}
 use Rattle.json_append.proofs.Sums.{Counted}
 use Rattle.json_append.proofs.sizes.text_size.Given as goal
 
-abbrev pub invariant-loop-k : goal.invariant-loop-k
-invariant-loop-k l = Counted byte_size 6 l.s l.n l.k
+abbrev pub invariant-loop-c : goal.invariant-loop-c
+invariant-loop-c l = Counted byte_size 6 l.s l.n l.c-index

@@ -1,7 +1,7 @@
 -- `json_lines::lines::line` meets its contract.
 -- Assumes nothing.
 use Rattle.json_lines.specs.InColumns.{tokens_read, line_read}
-use Rattle.json_lines.proofs.LineRules.{line_no_head, line_no_tokens, line_no_end, line_whole, indent_small}
+use Rattle.json_lines.proofs.LineRules.{line_no_head, line_no_tokens, line_no_end, line_whole, indent_small, word_of}
 use Rattle.json_lines.proofs.lines.line.Goals as goal
 
 pub returns-in_err-top : goal.returns-in_err-top
@@ -21,4 +21,4 @@ low_word-requires c = indent_small _ _ _ c.in_ok-top.ensures
 
 pub returns : goal.returns
 unfolding line_read tokens_read
-returns c = line_whole _ _ _ _ _ _ _ c.in_ok-top.ensures _ _ _ _ _ c.in_ok-filled.ensures _ _ _ c.in_ok-s.ensures c.low_word.ensures c.address_word.ensures
+returns c = line_whole _ _ _ _ _ _ _ c.in_ok-top.ensures _ _ _ _ _ c.in_ok-filled.ensures _ _ _ c.in_ok-s.ensures c.low_word.ensures (word_of c.in_ok-top.top.address _ c.unwrap_or.ensures)

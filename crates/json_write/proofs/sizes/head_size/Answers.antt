@@ -9,4 +9,4 @@ returns c = let a = c.args in
     let p = c.requires in
     let indented = lines_indent a.code.now.lines.now a.addresses.now a.code.now.tokens.now a.code.now.text.now p.1 a.i p.0 _ c.indent.ensures in
     let counted = lines_count a.code.now.lines.now a.addresses.now a.code.now.tokens.now a.code.now.text.now p.1 a.i p.0 _ c.token_count.ensures in
-    head_sized _ _ _ _ _ _ _ _ c.address_of.ensures c.address_size-a.ensures c.wide.ensures indented c.decimal_size-d.ensures counted c.ends-e.ensures
+    head_sized _ _ _ _ _ _ _ c.address_of.ensures c.address_size-a.ensures indented c.decimal_size-d.ensures counted c.ends-e.ensures

@@ -9,12 +9,6 @@ use Rattle.json_write.proofs.sizes.heads_size.Goals as goal
 pub loop-i-init : goal.loop-i-init
 loop-i-init c = counted_start head_size 75 _
 
-pub overflow_add-n : goal.overflow_add-n
-overflow_add-n c = omega arith
-
-pub loop-i-smaller : goal.loop-i-smaller
-loop-i-smaller c = omega arith
-
 pub loop-i-preserved : goal.loop-i-preserved
 loop-i-preserved c = search (heads_next, rules)
 

@@ -1,7 +1,5 @@
 -- `json_write::sizes::heads_size` meets its contract. Its loop: n is the sum over the first i lines.
 -- Assumes nothing.
-use Prim.Native.Nat.{◌-◌}
-use lib.ListN.{length}
 use Rattle.json_write.specs.Answers.{lines_of}
 use Rattle.json_write.specs.Sizes.{head_size}
 use Rattle.json_append.proofs.Sums.{Counted}

@@ -9,12 +9,6 @@ use Rattle.json_write.proofs.sizes.tokens_size.Goals as goal
 pub loop-k-init : goal.loop-k-init
 loop-k-init c = counted_start token_size 24 _
 
-pub overflow_add-n : goal.overflow_add-n
-overflow_add-n c = omega arith
-
-pub loop-k-smaller : goal.loop-k-smaller
-loop-k-smaller c = omega arith
-
 pub loop-k-preserved : goal.loop-k-preserved
 loop-k-preserved c = search (tokens_next, rules)
 

@@ -1,7 +1,5 @@
 -- `json_write::sizes::tokens_size` meets its contract. Its loop: n is the sum over the first k tokens.
 -- Assumes nothing.
-use Prim.Native.Nat.{◌-◌}
-use lib.ListN.{length}
 use Rattle.definitions.specs.Columns.{token_list}
 use Rattle.json_write.specs.Sizes.{token_size}
 use Rattle.json_append.proofs.Sums.{Counted}

@@ -1,10 +1,11 @@
--- `json_write::tokens::put_tokens` meets its contract. What is written, and what is left at k, are the whole.
--- Assumes nothing.
-use Rattle.json_write.proofs.ElementRules.{Going}
+-- The elements from k on are not written yet.
+use Rattle.definitions.specs.Lists.{part}
 use Rattle.definitions.specs.Columns.{token_list}
-use Rattle.json_definitions.specs.Writer.{token_text}
-use Prim.Native.Nat.{◌-◌}
+use Rattle.json_definitions.specs.Writer.{token_text, elements_text}
+use Rattle.json_append.specs.Appended.{Begun}
 use Rattle.json_write.proofs.tokens.put_tokens.Given as goal
 
 abbrev pub invariant-loop-k : goal.invariant-loop-k
-invariant-loop-k l = Going token_text (token_list l.code.tokens.now l.code.text.now) l.from l.end l.initial.out l.at l.out l.to l.k
+invariant-loop-k l =
+    let T = token_list l.code.tokens.now l.code.text.now in
+    Begun l.initial.to (elements_text token_text (part l.from l.end T)) l.to (elements_text token_text (part l.k l.end T))

@@ -1,5 +1,5 @@
 -- `line_steps::keywords::has_close` meets its contract. The answer is that of the tokens from j on. Assumes nothing.
-use Prim.Native.Nat.{◌≤◌, ◌-◌}
+use Prim.Native.Nat.{◌≤◌}
 use mathlib.Core.Bool.{◌&&◌}
 use mathlib.Core.Path.{◌≡◌}
 use lib.ListN.{drop}

@@ -10,4 +10,4 @@ use Rattle.line_steps.specs.Drawing.{Drawing, from}
 use Rattle.line_steps.proofs.steps.case_steps.Given as goal
 
 abbrev pub invariant-loop-j : goal.invariant-loop-j
-invariant-loop-j l = (length l.space ≡ length l.initial.space) × Drawing (length l.code.lines.now) l.r l.initial.space l.space (from l.h (filter (λ q. is_case (line (listing l.code.lines.now l.code.tokens.now l.code.text.now) q)) (range (l.h + 1) (l.c - (l.h + 1))))) (from l.h (filter (λ q. is_case (line (listing l.code.lines.now l.code.tokens.now l.code.text.now) q)) (range l.j (l.c - l.j))))
+invariant-loop-j l = (length l.space ≡ length l.initial.space) × Drawing (length l.keywords.code.lines.now) l.r l.initial.space l.space (from l.h (filter (λ q. is_case (line (listing l.keywords.code.lines.now l.keywords.code.tokens.now l.keywords.code.text.now) q)) (range (l.h + 1) (l.c - (l.h + 1))))) (from l.h (filter (λ q. is_case (line (listing l.keywords.code.lines.now l.keywords.code.tokens.now l.keywords.code.text.now) q)) (range l.j (l.c - l.j))))

@@ -1,20 +1,19 @@
 use mathlib.Core.Bool.{false≢true}
+use native.Mathlib.Omega.{arith}
 use borrow.Author.Rules.{rules}
+use Rattle.labels.proofs.Leads.{inside_some}
 use Rattle.line_steps.proofs.Edges.{jumping}
 use Rattle.line_steps.proofs.Drawings.{matrices_kept}
 use Rattle.line_steps.proofs.steps.token_jumps.Goals as goal
 
-pub loop-k-init : goal.loop-k-init
-loop-k-init c = search (jumping, rules)
-
 pub jump_step-requires : goal.jump_step-requires
-jump_step-requires c = record { fact = (search (matrices_kept, rules), search rules, search rules, search rules, search rules); indexed = search rules }
+jump_step-requires c = (search (matrices_kept, rules), search rules, search rules)
 
-pub loop-k-preserved : goal.loop-k-preserved
-loop-k-preserved c = search (jumping, rules)
+pub loop-goto-preserved : goal.loop-goto-preserved
+loop-goto-preserved c = search (jumping, rules)
 
-pub returns-else-jump_step : goal.returns-else-jump_step
-returns-else-jump_step c = record { value = search (jumping, rules); fact_2 = λ z. absurd (false≢true z) }
+pub returns-then-not-jump_step-clause-fact : goal.returns-then-not-jump_step-clause-fact
+returns-then-not-jump_step-clause-fact c = λ z. absurd (false≢true z)
 
-pub returns : goal.returns
-returns c = record { value = search (jumping, rules); fact_2 = λ z. search (jumping, rules) }
+pub overflow_add-b : goal.overflow_add-b
+overflow_add-b c = let h = inside_some c.loop-goto.goto c.in-Some.k c.line_end-e.result c.in-Some.is c.loop-goto.invariant.0 in omega arith

@@ -1,7 +1,6 @@
 -- `loops::for_loops::first_end` meets its contract. The answer is what is left to look for from place j on.
 -- Assumes nothing.
 use mathlib.Core.Path.{◌≡◌}
-use Prim.Native.Nat.{◌-◌}
 use lib.ListN.{take}
 use Rattle.definitions.specs.Lists.{position_from}
 use Rattle.definitions.specs.Columns.{listing}

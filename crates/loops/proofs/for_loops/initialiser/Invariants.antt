@@ -1,14 +1,11 @@
 -- `loops::for_loops::initialiser` meets its contract. The answer is what is left to look for before place k.
 -- Assumes nothing.
 use mathlib.Core.Path.{◌≡◌}
-use Prim.Native.Nat.{◌≤◌}
+use Prim.Native.Nat.{◌-◌}
 use Rattle.definitions.specs.Columns.{listing}
 use Rattle.family.specs.Register.{family_of, names_family}
 use Rattle.loops.specs.Words.{init_words}
 use Rattle.loops.proofs.for_loops.initialiser.Given as goal
 
-abbrev pub invariant-loop-left : goal.invariant-loop-left
-invariant-loop-left l = (l.k ≤ l.w) × (init_words (listing l.code.lines.now l.code.tokens.now l.code.text.now) (names_family (family_of l.s l.r)) l.plan l.ind 4 l.w ≡ init_words (listing l.code.lines.now l.code.tokens.now l.code.text.now) (names_family (family_of l.s l.r)) l.plan l.ind l.left l.k)
-
-abbrev pub decreases-loop-left : goal.decreases-loop-left
-decreases-loop-left l = l.left
+abbrev pub invariant-loop-k : goal.invariant-loop-k
+invariant-loop-k l = init_words (listing l.code.lines.now l.code.tokens.now l.code.text.now) (names_family (family_of l.s l.r)) l.plan l.ind 4 l.w ≡ init_words (listing l.code.lines.now l.code.tokens.now l.code.text.now) (names_family (family_of l.s l.r)) l.plan l.ind (4 - (l.w - l.k)) l.k

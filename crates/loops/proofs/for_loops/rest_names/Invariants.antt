@@ -1,7 +1,6 @@
 -- `loops::for_loops::rest_names` meets its contract. The answer is what is left to look for from token j on.
 -- Assumes nothing.
 use mathlib.Core.Path.{◌≡◌}
-use Prim.Native.Nat.{◌-◌}
 use lib.ListN.{drop}
 use Rattle.definitions.specs.Lists.{any}
 use Rattle.definitions.specs.Model.{line}

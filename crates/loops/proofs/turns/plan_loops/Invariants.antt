@@ -6,7 +6,7 @@ use lib.ListN.{length}
 use Rattle.loops.proofs.turns.plan_loops.Given as goal
 
 abbrev pub invariant-loop-i : goal.invariant-loop-i
-invariant-loop-i l = Running l.code.lines.now l.code.tokens.now l.code.text.now l.initial.plan l.plan l.n l.i
+invariant-loop-i l = Running l.keywords.code.lines.now l.keywords.code.tokens.now l.keywords.code.text.now l.initial.plan l.plan l.n l.i
 
 abbrev pub decreases-loop-i : goal.decreases-loop-i
-decreases-loop-i l = length l.code.lines.now - l.i
+decreases-loop-i l = length l.keywords.code.lines.now - l.i

@@ -8,10 +8,10 @@ pub unwrap-requires : goal.unwrap-requires
 unwrap-requires c = let p = c.requires in (p.i_bound.0, omega (arith, p.i_bound.1), p.i_bound.2, ready_header _ _ _ (omega (arith, p.i_bound.0, p.i_bound.1)) p.i_bound.2 p.ready)
 
 pub to_for-m-requires : goal.to_for-m-requires
-to_for-m-requires c = let p = c.requires in record { w_lt_n = (omega (arith, p.i_bound.0, p.i_bound.1), omega (arith, p.i_bound.2, c.unwrap.auto.plan), p.i_bound.3); w_value = rebuild_calls _ _ _ _ p.i_bound.0 p.i_bound.1 p.i_bound.2 p.ready _ c.unwrap.ensures.value _ c.if-unwrap.true c.unwrap.ensures.plan_after; masks = p.masks }
+to_for-m-requires c = let p = c.requires in record { w_lt_n = (omega (arith, p.i_bound.0, p.i_bound.1), omega (arith, p.i_bound.2, c.unwrap.auto.plan), p.i_bound.3); w_value = rebuild_calls _ _ _ _ p.i_bound.0 p.i_bound.1 p.i_bound.2 p.ready _ c.unwrap.ensures.value _ c.if-not-unwrap.false c.unwrap.ensures.plan_after }
 
-pub returns-then-unwrap : goal.returns-then-unwrap
-returns-then-unwrap c = let p = c.requires in rebuilt_go _ _ _ _ p.i_bound.0 p.i_bound.1 p.i_bound.2 p.ready _ c.unwrap.ensures.value _ c.if-unwrap.true c.unwrap.ensures.plan_after _ _ _ _ _ c.to_for-m.ensures
+pub returns : goal.returns
+returns c = let p = c.requires in rebuilt_go _ _ _ _ p.i_bound.0 p.i_bound.1 p.i_bound.2 p.ready _ c.unwrap.ensures.value _ c.if-not-unwrap.false c.unwrap.ensures.plan_after _ _ _ _ _ c.to_for-m.ensures
 
-pub returns-else-unwrap : goal.returns-else-unwrap
-returns-else-unwrap c = let p = c.requires in rebuilt_beyond _ _ _ _ p.i_bound.0 p.i_bound.1 p.i_bound.2 p.ready _ c.unwrap.ensures.value c.if-unwrap.false _ _ _ _
+pub returns-then-not-unwrap : goal.returns-then-not-unwrap
+returns-then-not-unwrap c = let p = c.requires in rebuilt_beyond _ _ _ _ p.i_bound.0 p.i_bound.1 p.i_bound.2 p.ready _ c.unwrap.ensures.value c.if-not-unwrap.true _ _ _ _

@@ -8,6 +8,6 @@ end_merged-requires c = c.requires
 
 pub returns : goal.returns
 returns c = let a = c.args in
-    λ l b. adds_flipped a.s.now a.kind 0 a.b a.w c.part.result.now c.part-rest.result.now c.part-2.result.now
+    adds_flipped a.s.now a.kind a.f c.part.result.now c.part-rest.result.now c.part-2.result.now
     c.part.ensures c.part-rest.ensures c.width.result c.width.ensures c.part-2.ensures
-    (c.add_bytes-d.ensures l b _) (c.add_flipped-e.ensures l b _) (c.add_bytes-f.ensures l b _) (c.end_merged.ensures l b _)
+    c.add_bytes.ensures c.add_flipped.ensures c.add_bytes-2.ensures c.end_merged.ensures

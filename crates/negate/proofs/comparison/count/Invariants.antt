@@ -2,7 +2,7 @@
 -- Assumes nothing.
 use Rattle.negate.specs.Comparisons.{occurs}
 use lib.ListN.{length, drop}
-use Prim.Native.Nat.{◌+◌, ◌-◌, ◌≤◌}
+use Prim.Native.Nat.{◌+◌, ◌≤◌}
 use mathlib.Core.Path.{◌≡◌}
 use Rattle.negate.proofs.comparison.count.Given as goal
 

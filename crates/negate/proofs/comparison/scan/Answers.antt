@@ -1,18 +1,14 @@
 use mathlib.Core.Path.{refl}
-use Rattle.definitions.specs.Condition.{comparisons}
 use Rattle.negate.proofs.TestTokens.{test_short}
 use Rattle.model.proofs.Decode.{token_short}
 use native.Mathlib.Omega.{arith}
 use borrow.Author.Rules.{rules}
-use Rattle.negate.specs.Comparisons.{numbered}
 use Rattle.definitions.specs.Columns.{listing}
 use Rattle.definitions.specs.Model.{line}
-use Prim.Native.Nat.{◌-◌}
 use Rattle.negate.proofs.Scanning.{scan_next, scan_end}
 use Rattle.negate.proofs.comparison.scan.Goals as goal
 
 pub loop-k-init : goal.loop-k-init
-unfolding numbered comparisons
 loop-k-init c = (search rules, refl, omega arith)
 
 pub scan_token-r-requires : goal.scan_token-r-requires

@@ -5,7 +5,7 @@ use Rattle.negate.specs.Tests.{test_from, test_tokens}
 use Rattle.definitions.specs.Condition.{nothing_seen, scan}
 use Rattle.definitions.specs.Columns.{listing}
 use Rattle.definitions.specs.Model.{line}
-use Prim.Native.Nat.{◌-◌, ◌*◌, ◌≤◌}
+use Prim.Native.Nat.{◌*◌, ◌≤◌}
 use mathlib.Core.Path.{◌≡◌}
 use Rattle.negate.proofs.comparison.scan.Given as goal
 

@@ -1,5 +1,4 @@
 use borrow.Author.Rules.{rules}
-use Prim.Native.Nat.{◌-◌}
 use Rattle.negate.proofs.Scanning.{texts}
 use Rattle.negate.proofs.comparison.scan_text.Goals as goal
 

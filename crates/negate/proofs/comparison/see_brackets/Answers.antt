@@ -1,10 +1,11 @@
 -- `negate::comparison::see_brackets` meets its contract. Both brackets are counted.
 -- Assumes nothing.
-use Rattle.negate.specs.Comparisons.{found_at}
+use Rattle.std.specs.Option.{option_map}
+use Rattle.negate.specs.Comparisons.{found_of}
 use Prim.Native.Nat.{ℕ, ◌+◌}
 use mathlib.Core.Path.{ap₂}
 use native.Mathlib.Omega.{arith}
 use Rattle.negate.proofs.comparison.see_brackets.Goals as goal
 
 pub returns : goal.returns
-returns c = (ap₂ (λ (o k : ℕ). record { opened = c.args.r.opened + o; closed = c.args.r.closed + k; count = c.args.r.count; found = found_at c.args.r.place c.args.r.byte c.args.r.which }) c.count.ensures.0 c.count-2.ensures.0, omega arith)
+returns c = (ap₂ (λ (o k : ℕ). record { opened = c.args.r.opened + o; closed = c.args.r.closed + k; count = c.args.r.count; found = option_map found_of c.args.r.found }) c.count.ensures.0 c.count-2.ensures.0, omega arith)

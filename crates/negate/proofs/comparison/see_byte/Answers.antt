@@ -2,41 +2,41 @@
 -- Assumes nothing.
 use Rattle.negate.specs.Comparisons.{seen}
 use native.Mathlib.Omega.{arith}
-use Rattle.negate.proofs.Scanning.{bytes, byte_found, found_after, found_within}
+use Rattle.negate.proofs.Scanning.{byte_passed, byte_found, found_after, found_within}
 use borrow.Author.Rules.{rules}
 use Rattle.negate.proofs.comparison.see_byte.Goals as goal
 
 pub part-rest-requires : goal.part-rest-requires
-part-rest-requires c = search (bytes, rules)
+part-rest-requires c = search (byte_passed, rules)
 
-pub comparison_at-w-requires : goal.comparison_at-w-requires
-comparison_at-w-requires c = search (bytes, rules)
+pub comparison_at-requires : goal.comparison_at-requires
+comparison_at-requires c = search (byte_passed, rules)
 
 pub see_logical-n-requires : goal.see_logical-n-requires
-see_logical-n-requires c = search (bytes, rules)
+see_logical-n-requires c = search (byte_passed, rules)
 
 pub overflow_add-result : goal.overflow_add-result
-overflow_add-result c = search (bytes, rules)
+overflow_add-result c = search (byte_passed, rules)
 
 pub width-requires : goal.width-requires
-width-requires c = search (bytes, rules)
+width-requires c = search (byte_passed, rules)
 
-pub overflow_add-result-then-w-lt-NONE : goal.overflow_add-result-then-w-lt-NONE
-overflow_add-result-then-w-lt-NONE c = let a = c.args in
-    omega (arith, found_within a.s.now a.i c.requires.0 c.part-rest.result.now c.part-rest.ensures (seen a.r) (seen c.see_logical-n.result) c.comparison_at-w.result c.comparison_at-w.ensures.0 c.if-w-lt-NONE.true c.width.result c.width.ensures)
+pub overflow_add-result-in-Some : goal.overflow_add-result-in-Some
+overflow_add-result-in-Some c = let a = c.args in
+    omega (arith, found_within a.s.now a.i c.requires.0 c.part-rest.result.now c.part-rest.ensures (seen a.r) (seen c.see_logical-n.result) c.comparison_at.result c.comparison_at.ensures c.in-Some.which c.in-Some.is c.width.result c.width.ensures)
 
-pub returns-then-w-lt-NONE : goal.returns-then-w-lt-NONE
-returns-then-w-lt-NONE c = let a = c.args in
-    let w = c.width.result in record { r_value = byte_found a.s.now a.i c.requires.0 c.part-rest.result.now c.part-rest.ensures (seen a.r) (seen c.see_logical-n.result) c.comparison_at-w.result c.comparison_at-w.ensures.0 c.if-w-lt-NONE.true _ c.see_logical-n.ensures.0 w c.width.ensures; i_lt_next = (found_after a.s.now a.i c.requires.0 c.part-rest.result.now c.part-rest.ensures (seen a.r) (seen c.see_logical-n.result) c.comparison_at-w.result c.comparison_at-w.ensures.0 c.if-w-lt-NONE.true w c.width.ensures, found_within a.s.now a.i c.requires.0 c.part-rest.result.now c.part-rest.ensures (seen a.r) (seen c.see_logical-n.result) c.comparison_at-w.result c.comparison_at-w.ensures.0 c.if-w-lt-NONE.true w c.width.ensures, omega (arith, c.see_logical-n.ensures.1)) }
+pub returns-in-Some : goal.returns-in-Some
+returns-in-Some c = let a = c.args in
+    let w = c.width.result in record { r_value = byte_found a.s.now a.i c.requires.0 c.part-rest.result.now c.part-rest.ensures (seen a.r) (seen c.see_logical-n.result) c.comparison_at.result c.comparison_at.ensures c.in-Some.which c.in-Some.is _ c.see_logical-n.ensures.0 w c.width.ensures; i_lt_next = (found_after a.s.now a.i c.requires.0 c.part-rest.result.now c.part-rest.ensures (seen a.r) (seen c.see_logical-n.result) c.comparison_at.result c.comparison_at.ensures c.in-Some.which c.in-Some.is w c.width.ensures, found_within a.s.now a.i c.requires.0 c.part-rest.result.now c.part-rest.ensures (seen a.r) (seen c.see_logical-n.result) c.comparison_at.result c.comparison_at.ensures c.in-Some.which c.in-Some.is w c.width.ensures, omega (arith, c.see_logical-n.ensures.1)) }
 
 pub bounds-s-i : goal.bounds-s-i
-bounds-s-i c = search (bytes, rules)
+bounds-s-i c = search (byte_passed, rules)
 
 pub see_bracket-requires : goal.see_bracket-requires
-see_bracket-requires c = search (bytes, rules)
+see_bracket-requires c = search (byte_passed, rules)
 
-pub overflow_add-result-2 : goal.overflow_add-result-2
-overflow_add-result-2 c = search (bytes, rules)
+pub overflow_add-result-in-None : goal.overflow_add-result-in-None
+overflow_add-result-in-None c = search (byte_passed, rules)
 
-pub returns : goal.returns
-returns c = search (bytes, rules)
+pub returns-in-None : goal.returns-in-None
+returns-in-None c = search (byte_passed, rules)

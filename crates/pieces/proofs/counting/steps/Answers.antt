@@ -1,26 +1,11 @@
 -- `pieces::counting::steps` meets its contract. By the form of the piece.
 -- Assumes nothing.
-use Rattle.pieces.proofs.CountingRules.{stepping}
 use borrow.Author.Rules.{rules}
+use Rattle.pieces.proofs.CountingRules.{stepping}
 use Rattle.pieces.proofs.counting.steps.Goals as goal
 
-pub is_step-requires : goal.is_step-requires
-is_step-requires c = search (stepping, rules)
+pub returns-in-Kept : goal.returns-in-Kept
+returns-in-Kept c = search (stepping, c.in-Kept.ensures, rules)
 
-pub jumped_steps-requires : goal.jumped_steps-requires
-jumped_steps-requires c = search (stepping, rules)
-
-pub jumped_steps-requires-in-2 : goal.jumped_steps-requires-in-2
-jumped_steps-requires-in-2 c = search (stepping, rules)
-
-pub returns-in-0 : goal.returns-in-0
-returns-in-0 c = search (stepping, rules)
-
-pub returns-in-1 : goal.returns-in-1
-returns-in-1 c = search (stepping, rules)
-
-pub returns-in-2 : goal.returns-in-2
-returns-in-2 c = search (stepping, rules)
-
-pub returns-in_default : goal.returns-in_default
-returns-in_default c = search (stepping, rules)
+pub returns-in-Continued : goal.returns-in-Continued
+returns-in-Continued c = search (stepping, rules)

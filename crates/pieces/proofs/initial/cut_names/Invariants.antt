@@ -5,7 +5,6 @@ use Rattle.family.specs.Register.{family_of, names_family}
 use Rattle.definitions.specs.Columns.{listing}
 use Rattle.definitions.specs.Model.{line}
 use Rattle.definitions.specs.Lists.{any}
-use Prim.Native.Nat.{◌-◌}
 use mathlib.Core.Path.{◌≡◌}
 use Rattle.pieces.proofs.initial.cut_names.Given as goal
 

@@ -1,14 +1,8 @@
--- `pieces::reading::goto_symbol` meets its contract. By the form of the piece.
+-- `pieces::reading::goto_symbol` meets its contract. What is cut or a brace is no label and has no goto.
 -- Assumes nothing.
-use Rattle.pieces.proofs.Forms.{reads}
 use borrow.Author.Rules.{rules}
+use Rattle.pieces.proofs.Forms.{reads}
 use Rattle.pieces.proofs.reading.goto_symbol.Goals as goal
 
-pub goto_symbol-requires : goal.goto_symbol-requires
-goto_symbol-requires c = search (reads, rules)
-
-pub returns-then-p-eq0 : goal.returns-then-p-eq0
-returns-then-p-eq0 c = search (reads, rules)
-
-pub returns : goal.returns
-returns c = search (reads, rules)
+pub returns-in_default : goal.returns-in_default
+returns-in_default c = search (reads, rules)

@@ -1,14 +1,8 @@
--- `pieces::reading::is_label` meets its contract. By the form of the piece.
+-- `pieces::reading::is_label` meets its contract. What is cut or a brace is no label and has no goto.
 -- Assumes nothing.
-use Rattle.pieces.proofs.Forms.{reads}
 use borrow.Author.Rules.{rules}
+use Rattle.pieces.proofs.Forms.{reads}
 use Rattle.pieces.proofs.reading.is_label.Goals as goal
 
-pub is_label-requires : goal.is_label-requires
-is_label-requires c = search (reads, rules)
-
-pub returns-then-p-eq0 : goal.returns-then-p-eq0
-returns-then-p-eq0 c = search (reads, rules)
-
-pub returns-else-p-eq0 : goal.returns-else-p-eq0
-returns-else-p-eq0 c = search (reads, rules)
+pub returns-in_default : goal.returns-in_default
+returns-in_default c = search (reads, rules)

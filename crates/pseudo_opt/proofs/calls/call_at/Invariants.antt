@@ -1,6 +1,6 @@
 -- `pseudo_opt::calls::call_at` meets its contract. The answer is what is left to look for from token j - 1 on. Assumes nothing.
 use mathlib.Core.Path.{◌≡◌}
-use Prim.Native.Nat.{◌-◌, ◌<◌}
+use Prim.Native.Nat.{◌<◌}
 use Rattle.definitions.specs.Model.{line}
 use Rattle.definitions.specs.Columns.{listing}
 use Rattle.definitions.specs.Statements.{callee}

@@ -1,7 +1,7 @@
 -- `pseudo_opt::keywords::keyword_at` meets its contract. The answer is what is left to look for from place k on.
 -- Assumes nothing.
 use mathlib.Core.Path.{◌≡◌}
-use Prim.Native.Nat.{◌-◌, ◌≤◌}
+use Prim.Native.Nat.{◌≤◌}
 use Rattle.definitions.specs.Lists.{position}
 use Rattle.definitions.specs.Model.{line}
 use Rattle.definitions.specs.Columns.{listing}

@@ -1,6 +1,6 @@
 -- `pseudo_opt::labels::first_symbol` meets its contract. The answer is what is left to look for from token j on. Assumes nothing.
 use mathlib.Core.Path.{◌≡◌}
-use Prim.Native.Nat.{◌+◌, ◌-◌, ◌≤◌}
+use Prim.Native.Nat.{◌+◌, ◌≤◌}
 use lib.ListN.{drop}
 use Rattle.definitions.specs.Model.{line}
 use Rattle.definitions.specs.Columns.{listing}

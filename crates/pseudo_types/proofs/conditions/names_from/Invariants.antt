@@ -1,7 +1,6 @@
 -- `pseudo_types::conditions::names_from` meets its contract. The answer is what is left to look for from token j on.
 -- Assumes nothing.
 use mathlib.Core.Path.{◌≡◌}
-use Prim.Native.Nat.{◌-◌}
 use Rattle.definitions.specs.Lists.{any}
 use Rattle.definitions.specs.Model.{line}
 use Rattle.definitions.specs.Columns.{listing}

@@ -2,11 +2,5 @@ use Rattle.recover.proofs.RepresentativeRules.{representative_rules}
 use borrow.Author.Rules.{rules}
 use Rattle.recover.proofs.representatives.alone.Goals as goal
 
-pub loop-d-init : goal.loop-d-init
-loop-d-init c = search (representative_rules, rules)
-
 pub loop-d-preserved : goal.loop-d-preserved
 loop-d-preserved c = search (representative_rules, rules)
-
-pub returns : goal.returns
-returns c = search (representative_rules, rules)

@@ -2,11 +2,5 @@ use Rattle.recover.proofs.RepresentativeRules.{representative_rules}
 use borrow.Author.Rules.{rules}
 use Rattle.recover.proofs.representatives.merge.Goals as goal
 
-pub loop-r-init : goal.loop-r-init
-loop-r-init c = search (representative_rules, rules)
-
 pub loop-r-preserved : goal.loop-r-preserved
 loop-r-preserved c = search (representative_rules, rules)
-
-pub returns : goal.returns
-returns c = search (representative_rules, rules)

@@ -1,4 +1,4 @@
-use Rattle.recover.proofs.SetRules.{members_start, members_next, members_few, members_end}
+use Rattle.recover.proofs.SetRules.{members_start, members_next}
 use borrow.Author.Rules.{rules}
 use Rattle.recover.proofs.sets.members.Goals as goal
 
@@ -7,6 +7,3 @@ loop-q-init c = search (members_start, rules)
 
 pub loop-q-preserved : goal.loop-q-preserved
 loop-q-preserved c = search (members_next, rules)
-
-pub returns : goal.returns
-returns c = search (members_few, members_end, rules)

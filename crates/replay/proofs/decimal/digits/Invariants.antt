@@ -1,13 +1,13 @@
--- `replay::decimal::digits` meets its contract. At i, what is left decides.
+-- `replay::decimal::digits` meets its contract. The digits of `rest`, behind v, decide.
 -- Assumes nothing.
 use mathlib.Core.Path.{◌≡◌}
-use Prim.Native.Nat.{◌-◌}
-use lib.ListN.{length, drop}
+use Prim.Native.Nat.{◌≤◌}
+use lib.ListN.{length}
 use Rattle.replay.specs.Decimal.{digits}
 use Rattle.replay.proofs.decimal.digits.Given as goal
 
-abbrev pub invariant-loop-i : goal.invariant-loop-i
-invariant-loop-i l = digits (drop l.at l.s) 0 l.at ≡ digits (drop l.i l.s) l.v l.i
+abbrev pub invariant-loop-b : goal.invariant-loop-b
+invariant-loop-b l = (digits l.v l.rest ≡ digits 0 l.s) × (length l.rest ≤ length l.s)
 
-abbrev pub decreases-loop-i : goal.decreases-loop-i
-decreases-loop-i l = length l.s - l.i
+abbrev pub decreases-loop-b : goal.decreases-loop-b
+decreases-loop-b l = length l.rest

@@ -2,18 +2,19 @@
 -- Assumes nothing.
 use native.Mathlib.Omega.{arith}
 use Rattle.words.proofs.Zeros.{zeros}
-use Rattle.definitions.specs.Columns.{listing}
-use Rattle.definitions.specs.Recover.{defined_families}
-use Rattle.memo.proofs.Memos.{memo_empty}
 use Rattle.splits.proofs.CallRules.{starts_few, numbers_are, marks_are}
 use Rattle.splits.proofs.call.write.Goals as goal
 
 pub write_lines-requires : goal.write_lines-requires
 write_lines-requires c = let a = c.args in
     let p = c.requires in
-    let f = c.find_starts-count.ensures in record { finds = (f.finds, memo_empty (defined_families (listing a.code.now.lines.now a.code.now.tokens.now a.code.now.text.now)) _ (zeros 128), omega arith); tokens_value = (p.tokens_value.0, p.lines_nonzero.1, p.tokens_value.1, p.tokens_value.2); by_index = (starts_few a.code.now.lines.now a.code.now.tokens.now a.code.now.text.now _ f.starts p.lines_nonzero.1, omega arith, zeros 1024) }
+    let f = c.find_starts-count.ensures in
+    rw c.new-lookup.ensures.0 record { tokens_value = (p.tokens_value.0, p.lines_nonzero.1, p.tokens_value.1, p.tokens_value.2); by_index = (starts_few a.code.now.lines.now a.code.now.tokens.now a.code.now.text.now _ f.starts p.lines_nonzero.1, omega arith, zeros 1024) }
 
 pub returns : goal.returns
 returns c = let a = c.args in
     let p = c.requires in
-    let f = c.find_starts-count.ensures in record { numbers_after = numbers_are a.code.now.lines.now a.code.now.tokens.now a.code.now.text.now _ f.starts p.lines_nonzero.1 p.tokens_value.0 _ c.write_lines.ensures.numbers_after; marks_after = marks_are a.code.now.lines.now a.code.now.tokens.now a.code.now.text.now _ f.starts p.lines_nonzero.1 p.tokens_value.0 _ c.write_lines.ensures.marks_after }
+    let f = c.find_starts-count.ensures in
+    let w = c.write_lines.ensures in
+    let numbers = rw c.new-lookup.ensures.0 at w.numbers_after in
+    let marks = rw c.new-lookup.ensures.0 at w.marks_after in record { numbers_after = numbers_are a.code.now.lines.now a.code.now.tokens.now a.code.now.text.now _ f.starts p.lines_nonzero.1 p.tokens_value.0 _ numbers; marks_after = marks_are a.code.now.lines.now a.code.now.tokens.now a.code.now.text.now _ f.starts p.lines_nonzero.1 p.tokens_value.0 _ marks }

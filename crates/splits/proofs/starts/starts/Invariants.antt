@@ -1,5 +1,4 @@
 -- `splits::starts::starts` meets its contract. The lines before line i are done. Assumes nothing.
-use Prim.Native.Nat.{◌-◌}
 use mathlib.Core.Path.{◌≡◌}
 use lib.ListN.{length}
 use Rattle.definitions.specs.Columns.{listing}

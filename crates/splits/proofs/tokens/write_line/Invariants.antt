@@ -1,15 +1,12 @@
 -- `splits::tokens::write_line` meets its contract. The tokens before place k are written. Assumes nothing.
-use Prim.Native.Nat.{◌-◌, ◌≤◌}
 use mathlib.Core.Path.{◌≡◌}
-use lib.ListN.{length, get_or}
-use Rattle.definitions.specs.Columns.{token_list, listing}
+use lib.ListN.{get_or}
 use Rattle.definitions.specs.Recover.{defined_families}
-use Rattle.memo.specs.Memo.{Memo}
+use Rattle.model.specs.Listings.{listing_of, tokens_of}
 use Rattle.splits.specs.Tokens.{token_number, token_mark, over}
 use Rattle.splits.proofs.tokens.write_line.Given as goal
 
 abbrev pub invariant-loop-k : goal.invariant-loop-k
-invariant-loop-k l = (l.initial.k ≤ l.k) × (l.k ≤ l.e) × (length l.memo ≡ length l.initial.memo) × (length l.numbers ≡ length l.initial.numbers) × (length l.marks ≡ length l.initial.marks) × Memo (defined_families (listing l.code.lines.now l.code.tokens.now l.code.text.now)) l.memo × (l.numbers ≡ over l.initial.k l.k (token_number (defined_families (listing l.code.lines.now l.code.tokens.now l.code.text.now)) (λ p. get_or l.counts p 0)) (token_list l.code.tokens.now l.code.text.now) l.initial.numbers) × (l.marks ≡ over l.initial.k l.k (token_mark (defined_families (listing l.code.lines.now l.code.tokens.now l.code.text.now)) l.d) (token_list l.code.tokens.now l.code.text.now) l.initial.marks)
-
-abbrev pub decreases-loop-k : goal.decreases-loop-k
-decreases-loop-k l = l.e - l.k
+invariant-loop-k l = let code = l.fn.lookup.code in
+    let fs = defined_families (listing_of code) in
+    (l.lookup.code ≡ code) × (l.numbers ≡ over l.from l.k (token_number fs (λ p. get_or l.fn.counts p 0)) (tokens_of code) l.initial.numbers) × (l.marks ≡ over l.from l.k (token_mark fs l.fn.d) (tokens_of code) l.initial.marks)

@@ -1,7 +1,7 @@
 -- `walks::reads::list_lines` meets its contract. The lines before line i are listed.
 -- Assumes nothing.
 use mathlib.Core.Path.{◌≡◌}
-use Prim.Native.Nat.{◌-◌, ◌≤◌, ◌<◌}
+use Prim.Native.Nat.{◌≤◌, ◌<◌}
 use lib.ListN.{length, take}
 use Rattle.definitions.specs.Lists.{any}
 use Rattle.definitions.specs.Model.{line}

@@ -1,7 +1,7 @@
 -- `walks::writing::mark_lines` meets its contract. The first i lines are done.
 -- Assumes nothing.
 use mathlib.Core.Path.{◌≡◌}
-use Prim.Native.Nat.{◌-◌, ◌≤◌}
+use Prim.Native.Nat.{◌≤◌}
 use lib.ListN.{length}
 use Rattle.definitions.specs.Lists.{up_to}
 use Rattle.walks.specs.Lines.{lines_marked}

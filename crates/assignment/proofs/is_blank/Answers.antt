@@ -1,7 +1,0 @@
--- `assignment::is_blank` meets its contract. Assumes nothing.
-use borrow.Author.Rules.{rules}
-use Rattle.assignment.proofs.Assigning.{sides}
-use Rattle.assignment.proofs.is_blank.Goals as goal
-
-pub returns : goal.returns
-returns c = search (sides, rules)

@@ -1,9 +1,0 @@
--- `dot::node_labels::put_web` meets its contract.
--- Assumes nothing.
-use Rattle.dot.proofs.LabelRules.{web_is}
-use Rattle.json_append.proofs.Appends.{append_3}
-use borrow.Author.Rules.{rules}
-use Rattle.dot.proofs.node_labels.put_web.Goals as goal
-
-pub returns : goal.returns
-returns c = search (append_3, web_is, rules)

@@ -1,9 +1,0 @@
--- `dot::nodes::put_text_cell` meets its contract.
--- Assumes nothing.
-use Rattle.dot.proofs.NodeRules.{cell_is}
-use Rattle.json_append.proofs.Appends.{append_3}
-use borrow.Author.Rules.{rules}
-use Rattle.dot.proofs.nodes.put_text_cell.Goals as goal
-
-pub returns : goal.returns
-returns c = search (append_3, cell_is, rules)

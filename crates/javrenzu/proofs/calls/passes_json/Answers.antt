@@ -1,8 +1,0 @@
--- `javrenzu::calls::passes_json` meets its contract.
--- Assumes nothing.
-use borrow.Author.Rules.{rules}
-use Rattle.javrenzu.proofs.Rules.{pass_lent}
-use Rattle.javrenzu.proofs.calls.passes_json.Goals as goal
-
-pub returns : goal.returns
-returns c = search (pass_lent, rules)

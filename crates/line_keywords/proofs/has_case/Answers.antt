@@ -1,8 +1,0 @@
--- `line_keywords::has_case` meets its contract. By the bit of the mask.
--- Assumes nothing.
-use Rattle.line_keywords.proofs.MaskLaws.{asking}
-use borrow.Author.Rules.{rules}
-use Rattle.line_keywords.proofs.has_case.Goals as goal
-
-pub returns : goal.returns
-returns c = search (asking, rules)
