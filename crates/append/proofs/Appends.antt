@@ -14,8 +14,9 @@ use lib.ListN.{length}
 use Rattle.definitions.specs.Lists.{filter, ◌≟◌}
 use Rattle.definitions.specs.Model.{Token, tok}
 use Rattle.definitions.specs.Statements.{is_empty, joins, glue, merge}
+use Rattle.definitions.specs.Calls.{Columns}
 use Rattle.write.specs.State.{add_token, add_merged}
-use Rattle.write.specs.Holds.{Writes}
+use Rattle.write.specs.Holds.{open_lent, Writes}
 use Rattle.write.specs.declared.Writer.{Writer}
 use Rattle.write.proofs.Steps.{same_self, same_more}
 use Rattle.write.proofs.Merging.{merge_snoc, glue_joins, glue_apart, joins_kind}
@@ -59,16 +60,17 @@ merge_behind (t ∷ ts) us = ap (glue t) (merge_behind ts us)
 -- Appending
 
 pub adds_none : {m : Bool} {w : Writer} → Adding m [] w w
-adds_none {w = w} = record { same = same_self w; adds = λ M ts h. rw (append-nil ts) h }
+adds_none {w = w} = record { same = same_self w; kept = refl; adds = λ o M ts h. rw (append-nil ts) h }
 
 module _ {m : Bool} {w w₁ : Writer} where
   pub adds_as : {us vs : List Token} → us ≡ vs → Adding m us w w₁ → Adding m vs w w₁
   adds_as e h = rw e at h
 
   pub adds_more : {w₂ : Writer} (us vs : List Token) → Adding m us w w₁ → Adding m vs w₁ w₂ → Adding m (us ++ vs) w w₂
-  adds_more us vs a b = record {
+  adds_more {w₂} us vs a b = record {
     same = same_more a.same b.same;
-    adds = λ M ts h. rw (← append_assoc ts us vs) (b.adds M (ts ++ us) (a.adds M ts h));
+    kept = b.kept ∙ ap (λ (o : Columns). open_lent o w₂) a.kept;
+    adds = λ o M ts h. rw (← append_assoc ts us vs) (b.adds o M (ts ++ us) (a.adds o M ts h));
   }
 
 module _ {m : Bool} {w w₁ w₂ w₃ w₄ : Writer} (us vs ws xs : List Token) where
@@ -77,14 +79,14 @@ module _ {m : Bool} {w w₁ w₂ w₃ w₄ : Writer} (us vs ws xs : List Token) 
 
 module _ {w w₁ : Writer} where
   pub adds_merge : (us : List Token) → Adding true us w w₁ → Adding true (merge us) w w₁
-  adds_merge us a = record { same = a.same; adds = λ M ts h. rw (merge_behind ts us) (a.adds M ts h) }
+  adds_merge us a = record { same = a.same; kept = a.kept; adds = λ o M ts h. rw (merge_behind ts us) (a.adds o M ts h) }
 
   module _ (s : List ℕ) (k : ℕ) where
-    pub adds_token : {m : Bool} → m ≡ false → Writes (add_token s k) w w₁ → Adding m (tok s k ∷ []) w w₁
-    adds_token e h = rw e (record { same = h.same; adds = λ M ts z. h.holds (opened M ts) z })
+    pub adds_token : {m : Bool} → m ≡ false → Writes open_lent (add_token s k) w w₁ → Adding m (tok s k ∷ []) w w₁
+    adds_token e h = rw e (record { same = h.same; kept = h.kept; adds = λ o M ts z. h.holds o (opened M ts) z })
 
-    pub adds_merged : {m : Bool} → m ≡ true → Writes (add_merged s k) w w₁ → Adding m (tok s k ∷ []) w w₁
-    adds_merged e h = rw e (record { same = h.same; adds = λ M ts z. rw (merge_snoc ts (tok s k)) (h.holds (opened M (merge ts)) z) })
+    pub adds_merged : {m : Bool} → m ≡ true → Writes open_lent (add_merged s k) w w₁ → Adding m (tok s k ∷ []) w w₁
+    adds_merged e h = rw e (record { same = h.same; kept = h.kept; adds = λ o M ts z. rw (merge_snoc ts (tok s k)) (h.holds o (opened M (merge ts)) z) })
 
 -- Empty tokens
 

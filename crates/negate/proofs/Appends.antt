@@ -22,9 +22,9 @@ use Rattle.definitions.specs.Statements.{merge}
 use Rattle.definitions.specs.Condition.{flip, Comparison}
 use Rattle.text.proofs.Parts.{part_tail}
 use Rattle.write.specs.State.{add_bytes, end_merged, add_merged}
-use Rattle.write.specs.Holds.{Writes}
+use Rattle.write.specs.Holds.{text_lent, tokens_lent, open_lent, Writes}
 use Rattle.write.specs.declared.Writer.{Writer}
-use Rattle.write.proofs.Steps.{same_more}
+use Rattle.write.proofs.Steps.{text_alone, tokens_alone, in_turn}
 use Rattle.write.proofs.Merging.{merge_snoc}
 use Rattle.negate.specs.Comparisons.{named, width, found_of, flipped, negated_token, negation}
 use Rattle.negate.specs.Tests.{test_token, test_from, test_tokens}
@@ -38,25 +38,27 @@ use Rattle.negate.proofs.Negations.{map_same}
 -- A flipped comparison
 
 module _ {o o1 : Writer} (w : Which) where
-  pub flipped_arm : (v : Which) → w ≡ v → Writes (add_bytes (flipped v)) o o1 → Writes (add_bytes (flipped w)) o o1
+  pub flipped_arm : (v : Which) → w ≡ v → Writes text_lent (add_bytes (flipped v)) o o1 → Writes text_lent (add_bytes (flipped w)) o o1
   flipped_arm v e h = rw e h
 
 flip_pieces : (s : List ℕ) (k : ℕ) (f : Place) → tok (take f.byte s ++ (flipped f.which ++ drop (width f.which) (drop f.byte s))) k ≡ flip (found_of f) (tok s k)
 flip_pieces s k f = ap (λ (u : List ℕ). tok (take f.byte s ++ (flipped f.which ++ u)) k) (drop-drop (width f.which) f.byte s)
 
 module _ {o o1 o2 o3 o4 : Writer} where
-  three_pieces : (A B C : List ℕ) (k : ℕ) → Writes (add_bytes A) o o1 → Writes (add_bytes B) o1 o2 → Writes (add_bytes C) o2 o3
-      → Writes (end_merged k) o3 o4 → Adding true (tok (A ++ (B ++ C)) k ∷ []) o o4
-  three_pieces A B C k f g h e = record {
-    same = same_more f.same (same_more g.same (same_more h.same e.same));
-    adds = λ M ts q. rw (merge_snoc ts (tok (A ++ (B ++ C)) k), ← append_assoc A B C)
-        (e.holds (add_bytes C (add_bytes B (add_bytes A (opened M (merge ts))))) (h.holds (add_bytes B (add_bytes A (opened M (merge ts)))) (g.holds (add_bytes A (opened M (merge ts))) (f.holds (opened M (merge ts)) q))));
-  }
+  three_pieces : (A B C : List ℕ) (k : ℕ) → Writes text_lent (add_bytes A) o o1 → Writes text_lent (add_bytes B) o1 o2
+      → Writes text_lent (add_bytes C) o2 o3 → Writes tokens_lent (end_merged k) o3 o4 → Adding true (tok (A ++ (B ++ C)) k ∷ []) o o4
+  three_pieces A B C k f g h e =
+      let w = in_turn (text_alone f) (in_turn (text_alone g) (in_turn (text_alone h) (tokens_alone e))) in
+      record {
+        same = w.same;
+        kept = w.kept;
+        adds = λ c M ts q. rw (merge_snoc ts (tok (A ++ (B ++ C)) k), ← append_assoc A B C) (w.holds c (opened M (merge ts)) q);
+      }
 
   module _ (s : List ℕ) (k : ℕ) (f : Place) (A R C : List ℕ) where
     pub adds_flipped : A ≡ part 0 f.byte s → R ≡ part f.byte (length s) s → (v : ℕ) → v ≡ width f.which → C ≡ part v (length R) R
-        → Writes (add_bytes A) o o1 → Writes (add_bytes (flipped f.which)) o1 o2 → Writes (add_bytes C) o2 o3
-        → Writes (end_merged k) o3 o4 → Adding true (flip (found_of f) (tok s k) ∷ []) o o4
+        → Writes text_lent (add_bytes A) o o1 → Writes text_lent (add_bytes (flipped f.which)) o1 o2 → Writes text_lent (add_bytes C) o2 o3
+        → Writes tokens_lent (end_merged k) o3 o4 → Adding true (flip (found_of f) (tok s k) ∷ []) o o4
     adds_flipped a r v d q e₁ g h e =
         let x : A ≡ take f.byte s = a ∙ rw (sub-zero f.byte) in
         let y : C ≡ drop (width f.which) (drop f.byte s) = q ∙ part_tail R v ∙ rw (d, r, part_tail s f.byte) in
@@ -121,8 +123,8 @@ module _ (l : Line) (m : ℕ) (r : Option Place) where
   unfolding negation
   adds_flip f q a = rw q (rw q at a)
 
-  pub adds_around : {o o1 o2 o3 : Writer} → r ≡ None → Writes (add_merged (ascii "!(") Punct) o o1
-      → Adding true (whole (map (negated_token l m r) (range 0 m))) o1 o2 → Writes (add_merged (ascii ")") Punct) o2 o3 → Adding true (negation l m r) o o3
+  pub adds_around : {o o1 o2 o3 : Writer} → r ≡ None → Writes open_lent (add_merged (ascii "!(") Punct) o o1
+      → Adding true (whole (map (negated_token l m r) (range 0 m))) o1 o2 → Writes open_lent (add_merged (ascii ")") Punct) o2 o3 → Adding true (negation l m r) o o3
   unfolding negation negated_token test_from
   adds_around q f a g =
       let k : List Token = whole (test_tokens l m) in

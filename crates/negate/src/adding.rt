@@ -8,7 +8,7 @@ ghost use Rattle.definitions.specs.Model.{tok, line};
 ghost use Rattle.definitions.specs.Condition.{flip, negate_cond};
 ghost use Rattle.model.specs.Listings.{listing_of};
 ghost use Rattle.write.specs.State.{add_bytes};
-ghost use Rattle.write.specs.Holds.{Writes};
+ghost use Rattle.write.specs.Holds.{text_lent, Writes};
 ghost use Rattle.negate.specs.Tests.{test};
 ghost use Rattle.negate.specs.Comparisons.{found_of, flipped, negated_token};
 ghost use Rattle.append.specs.Adds.{Adding, whole};
@@ -20,7 +20,7 @@ use write::Writer;
 
 // Appends what comparison w is flipped to to the open token.
 fn add_flipped(out: &mut Writer, w: Comparison)
-    ensures { Writes (add_bytes (flipped w)) out.old out.new }
+    ensures { Writes text_lent (add_bytes (flipped w)) out.old out.new }
 {
     match w {
         Comparison::Equal => out.add_bytes(b" != "),

@@ -6,7 +6,10 @@
 --   extension_none, extension_passed, extension_full    no last token, none in its column, no room for its new end
 --   bytes_added, token_ended, line_ended, token_extended    a step that writes
 --   apart                                       a token that joins no other
---   same_self, same_more, not_written           of the same columns
+--   same_self, same_more                        of the same columns
+--   text_alone, tokens_alone                    a function that is lent one column leaves the other of the two
+--   open_written, lines_written                 what is written, of all four columns
+--   in_turn                                     one step behind another
 --   nothing_held                                before the first step
 --   finished                                    zeros behind the cursor
 --   steps                                       the rules
@@ -26,7 +29,7 @@ use Rattle.definitions.specs.Statements.{joins}
 use Rattle.definitions.specs.Calls.{Columns, filled}
 use Rattle.text.specs.Zeroed.{zeroed}
 use Rattle.write.specs.State.{State, done, add_bytes, end_token, end_merged, end_line, merge_last, kinds_join, last_kind, written_tokens, written_bytes}
-use Rattle.write.specs.Holds.{columns, columns_of, Filled, Held, Room, Holds, Writing, Finished, Same, Writes}
+use Rattle.write.specs.Holds.{columns, columns_of, text_lent, tokens_lent, open_lent, lines_lent, Filled, Held, Room, Holds, Writing, Finished, Same, Writes}
 use Rattle.write.specs.declared.Cursor.{Cursor}
 use Rattle.write.specs.declared.Writer.{Writer}
 use Rattle.write.proofs.Words.{text_append, text_snoc, all_tokens_snoc, token_words_snoc, line_words_snoc, address_words_snoc, length_token_words, length_line_words, filled_start, filled_push, filled_within, filled_last}
@@ -269,15 +272,15 @@ apart_any (t ∷ T) u j =
     subst (λ (T : List Token). kinds_join (last_kind T) u.kind ≡ false → merge_last T u ≡ T ++ (u ∷ [])) (sym v.2)
     (λ j. merge_last_snoc v.0 v.1 u ∙ rw (glue_apart v.1 u [] (rw (last_snoc v.0 v.1) at j), append_assoc)) j
 
-pub apart : {w w' : Writer} (k : ℕ) (j : Bool) → j ≡ kinds_join w.written.last k → j ≡ false → Writes (end_token k) w w' → Writes (end_merged k) w w'
+pub apart : {w w' : Writer} (k : ℕ) (j : Bool) → j ≡ kinds_join w.written.last k → j ≡ false → Writes tokens_lent (end_token k) w w' → Writes tokens_lent (end_merged k) w w'
 apart k j is f writes = record {
   same = writes.same;
-  holds = λ s h. record {
+  kept = writes.kept;
+  holds = λ o s h. record {
     given = λ r.
-        let e = writes.same in
-        let held = h.given (room_before (grows_merged s k) (record { lines = e.lines_length; addresses = e.addresses_length; tokens = e.tokens_length; text = e.text_length }) r) in
+        let held = h.given (room_before (grows_merged s k) (record { lines = refl; addresses = refl; tokens = writes.same.tokens_length; text = refl }) r) in
         let q = apart_any s.tokens (tok s.bytes k) (rw (← held.last) (sym is ∙ f)) in
-        rw q ((writes.holds s h).given (rw q at r));
+        rw q ((writes.holds o s h).given (rw q at r));
   };
 }
 
@@ -307,8 +310,38 @@ same_more a b = record {
   text_length = b.text_length ∙ a.text_length;
 }
 
-pub not_written : {f : State → State} {w : Writer} → Writing f (columns_of w) w.written (columns_of w) w.written → Writes f w w
-not_written {f} {w} h = record { same = same_self w; holds = h }
+-- what a function that is lent a column alone leaves of another
+module _ {f : State → State} {w w' : Writer} where
+  pub text_alone : Writes text_lent f w w' → Writes open_lent f w w'
+  text_alone h = record {
+    same = h.same;
+    kept = ap (λ (o : Columns). open_lent o w') h.kept;
+    holds = λ o. subst (λ (t : List ℕ). Writing f (open_lent o w) w.written (columns o.lines o.addresses t w'.text.now) w'.written)
+        (sym (ap (λ (o : Columns). o.tokens) h.kept)) (h.holds (open_lent o w));
+  }
+
+  pub tokens_alone : Writes tokens_lent f w w' → Writes open_lent f w w'
+  tokens_alone h = record {
+    same = h.same;
+    kept = ap (λ (o : Columns). open_lent o w') h.kept;
+    holds = λ o. subst (λ (x : List ℕ). Writing f (open_lent o w) w.written (columns o.lines o.addresses w'.tokens.now x) w'.written)
+        (sym (ap (λ (o : Columns). o.text) h.kept)) (h.holds (open_lent o w));
+  }
+
+  -- and of all four
+  pub open_written : Writes open_lent f w w' → Writing f (columns_of w) w.written (columns_of w') w'.written
+  open_written h = subst (λ (o : Columns). Writing f (columns_of w) w.written o w'.written) (sym h.kept) (h.holds (columns_of w))
+
+  pub lines_written : Writes lines_lent f w w' → Writing f (columns_of w) w.written (columns_of w') w'.written
+  lines_written h = subst (λ (o : Columns). Writing f (columns_of w) w.written o w'.written) (sym h.kept) (h.holds (columns_of w))
+
+-- one step behind another
+pub in_turn : {f g : State → State} {u v w : Writer} → Writes open_lent f u v → Writes open_lent g v w → Writes open_lent (λ s. g (f s)) u w
+in_turn {f} {w = w} a b = record {
+  same = same_more a.same b.same;
+  kept = b.kept ∙ ap (λ (o : Columns). open_lent o w) a.kept;
+  holds = λ o s h. b.holds o (f s) (a.holds o s h);
+}
 
 -- The first and the last
 

@@ -8,7 +8,11 @@
 --   Finished M out c out'  the columns are those of the listing M and zeros, and the cursor has its counts
 --   columns_of w           the columns of a destination
 --   Same w w'              they are the same columns, of the same lengths
---   Writes f w w'          what held a state holds f of it
+--   text_lent o w          the columns o, but the text that of w; so what a function that is lent the text alone may change
+--   tokens_lent o w        the same of the tokens
+--   open_lent o w          the same of the tokens and the text
+--   lines_lent o w         the same of the lines and the addresses
+--   Writes lent f w w'     what held a state holds f of it, whatever the columns that are not lent; these stay as they are
 --   Finishes w w'          zeros are behind what is written
 -- Assumes nothing.
 use Rattle.std.specs.Prelude.{ℕ, ◌≤◌, ◌<◌, ◌≡◌, List, length, take}
@@ -71,9 +75,23 @@ pub record Same (w w' : Writer) : Type 0 where
   pub tokens_length : length w'.tokens.now ≡ length w.tokens.now
   pub text_length : length w'.text.now ≡ length w.text.now
 
-pub record Writes (f : State → State) (w w' : Writer) : Type 0 where
+-- what is lent
+abbrev pub text_lent : Columns → Writer → Columns
+text_lent o w = columns o.lines o.addresses o.tokens w.text.now
+
+abbrev pub tokens_lent : Columns → Writer → Columns
+tokens_lent o w = columns o.lines o.addresses w.tokens.now o.text
+
+abbrev pub open_lent : Columns → Writer → Columns
+open_lent o w = columns o.lines o.addresses w.tokens.now w.text.now
+
+abbrev pub lines_lent : Columns → Writer → Columns
+lines_lent o w = columns w.lines.now w.addresses.now o.tokens o.text
+
+pub record Writes (lent : Columns → Writer → Columns) (f : State → State) (w w' : Writer) : Type 0 where
   pub same : Same w w'
-  pub holds : Writing f (columns_of w) w.written (columns_of w') w'.written
+  pub kept : columns_of w' ≡ lent (columns_of w) w'
+  pub holds : (o : Columns) → Writing f (lent o w) w.written (lent o w') w'.written
 
 pub record Finishes (w w' : Writer) : Type 0 where
   pub same : Same w w'

@@ -11,8 +11,9 @@
 
 ghost use Rattle.std.specs.Prelude.{if◌then◌else◌, ◌≡◌, true, List, [], ◌++◌, ℕ, ◌+◌, ◌<◌, ◌≤◌, length, take};
 ghost use Rattle.definitions.specs.Lists.{is_some};
-ghost use Rattle.write.specs.State.{add_bytes, end_token, end_merged, add_token, add_merged, end_line, done, kinds_join};
-ghost use Rattle.write.specs.Holds.{columns, Filled, Holds, Writes, Finishes};
+ghost use Rattle.definitions.specs.Calls.{Columns};
+ghost use Rattle.write.specs.State.{State, add_bytes, end_token, end_merged, add_token, add_merged, end_line, done, kinds_join};
+ghost use Rattle.write.specs.Holds.{columns, columns_of, text_lent, tokens_lent, open_lent, lines_lent, Filled, Holds, Same, Writes, Finishes};
 
 use model::kind::Kind;
 
@@ -83,7 +84,7 @@ fn flag(addr: Option<u64>) -> usize
 impl Writer<'_> {
     // Appends bytes to the open token.
     pub fn add_bytes(&mut self, bytes: &[u8])
-        ensures { Writes (add_bytes bytes.now) self.old self.new }
+        ensures { Writes text_lent (add_bytes bytes.now) self.old self.new }
     {
         let from = self.written.text;
         if self.text.len() < from || self.text.len() - from < bytes.len() {
@@ -96,7 +97,7 @@ impl Writer<'_> {
     // Ends the open token.
     fn end_token(&mut self, kind: usize)
         requires { kind < 256 }
-        ensures { Writes (end_token kind) self.old self.new }
+        ensures { Writes tokens_lent (end_token kind) self.old self.new }
     {
         let k = self.written.tokens;
         let end = self.written.text;
@@ -109,10 +110,14 @@ impl Writer<'_> {
         self.written.last = kind;
     }
 
-    // Ends the open token as the end of the last one, which is of the kind.
+    // Ends the open token as the end of the last one, where that is of the kind.
     fn extend_token(&mut self, kind: usize)
-        requires { (kind < 256) × (kinds_join self.old.written.last kind ≡ true) }
-        ensures { Writes (end_merged kind) self.old self.new }
+        requires { kind < 256 }
+        ensures same { Same self.old self.new }
+        ensures kept { columns_of self.new ≡ tokens_lent (columns_of self.old) self.new }
+        ensures written { self.new.written ≡ self.old.written }
+        ensures holds { (o : Columns) (s : State) → kinds_join self.old.written.last kind ≡ true
+            → Holds s (tokens_lent o self.old) self.old.written → Holds (end_merged kind s) (tokens_lent o self.new) self.old.written }
     {
         let k = self.written.tokens;
         let end = self.written.text;
@@ -126,7 +131,7 @@ impl Writer<'_> {
     // Ends the open token, which joins the last one where `merge` joins them.
     pub fn end_merged(&mut self, kind: usize)
         requires { kind < 256 }
-        ensures { Writes (end_merged kind) self.old self.new }
+        ensures { Writes tokens_lent (end_merged kind) self.old self.new }
     {
         if joins(self.written.last, kind) {
             self.extend_token(kind);
@@ -138,7 +143,7 @@ impl Writer<'_> {
     // Appends a token.
     pub fn add_token(&mut self, bytes: &[u8], kind: usize)
         requires { kind < 256 }
-        ensures { Writes (add_token bytes.now kind) self.old self.new }
+        ensures { Writes open_lent (add_token bytes.now kind) self.old self.new }
     {
         self.add_bytes(bytes);
         self.end_token(kind);
@@ -147,7 +152,7 @@ impl Writer<'_> {
     // Appends a token, which joins the last one where `merge` joins them.
     pub fn add_merged(&mut self, bytes: &[u8], kind: usize)
         requires { kind < 256 }
-        ensures { Writes (add_merged bytes.now kind) self.old self.new }
+        ensures { Writes open_lent (add_merged bytes.now kind) self.old self.new }
     {
         self.add_bytes(bytes);
         self.end_merged(kind);
@@ -156,7 +161,7 @@ impl Writer<'_> {
     // Ends the open line.
     pub fn end_line(&mut self, addr: Option<u64>, indent: usize)
         requires { indent < 256 }
-        ensures { Writes (end_line addr indent) self.old self.new }
+        ensures { Writes lines_lent (end_line addr indent) self.old self.new }
     {
         let k = self.written.lines;
         let end = self.written.tokens;

@@ -18,9 +18,10 @@ use Rattle.model.specs.Places.{token_start, start_from}
 use Rattle.model.proofs.Decode.{start_pred, token_at, length_tokens}
 use Rattle.model.proofs.Formed.{run_text, token_within}
 use Rattle.write.specs.State.{State, add_bytes, last_kind, written_tokens, written_bytes}
-use Rattle.write.specs.Holds.{columns, columns_of, Filled, Held, Room, Writes}
+use Rattle.write.specs.Holds.{columns, text_lent, open_lent, Filled, Held, Room, Writes}
 use Rattle.write.specs.declared.Cursor.{Cursor}
 use Rattle.write.specs.declared.Writer.{Writer}
+use Rattle.write.proofs.Steps.{text_alone}
 use Rattle.write.proofs.Words.{text_append, length_token_words}
 use Rattle.write_run.specs.Runs.{moved, add_run, Running}
 use Rattle.write_run.proofs.Moving.{starts_rise, run_words}
@@ -166,22 +167,30 @@ module _ (t x : List ℕ) (ok : covers 256 0 t (length x) ≡ true) (f e : ℕ) 
         → Running (part f e (token_list t x)) (columns l a w b) c (columns l a w b) c
     run_ends_full a₁ e₁ p q g m = no_run (λ s r held none. omega (arith, low s none r held, p, q))
 
-  module _ (u v : Writer) (t' y : List ℕ) (a₁ e₁ z : ℕ) (p : a₁ ≡ token_start t f) (q : e₁ ≡ token_start t e)
+  module _ (o : Columns) (u v : Writer) (t' y : List ℕ) (a₁ e₁ z : ℕ) (p : a₁ ≡ token_start t f) (q : e₁ ≡ token_start t e)
       (st : length t' ≡ length v.tokens.now) (yy : y ≡ part a₁ e₁ x) (zz : z ≡ get_or t (e - 1) 0) where
-    pub run_added : Writes (add_bytes y) u v
+    abbrev before_bytes : Columns
+    before_bytes = open_lent o u
+
+    abbrev behind : Columns
+    behind = columns o.lines o.addresses v.tokens.now v.text.now
+
+    abbrev moved_behind : Columns
+    moved_behind = columns o.lines o.addresses t' v.text.now
+
+    pub run_added : Writes text_lent (add_bytes y) u v
         → Filled (take u.written.tokens v.tokens.now ++ map (moved a₁ u.written.text) (part f e t)) (u.written.tokens + length (part f e t)) t'
-        → Running (part f e (token_list t x)) (columns_of u) u.written (columns v.lines.now v.addresses.now t' v.text.now)
+        → Running (part f e (token_list t x)) before_bytes u.written moved_behind
         (record { lines = v.written.lines; tokens = u.written.tokens + (e - f); text = v.written.text; last = z % 256 })
     run_added writes moves s none holds = record {
       given = λ r.
           let us : List Token = part f e (token_list t x) in
-          let w = writes.same in
+          let w = text_alone writes in
           let ty : y ≡ text us = yy ∙ rw (p, q) (sym (run_text t x ok f e (omega arith) k)) in
-          let held = holds.given (room_before us s none (columns_of u) (columns v.lines.now v.addresses.now t' v.text.now)
-          (record { lines = w.lines_length; addresses = w.addresses_length; tokens = st ∙ w.tokens_length; text = w.text_length }) r) in
-          let room = room_bytes us s none (columns_of v) (columns v.lines.now v.addresses.now t' v.text.now)
-          (record { lines = refl; addresses = refl; tokens = st; text = refl }) r in
-          let after = (writes.holds s holds).given (rw ty room) in
+          let held = holds.given (room_before us s none before_bytes moved_behind
+          (record { lines = refl; addresses = refl; tokens = st ∙ w.same.tokens_length; text = w.same.text_length }) r) in
+          let room = room_bytes us s none behind moved_behind (record { lines = refl; addresses = refl; tokens = st; text = refl }) r in
+          let after = (w.holds o s holds).given (rw ty room) in
           record {
             lines = after.lines;
             addresses = after.addresses;
@@ -191,7 +200,7 @@ module _ (t x : List ℕ) (ok : covers 256 0 t (length x) ≡ true) (f e : ℕ) 
           };
     }
       where
-        filled : (s : State) → s.bytes ≡ [] → Held s (columns_of u) u.written → Held (add_bytes y s) (columns_of v) v.written
+        filled : (s : State) → s.bytes ≡ [] → Held s before_bytes u.written → Held (add_bytes y s) behind v.written
             → Filled (token_words_from 0 (written_tokens (add_run (part f e (token_list t x)) s))) (u.written.tokens + (e - f)) t'
         filled s none held after =
             let us : List Token = part f e (token_list t x) in

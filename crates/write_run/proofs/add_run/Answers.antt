@@ -3,8 +3,10 @@
 use native.Mathlib.Omega.{arith}
 use lib.ListN.{length-take, length-drop}
 use Rattle.write_run.proofs.Running.{run_start, run_within, run_words_full, run_words_short, run_ends_passed, run_ends_full, run_added}
-use mathlib.Core.Path.{◌∙◌}
+use mathlib.Core.Path.{refl, ap, ◌∙◌}
 use borrow.Author.Rules.{rules}
+use Rattle.definitions.specs.Calls.{Columns}
+use Rattle.write.specs.Holds.{columns}
 use Rattle.write.proofs.Steps.{same_self}
 use Rattle.write_run.proofs.add_run.Goals as goal
 
@@ -13,7 +15,8 @@ returns-then-out-k c =
     let a = c.args in
     record {
       same = same_self _;
-      runs = elim c.then-out-k.branch [
+      kept = refl;
+      runs = λ o. elim c.then-out-k.branch [
         | goal.then-out-k-via-then-out-k w ↦ run_words_full a.code.now.tokens.now a.code.now.text.now c.requires.2 a.from a.to c.requires.0 c.requires.1 _ _ _ _ _ w.if-out-k.true
         | goal.then-out-k-via-else-out-k+then-out-k-2 w ↦ run_words_short a.code.now.tokens.now a.code.now.text.now c.requires.2 a.from a.to c.requires.0 c.requires.1 _ _ _ _ _ w.if-out-k-2.true
       ];
@@ -24,7 +27,8 @@ returns-then-b-ge-MOST_BYTES c =
     let a = c.args in
     record {
       same = same_self _;
-      runs = elim c.then-b-ge-MOST_BYTES.branch [
+      kept = refl;
+      runs = λ o. elim c.then-b-ge-MOST_BYTES.branch [
         | goal.then-b-ge-MOST_BYTES-via-then-b-ge-MOST_BYTES w ↦ run_ends_passed a.code.now.tokens.now a.code.now.text.now c.requires.2 a.from a.to c.requires.0 c.requires.1 _ _ _ _ _ w.if-b-ge-MOST_BYTES.true
         | goal.then-b-ge-MOST_BYTES-via-else-b-ge-MOST_BYTES+then-b-e w ↦ run_ends_full a.code.now.tokens.now a.code.now.text.now c.requires.2 a.from a.to c.requires.0 c.requires.1 _ _ _ _ _ _ _ c.token_start-a.ensures c.token_start-e.ensures w.if-b-ge-MOST_BYTES.false w.if-b-e.true
       ];
@@ -54,6 +58,7 @@ returns c =
         tokens_length = c.move_words.auto.words ∙ w.tokens_length;
         text_length = w.text_length;
       };
-      runs = run_added a.code.now.tokens.now a.code.now.text.now c.requires.2 a.from a.to c.requires.0 c.requires.1 _ _ _ _ _ _ _
+      kept = ap (λ (o : Columns). columns o.lines o.addresses c.move_words.new.words c.add_bytes.new.self.text.now) c.add_bytes.ensures.kept;
+      runs = λ o. run_added a.code.now.tokens.now a.code.now.text.now c.requires.2 a.from a.to c.requires.0 c.requires.1 o _ _ _ _ _ _ _
           c.token_start-a.ensures c.token_start-e.ensures c.move_words.auto.words c.part.ensures c.word.ensures c.add_bytes.ensures c.move_words.ensures;
     }
