@@ -40,7 +40,7 @@ module _ (l t x : List ℕ) (i s e : ℕ) (p : s ≡ line_start l i) (q : e ≡ 
     kept_none h = adds_as (sym (tokens_part ∙ part_none (token_list t x) s e h)) adds_none
 
     pub kept_run : (w' : Writer) → Runs (part s e (token_list t x)) w w' → Adding false (line (listing l t x) i).tokens w w'
-    kept_run w' r = adds_as (sym tokens_part) (record { same = r.same; adds = λ M ts h. r.runs _ refl h })
+    kept_run w' r = adds_as (sym tokens_part) (record { same = r.same; kept = r.kept; adds = λ o M ts h. r.runs o _ refl h })
 
 pub kept_as_piece : (l t x : List ℕ) (p i : ℕ) (w w' : Writer) → Says p (Kept i)
     → Adding false (line (listing l t x) i).tokens w w' → Adding false (piece (listing l t x) p).tokens w w'

@@ -24,11 +24,12 @@ use Rattle.definitions.specs.Condition.{condition}
 use Rattle.definitions.specs.ToFor.{for_head}
 use Rattle.definitions.specs.Passes.{while_head}
 use Rattle.definitions.specs.RecoverGotoLoops.{leading_test, one}
+use Rattle.definitions.specs.Calls.{Columns}
 use Rattle.loop_theory.proofs.Cases.{and_split}
 use Rattle.write.specs.State.{done, end_line}
-use Rattle.write.specs.Holds.{columns_of, Holds, Writes}
+use Rattle.write.specs.Holds.{columns_of, open_lent, lines_lent, Holds, Writes}
 use Rattle.write.specs.declared.Writer.{Writer}
-use Rattle.write.proofs.Steps.{same_more}
+use Rattle.write.proofs.Steps.{same_more, lines_written}
 use Rattle.plan.specs.Plan.{Form, Form.kept, Form.continued, Form.broken, Form.closed, Piece, Test, Test.guard, Test.always, Test.leading, Header, Header.no_header, Header.while_over, Header.for_over, form_of, form_tokens, piece_of, piece_tokens, test_tokens, while_tokens, header_tokens, header_of, indent_at, header_at, piece_at, test_at, initialiser_at, step_at, planned, plan_of, line_of, render}
 use Rattle.plan.specs.Changes.{is_loop, is_plain, is_line, is_goto}
 use Rattle.plan.specs.Source.{Source}
@@ -101,13 +102,15 @@ module _ {ts us : List Token} {u v : Writer} where
   begins_plain : us ≡ ts → Adding false us u v → Begins ts u v
   begins_plain e a = record {
     same = a.same;
-    begins = λ M g. subst (λ ys. Holds (opened M ys) (columns_of v) v.written) e (a.adds M [] g);
+    kept = a.kept;
+    begins = λ o M g. subst (λ ys. Holds (opened M ys) (open_lent o v) v.written) e (a.adds o M [] g);
   }
 
   begins_merged : merge us ≡ ts → Adding true us u v → Begins ts u v
   begins_merged e a = record {
     same = a.same;
-    begins = λ M g. subst (λ ys. Holds (opened M ys) (columns_of v) v.written) e (a.adds M [] (unfold merge in g));
+    kept = a.kept;
+    begins = λ o M g. subst (λ ys. Holds (opened M ys) (open_lent o v) v.written) e (a.adds o M [] (unfold merge in g));
   }
 
 module _ (C : List Line) (w : ℕ) (k : is_sound w ≡ true) {out out' : Writer} where
@@ -187,7 +190,7 @@ line_parts S w = refl
 pub line_ended : (l a t x : List ℕ) (w : ℕ) → length a ≡ length l → {out₀ out₁ out₂ : Writer}
     → Begins (line_of (listing l t x) w).tokens out₀ out₁
     → (s i : ℕ) (o : Option ℕ) → s ≡ piece_at w / 4 → i ≡ indent_at w → o ≡ (line (with_addresses l a (listing l t x)) s).address
-    → Writes (end_line o i) out₁ out₂ → LineAdded (line_of (with_addresses l a (listing l t x)) w) out₀ out₂
+    → Writes lines_lent (end_line o i) out₁ out₂ → LineAdded (line_of (with_addresses l a (listing l t x)) w) out₀ out₂
 line_ended l a t x w q {out₀} {out₁} {out₂} b s i o u v g f =
     let S = with_addresses l a (listing l t x) in
     let ts = (line_of (listing l t x) w).tokens in
@@ -196,7 +199,10 @@ line_ended l a t x w q {out₀} {out₁} {out₂} b s i o u v g f =
     ∙ (ap (pseudo_line (line S (piece_at w / 4)).address (indent_at w)) (sym (tokens_same S l t x (columns_source l a t x q) w)) ∙ sym (line_parts S w)) in
     record {
       same = same_more b.same f.same;
-      added = λ M h. subst (λ m. Holds (done (M ++ (m ∷ []))) (columns_of out₂) out₂.written) same (f.holds (opened M ts) (b.begins M h));
+      added = λ M h.
+          let k : Holds (opened M ts) (columns_of out₁) out₁.written =
+          subst (λ (o : Columns). Holds (opened M ts) o out₁.written) (sym b.kept) (b.begins (columns_of out₀) M h) in
+          subst (λ m. Holds (done (M ++ (m ∷ []))) (columns_of out₂) out₂.written) same (lines_written f (opened M ts) k);
     }
 
 -- All lines

@@ -9,8 +9,6 @@ ghost use Rattle.definitions.specs.Passes.{while_head};
 ghost use Rattle.model.specs.Listings.{listing_of};
 ghost use Rattle.plan.specs.Plan.{line_of, render, header_at, piece_at, test_at, initialiser_at, step_at};
 ghost use Rattle.pieces.specs.Pieces.{piece};
-ghost use Rattle.write.specs.State.{done};
-ghost use Rattle.write.specs.Holds.{columns_of, Holds};
 ghost use Rattle.append.specs.Adds.{Adding};
 ghost use Rattle.emit.specs.Lines.{is_sound, test_read, for_start, for_end, Begins, LineAdded, Emits};
 
@@ -102,15 +100,15 @@ fn emit_line(out: &mut Writer, code: &Listing, addresses: &[u64], w: usize)
     out.end_line(a, plan::indent(w));
 }
 
-// The lines that the words of the plan stand for. Nothing is written before.
+// The lines that the words of the plan stand for, and nothing before them.
 pub fn emit(out: &mut Writer, code: &Listing, addresses: &[u64], plan: &[usize])
     requires plan_value { (all is_sound plan.now ≡ true) × (length addresses.now ≡ length code.now.lines.now) }
     requires text_value { question_2 code.now.lines.now code.now.tokens.now code.now.text.now ≡ true }
-    requires start { Holds (done []) (columns_of out.old) out.old.written }
     ensures { let l = code.now.lines.now in
         let S = with_addresses l addresses.now (listing l code.now.tokens.now code.now.text.now) in
         Emits (render S plan.now) out.old out.new }
 {
+    out.written = write::start();
     for w in plan {
         emit_line(out, code, addresses, *w);
     }

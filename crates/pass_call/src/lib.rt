@@ -6,7 +6,7 @@
 
 #![tactic(auto)]
 
-ghost use Rattle.std.specs.Prelude.{◌≡◌, true, ◌&&◌, List, [], ◌≤◌, eqb, length, None, Ok, IfErr};
+ghost use Rattle.std.specs.Prelude.{◌≡◌, true, ◌&&◌, List, ◌≤◌, eqb, length, None, Ok, IfErr};
 ghost use Rattle.definitions.specs.Lists.{all};
 ghost use Rattle.definitions.specs.Model.{Line};
 ghost use Rattle.definitions.specs.Questions.{question_2};
@@ -18,8 +18,7 @@ ghost use Rattle.plan.specs.Plan.{render};
 ghost use Rattle.plan.specs.Source.{Source};
 ghost use Rattle.plan.specs.Planned.{planned};
 ghost use Rattle.emit.specs.Lines.{is_sound};
-ghost use Rattle.write.specs.State.{done};
-ghost use Rattle.write.specs.Holds.{columns, columns_of, Holds, Same};
+ghost use Rattle.write.specs.Holds.{columns, columns_of, Same};
 ghost use Rattle.pass_call.specs.Answers.{passed_with, pass_questions, source, Writable, InRoom, Emitted, Leaves, Answers};
 
 use model::listing::Listing;
@@ -118,7 +117,6 @@ fn zero_all(out: &mut Writer)
 // The lines of the plan written, and zeros behind them; answers how many lines, tokens and bytes are written.
 fn written(out: &mut Writer, code: &Listing, addresses: &[u64], plan: &[usize]) -> Limits
     requires sound { all is_sound plan.now ≡ true }
-    requires start { Holds (done []) (columns_of out.old) out.old.written }
     requires fact { let c = columns code.now.lines.now addresses.now code.now.tokens.now code.now.text.now in
         Writable c (columns_of out.old) (render (source c) plan.now) }
     ensures { let c = columns code.now.lines.now addresses.now code.now.tokens.now code.now.text.now in
@@ -140,7 +138,6 @@ fn passed_in<P: Pass, const N: usize>(
     addresses: &[u64],
 ) -> Result<Limits, Refusal>
     requires lines_in_bounds { (length code.now.lines.now ≤ N) × (N ≤ 1024) }
-    requires start { Holds (done []) (columns_of out.old) out.old.written }
     requires yes { pass_refusal (columns code.now.lines.now addresses.now code.now.tokens.now code.now.text.now) (columns_of out.old) ≡ None }
     ensures { let c = columns code.now.lines.now addresses.now code.now.tokens.now code.now.text.now in
         Answers result (pass_call (λ L. rewritten (P.made L)) c (columns_of out.old)) out.old out.new }
@@ -153,9 +150,8 @@ fn passed_in<P: Pass, const N: usize>(
     Ok(written(out, code, addresses, &plan[..n]))
 }
 
-// The call of the pass, to a destination to which nothing is written yet. A listing of at most 64 lines has a shorter array to zero.
+// The call of the pass. What the destination had is written over. A listing of at most 64 lines has a shorter array to zero.
 pub fn call<P: Pass>(out: &mut Writer, code: &Listing, addresses: &[u64]) -> Result<Limits, Refusal>
-    requires { Holds (done []) (columns_of out.old) out.old.written }
     ensures same { Same out.old out.new }
     ensures passed { let c = columns code.now.lines.now addresses.now code.now.tokens.now code.now.text.now in
         passed_with result (columns_of out.new) ≡ pass_call (λ L. rewritten (P.made L)) c (columns_of out.old) }

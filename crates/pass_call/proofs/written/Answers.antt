@@ -9,7 +9,7 @@ emit-requires c =
     let a = c.args in
     let p = c.requires in
     let q = asked_all (columns a.code.now.lines.now a.addresses.now a.code.now.tokens.now a.code.now.text.now) (columns_of a.out.now) p.fact.asked in
-    record { plan_value = (p.sound, q.1); text_value = q.2; start = p.start }
+    record { plan_value = (p.sound, q.1); text_value = q.2 }
 
 pub returns : goal.returns
 returns c =

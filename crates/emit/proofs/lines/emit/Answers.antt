@@ -1,9 +1,9 @@
-use Rattle.write.proofs.Steps.{same_self}
+use borrow.Author.Rules.{rules}
 use Rattle.emit.proofs.Planned.{word_sound, emitted_next, emitted_end}
 use Rattle.emit.proofs.lines.emit.Goals as goal
 
 pub loop-w-init : goal.loop-w-init
-loop-w-init c = record { same = same_self _; holds = c.requires.start }
+loop-w-init c = record { same = search rules; holds = c.start-out.ensures _ _ _ _ }
 
 pub emit_line-requires : goal.emit_line-requires
 emit_line-requires c = let p = c.requires in record { w_value = (word_sound _ _ p.plan_value.0 c.loop-w-test.true, p.plan_value.1); text_value = p.text_value }
