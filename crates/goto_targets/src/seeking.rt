@@ -47,7 +47,7 @@ fn is_goto(kind: usize, t: &[u8]) -> bool
 }
 
 // One token more, of this kind and with the text t.
-fn step<'a>(kind: usize, t: &'a [u8], s: State<'a>) -> State<'a>
+pub fn step<'a>(kind: usize, t: &'a [u8], s: State<'a>) -> State<'a>
     ensures { told result ≡ step (told s.entry) (tok t.now kind) }
 {
     match s {

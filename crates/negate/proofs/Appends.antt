@@ -26,7 +26,7 @@ use Rattle.write.specs.Holds.{text_lent, tokens_lent, open_lent, Writes}
 use Rattle.write.specs.declared.Writer.{Writer}
 use Rattle.write.proofs.Steps.{text_alone, tokens_alone, in_turn}
 use Rattle.write.proofs.Merging.{merge_snoc}
-use Rattle.negate.specs.Comparisons.{named, width, found_of, flipped, negated_token, negation}
+use Rattle.negate.specs.Comparisons.{named, op_width, found_of, flipped, negated_token, negation}
 use Rattle.negate.specs.Tests.{test_token, test_from, test_tokens}
 use Rattle.negate.specs.declared.comparison.Comparison.{Comparison as Which}
 use Rattle.negate.specs.declared.comparison.Found.{Found as Place}
@@ -41,8 +41,8 @@ module _ {o o1 : Writer} (w : Which) where
   pub flipped_arm : (v : Which) → w ≡ v → Writes text_lent (add_bytes (flipped v)) o o1 → Writes text_lent (add_bytes (flipped w)) o o1
   flipped_arm v e h = rw e h
 
-flip_pieces : (s : List ℕ) (k : ℕ) (f : Place) → tok (take f.byte s ++ (flipped f.which ++ drop (width f.which) (drop f.byte s))) k ≡ flip (found_of f) (tok s k)
-flip_pieces s k f = ap (λ (u : List ℕ). tok (take f.byte s ++ (flipped f.which ++ u)) k) (drop-drop (width f.which) f.byte s)
+flip_pieces : (s : List ℕ) (k : ℕ) (f : Place) → tok (take f.byte s ++ (flipped f.which ++ drop (op_width f.which) (drop f.byte s))) k ≡ flip (found_of f) (tok s k)
+flip_pieces s k f = ap (λ (u : List ℕ). tok (take f.byte s ++ (flipped f.which ++ u)) k) (drop-drop (op_width f.which) f.byte s)
 
 module _ {o o1 o2 o3 o4 : Writer} where
   three_pieces : (A B C : List ℕ) (k : ℕ) → Writes text_lent (add_bytes A) o o1 → Writes text_lent (add_bytes B) o1 o2
@@ -56,12 +56,12 @@ module _ {o o1 o2 o3 o4 : Writer} where
       }
 
   module _ (s : List ℕ) (k : ℕ) (f : Place) (A R C : List ℕ) where
-    pub adds_flipped : A ≡ part 0 f.byte s → R ≡ part f.byte (length s) s → (v : ℕ) → v ≡ width f.which → C ≡ part v (length R) R
+    pub adds_flipped : A ≡ part 0 f.byte s → R ≡ part f.byte (length s) s → (v : ℕ) → v ≡ op_width f.which → C ≡ part v (length R) R
         → Writes text_lent (add_bytes A) o o1 → Writes text_lent (add_bytes (flipped f.which)) o1 o2 → Writes text_lent (add_bytes C) o2 o3
         → Writes tokens_lent (end_merged k) o3 o4 → Adding true (flip (found_of f) (tok s k) ∷ []) o o4
     adds_flipped a r v d q e₁ g h e =
         let x : A ≡ take f.byte s = a ∙ rw (sub-zero f.byte) in
-        let y : C ≡ drop (width f.which) (drop f.byte s) = q ∙ part_tail R v ∙ rw (d, r, part_tail s f.byte) in
+        let y : C ≡ drop (op_width f.which) (drop f.byte s) = q ∙ part_tail R v ∙ rw (d, r, part_tail s f.byte) in
         adds_as (ap (λ (t : Token). t ∷ []) (ap₂ (λ (u z : List ℕ). tok (u ++ (flipped f.which ++ z)) k) x y ∙ flip_pieces s k f)) (three_pieces A (flipped f.which) C k e₁ g h e)
 
 -- The tokens of the condition

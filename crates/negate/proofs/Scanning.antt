@@ -1,6 +1,7 @@
 -- The scan for comparisons, as rules for `search`.
 --   comparison_0 .. comparison_5, comparison_none    the comparison that a text starts with
---   width_of                                         how many bytes it has
+--   op_width_of                                      how many bytes it has
+--   width_four, width_three, width_none              the same by its number
 --   logical_yes, logical_no, logical_deep            ` && ` and ` || `
 --   counts_here, counts_deep                         a comparison counts at depth 0
 --   bracket_open, bracket_close, bracket_other       one byte
@@ -34,7 +35,7 @@ use Rattle.text.proofs.Texts.{starts_short}
 use Rattle.loop_theory.proofs.Cases.{none_some, true_false, if_has}
 use Rattle.loop_theory.proofs.Comparisons.{find_passes, comparison_in}
 use Rattle.negate.specs.Tests.{test_token, test_from, test_tokens}
-use Rattle.negate.specs.Comparisons.{named, comparison_of, occurs, width, found_in}
+use Rattle.negate.specs.Comparisons.{named, comparison_of, numbered, occurs, width, op_width, found_in}
 use Rattle.negate.specs.declared.comparison.Comparison.{Comparison as Which}
 use Rattle.negate.specs.declared.comparison.Comparison.TheVariants.{Equal, Unequal, AtMost, AtLeast, Less, Greater}
 use Rattle.negate.proofs.TestTokens.{test_first, test_past}
@@ -81,8 +82,37 @@ module _ (s : List ℕ) (a : Bool) (p : a ≡ starts_with (ascii " == ") s) wher
 
 pub ruleset whiches = (comparison_0, comparison_1, comparison_2, comparison_3, comparison_4, comparison_5, comparison_none)
 
-pub width_of : (w v : Which) (r : ℕ) → w ≡ v → r ≡ width v → r ≡ width w
-width_of w v r e f = rw e f
+pub op_width_of : (w v : Which) (r : ℕ) → w ≡ v → r ≡ op_width v → r ≡ op_width w
+op_width_of w v r e f = rw e f
+
+-- by its number
+pub width_four : (w : ℕ) → w < 4 → 4 ≡ width w
+unfolding width numbered comparisons
+width_four zero h = refl
+width_four (suc zero) h = refl
+width_four (suc (suc zero)) h = refl
+width_four (suc (suc (suc zero))) h = refl
+width_four (suc (suc (suc (suc w)))) h = absurd (omega arith)
+
+pub width_three : (w : ℕ) → 4 ≤ w → w < 6 → 3 ≡ width w
+unfolding width numbered comparisons
+width_three zero g h = absurd (omega arith)
+width_three (suc zero) g h = absurd (omega arith)
+width_three (suc (suc zero)) g h = absurd (omega arith)
+width_three (suc (suc (suc zero))) g h = absurd (omega arith)
+width_three (suc (suc (suc (suc zero)))) g h = refl
+width_three (suc (suc (suc (suc (suc zero))))) g h = refl
+width_three (suc (suc (suc (suc (suc (suc w)))))) g h = absurd (omega arith)
+
+pub width_none : (w : ℕ) → 6 ≤ w → 0 ≡ width w
+unfolding width numbered comparisons
+width_none zero g = absurd (omega arith)
+width_none (suc zero) g = absurd (omega arith)
+width_none (suc (suc zero)) g = absurd (omega arith)
+width_none (suc (suc (suc zero))) g = absurd (omega arith)
+width_none (suc (suc (suc (suc zero)))) g = absurd (omega arith)
+width_none (suc (suc (suc (suc (suc zero))))) g = absurd (omega arith)
+width_none (suc (suc (suc (suc (suc (suc w)))))) g = refl
 
 pub named_long : (w : Which) → (1 ≤ length (named w).op) × (1 ≤ length (named w).flipped)
 unfolding named
@@ -172,7 +202,7 @@ module _ (s : List ℕ) (i : ℕ) (h : i < length s) (rest : List ℕ) (e : rest
     there : comparison_at rest r ≡ Some o
     there = sym c ∙ ap (option_map named) is
 
-    within : (v : ℕ) → v ≡ width x → (i < i + v) × (i + v ≤ length s)
+    within : (v : ℕ) → v ≡ op_width x → (i < i + v) × (i + v ≤ length s)
     within v q =
         let found : comparison_in rest ≡ Some o =
         if_has (λ x. x ≡ Some o → comparison_in rest ≡ Some o) (at_depth_0 r) (λ _ q. q) (λ _ q. none_some q) there in
@@ -187,14 +217,14 @@ module _ (s : List ℕ) (i : ℕ) (h : i < length s) (rest : List ℕ) (e : rest
             by (yes g) = (omega arith, omega arith)
             by (no g) = true_false starts (starts_short p rest (omega arith))
 
-    pub found_after : (v : ℕ) → v ≡ width x → i < i + v
+    pub found_after : (v : ℕ) → v ≡ op_width x → i < i + v
     found_after v q = (within v q).0
 
-    pub found_within : (v : ℕ) → v ≡ width x → i + v ≤ length s
+    pub found_within : (v : ℕ) → v ≡ op_width x → i + v ≤ length s
     found_within v q = (within v q).1
 
     module _ (place : ℕ) where
-      pub byte_found : n ≡ see_logical rest r → (v : ℕ) → v ≡ width x
+      pub byte_found : n ≡ see_logical rest r → (v : ℕ) → v ≡ op_width x
           → scan_text place i 0 (drop i s) r
           ≡ scan_text place (i + v) 0 (drop (i + v) s) (record { opened = n.opened; closed = n.closed; count = n.count + 1; found = Some (found_in place i (named x)) })
       byte_found g v q =

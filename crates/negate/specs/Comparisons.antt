@@ -1,8 +1,10 @@
 -- The one comparison of a condition as the code has it.
 --   named w               the comparison w of the definitions
+--   numbered w            comparison w of the six
 --   comparison_of s       the comparison that the text s starts with
 --   occurs b s            how often the byte b stands in s
---   width w               how many bytes it has
+--   width w               how many bytes comparison w of the six has, 0 where it is none
+--   op_width w            how many bytes the comparison w has
 --   found_of f            the comparison f, with its token and its byte
 --   seen r                what the scan has seen
 --   weight r              how much that is, for the bounds of its numbers
@@ -11,8 +13,8 @@
 --   negation l m o        the negated condition by the answer o
 -- Assumes nothing.
 use Rattle.std.specs.Option.{option_map}
-use Rattle.std.specs.Prelude.{if◌then◌else◌, ℕ, ◌+◌, List, ◌∷◌, ◌++◌, [], map, eqb, length, Option, None, Some}
-use Rattle.definitions.specs.Lists.{starts_with, ascii, find, count, range}
+use Rattle.std.specs.Prelude.{if◌then◌else◌, ℕ, ◌+◌, List, ◌∷◌, ◌++◌, [], map, eqb, length, Option, None, Some, slice_get}
+use Rattle.definitions.specs.Lists.{or_else, starts_with, ascii, find, count, range}
 use Rattle.definitions.specs.Model.{Token, Line, tok, Punct}
 use Rattle.definitions.specs.Statements.{merge}
 use Rattle.definitions.specs.Condition.{Comparison, comparison, comparisons, Found, Seen, flip}
@@ -31,14 +33,20 @@ named AtLeast = comparison " >= " " < "
 named Less = comparison " < " " >= "
 named Greater = comparison " > " " <= "
 
+unfoldable pub numbered : ℕ → Option Comparison
+numbered w = slice_get comparisons w
+
 unfoldable pub comparison_of : List ℕ → Option Comparison
 comparison_of s = find (λ c. starts_with c.op s) comparisons
 
 unfoldable pub occurs : ℕ → List ℕ → ℕ
 occurs b s = count (eqb b) s
 
-abbrev pub width : Which → ℕ
-width w = length (named w).op
+unfoldable pub width : ℕ → ℕ
+width w = or_else (option_map (λ o. length o.op) (numbered w)) 0
+
+abbrev pub op_width : Which → ℕ
+op_width w = length (named w).op
 
 abbrev pub found_in : ℕ → ℕ → Comparison → Found
 found_in p b o = record { place = p; pos = b; comparison = o }

@@ -13,7 +13,7 @@ ghost use Rattle.negate.specs.Tests.{test};
 ghost use Rattle.negate.specs.Comparisons.{found_of, flipped, negated_token};
 ghost use Rattle.append.specs.Adds.{Adding, whole};
 
-use crate::comparison::{Comparison, Found, only_comparison, width};
+use crate::comparison::{Comparison, Found, only_comparison};
 use crate::test::{test_count, test_kind, test_text};
 use model::listing::Listing;
 use write::Writer;
@@ -40,7 +40,7 @@ fn add_negated_token(out: &mut Writer, s: &[u8], kind: usize, f: Found)
     out.add_bytes(text::part(s, 0, f.byte));
     add_flipped(out, f.which);
     let rest = text::part(s, f.byte, s.len());
-    out.add_bytes(text::part(rest, width(f.which), rest.len()));
+    out.add_bytes(text::part(rest, f.which.width(), rest.len()));
     out.end_merged(kind);
 }
 

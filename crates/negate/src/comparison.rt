@@ -11,7 +11,7 @@ ghost use Rattle.definitions.specs.Model.{line};
 ghost use Rattle.definitions.specs.Condition.{nothing_seen, add_brackets, see_logical, comparison_at, see_bracket, scan_text, scan_token, scan, negate_cond};
 ghost use Rattle.model.specs.Listings.{listing_of};
 ghost use Rattle.negate.specs.Tests.{test, test_count, test_token, test_tokens};
-ghost use Rattle.negate.specs.Comparisons.{named, comparison_of, occurs, width, seen, weight, negation};
+ghost use Rattle.negate.specs.Comparisons.{named, comparison_of, occurs, width, op_width, seen, weight, negation};
 
 use crate::test::{test_count, test_kind, test_text};
 use model::kind::Kind;
@@ -71,13 +71,26 @@ fn comparison_of(s: &[u8]) -> Option<Comparison>
     None
 }
 
-// How many bytes comparison w has.
-pub fn width(w: Comparison) -> usize
+impl Comparison {
+    // How many bytes it has.
+    pub fn width(self) -> usize
+        ensures { result ≡ op_width self }
+    {
+        match self {
+            Comparison::Equal | Comparison::Unequal | Comparison::AtMost | Comparison::AtLeast => 4,
+            Comparison::Less | Comparison::Greater => 3,
+        }
+    }
+}
+
+// How many bytes comparison w of the six has, in the order of `comparisons`; 0 where w is the number of none.
+pub fn width(w: usize) -> usize
     ensures { result ≡ width w }
 {
     match w {
-        Comparison::Equal | Comparison::Unequal | Comparison::AtMost | Comparison::AtLeast => 4,
-        Comparison::Less | Comparison::Greater => 3,
+        0..=3 => 4,
+        4..=5 => 3,
+        _ => 0,
     }
 }
 
@@ -155,7 +168,7 @@ fn see_byte(s: &[u8], place: usize, i: usize, r: Seen) -> Step
                 }),
                 ..n
             },
-            next: i + width(which),
+            next: i + which.width(),
         },
         None => Step {
             seen: see_bracket(s[i], n),
