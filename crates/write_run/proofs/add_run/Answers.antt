@@ -53,8 +53,8 @@ returns c =
         addresses = w.addresses;
         tokens = w.tokens;
         text = w.text;
-        lines_length = w.lines_length;
-        addresses_length = w.addresses_length;
+        lines_length = omega (arith, w.lines_length);
+        addresses_length = omega (arith, w.addresses_length);
         tokens_length = c.move_words.auto.words ∙ w.tokens_length;
         text_length = w.text_length;
       };
