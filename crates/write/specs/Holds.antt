@@ -8,11 +8,11 @@
 --   Finished M out c out'  the columns are those of the listing M and zeros, and the cursor has its counts
 --   columns_of w           the columns of a destination
 --   Same w w'              they are the same columns, of the same lengths
---   text_lent o w          the columns o, but the text that of w; so what a function that is lent the text alone may change
+--   text_lent o w          the text of w and the other columns of o: what is lent of w is the text alone
 --   tokens_lent o w        the same of the tokens
 --   open_lent o w          the same of the tokens and the text
 --   lines_lent o w         the same of the lines and the addresses
---   Writes lent f w w'     what held a state holds f of it, whatever the columns that are not lent; these stay as they are
+--   Writes lent f w w'     what held a state holds f of it, whatever the columns are that are not lent; those of w stay as they are
 --   Finishes w w'          zeros are behind what is written
 -- Assumes nothing.
 use Rattle.std.specs.Prelude.{ℕ, ◌≤◌, ◌<◌, ◌≡◌, List, length, take}
