@@ -17,7 +17,7 @@
 #![tactic(auto, using(crate::proofs::Finding::row_rules, crate::proofs::Finding::search_rules, crate::proofs::Hashes::hash_rules, crate::proofs::Numbered::rehash_rules, crate::proofs::Numbered::place_rules))]
 
 ghost use Rattle.std.specs.Prelude.{◌≡◌, List, ℕ, ◌+◌, ◌*◌, ◌<◌, ◌≤◌, length, take, get_or};
-ghost use Rattle.definitions.specs.Lists.{is_some};
+ghost use Rattle.definitions.specs.Lists.{is_some, ◌≟◌};
 ghost use Rattle.definitions.specs.Family.{family};
 ghost use Rattle.definitions.specs.Model.{token, line};
 ghost use Rattle.definitions.specs.Statements.{defines};
@@ -114,6 +114,40 @@ fn search_chain(
         c = number(table, 256 + 2 * (c - 1));
     }
     0
+}
+
+// The first definition of family k writes its register as s.
+fn has_text(code: &Listing, table: &[u16], k: usize, s: &[u8]) -> bool
+    requires { k < 1024 }
+    ensures { result ≡ ((token (line (listing_of code.now) (get_or table.now (257 + 2 * k) 0)) 0).text ≟ s.now) }
+{
+    let i = number(table, 257 + 2 * k);
+    text::equal(code.text_at(i, 0), s)
+}
+
+// The same as `search`, by the hash. A text that is written as where its family is first defined is looked up no second time.
+fn search_text(code: &Listing, table: &[u16], count: usize, s: &[u8], r: Option<Register>) -> usize
+    requires { Table (listing_of code.now) count table.now × (count ≤ 1024) × (family_of s.now r ≡ family s.now) }
+    ensures { result ≡ place_of (take count (defined_families (listing_of code.now))) (family_of s.now r) }
+{
+    let h = hash_of(table, s, r);
+    let last = number(table, h);
+    if 0 < last && has_text(code, table, last - 1, s) {
+        return last;
+    }
+    search_chain(code, table, count, h, s, r)
+}
+
+// 1 + the place among the first `count` families of the one that the answer r of the register s is, 0 where it is none of them. For a legacy
+// name that is the word of its row.
+pub fn search(code: &Listing, table: &[u16], count: usize, s: &[u8], r: Option<Register>) -> usize
+    requires { Table (listing_of code.now) count table.now × (count ≤ 1024) × (family_of s.now r ≡ family s.now) }
+    ensures { result ≡ place_of (take count (defined_families (listing_of code.now))) (family_of s.now r) }
+{
+    match r {
+        Some(Register::Legacy { row, .. }) => row_word(table, row),
+        _ => search_text(code, table, count, s, r),
+    }
 }
 
 // One family more in the chains: its number is `count`, its hash h.
