@@ -8,66 +8,70 @@ ghost use Rattle.std.specs.Prelude.{◌≡◌, ◌<◌, ◌≤◌, length, take}
 ghost use Rattle.definitions.specs.Recover.{read_lines};
 ghost use Rattle.model.specs.Listings.{listing_of};
 ghost use Rattle.text.specs.Zeroed.{zeroed};
+ghost use Rattle.families.specs.Families.{Table, Defs};
 ghost use Rattle.families.specs.Tokens.{family_name};
 ghost use Rattle.chains.specs.Chains.{Chain};
 ghost use Rattle.walks.specs.Lines.{Written};
 ghost use Rattle.family_tokens.specs.Writes.{Writes};
 
-use walks::chained::Chained;
+use walks::chained::Columns;
 use walks::reads::{is_rsp, read_lines};
 use walks::writing::{mark_lines, write_tokens};
 
 // Lists the lines that read family k, none for rsp; answers how many there are.
 pub fn family_reads(
-    chained: &Chained,
+    columns: &Columns,
+    table: &[u16],
+    count: usize,
     numbers: &[u32],
     k: usize,
     seen: &mut [u8],
     reads: &mut [u16],
 ) -> usize
-    requires chain { let code = chained.now.code.now in
-        (k < chained.now.count) × Chain code.lines.now code.tokens.now code.text.now k numbers.now chained.now.first.now }
-    requires room { let n = length chained.now.code.now.lines.now in (n ≤ length seen.old) × (n ≤ length reads.old) }
-    ensures { (result ≤ length chained.now.code.now.lines.now) × (let L = listing_of chained.now.code.now in take result reads.new ≡ read_lines L (family_name L k)) }
+    requires fact { let code = columns.now.code.now in let L = listing_of code in
+        Table L count table.now × (k < count) × (k < 1024) × Chain code.lines.now code.tokens.now code.text.now k numbers.now columns.now.first.now × Defs L columns.now.defs.now }
+    requires lines_nonzero { let n = length columns.now.code.now.lines.now in (0 < n) × (n ≤ length seen.old) × (n ≤ length reads.old) × (n ≤ 65536) }
+    ensures { (result ≤ length columns.now.code.now.lines.now) × (let L = listing_of columns.now.code.now in take result reads.new ≡ read_lines L (family_name L k)) }
 {
-    if is_rsp(chained.table, k) {
+    if is_rsp(table, k) {
         return 0;
     }
-    read_lines(chained, numbers, k, seen, reads)
+    read_lines(columns, numbers, k, seen, reads)
 }
 
 // The tokens of family k get the number 0.
 pub fn write_zeros(
-    chained: &Chained,
+    columns: &Columns,
     numbers: &mut [u32],
     k: usize,
     own: &mut [u16],
     read: &mut [u16],
 )
-    requires { let code = chained.now.code.now in
-        (k < chained.now.count) × Chain code.lines.now code.tokens.now code.text.now k numbers.old chained.now.first.now }
-    ensures { let code = chained.now.code.now in
-        Written code.lines.now code.tokens.now code.text.now k chained.now.defs.now (zeroed 0 own.old) (zeroed 0 read.old) numbers.old numbers.new }
+    requires { let code = columns.now.code.now in
+        Chain code.lines.now code.tokens.now code.text.now k numbers.old columns.now.first.now × (k < 1024) }
+    ensures { let code = columns.now.code.now in
+        Written code.lines.now code.tokens.now code.text.now k columns.now.defs.now (zeroed 0 own.old) (zeroed 0 read.old) numbers.old numbers.new }
 {
     text::zero(own, 0);
     text::zero(read, 0);
-    write_tokens(chained, numbers, k, own, read);
+    write_tokens(columns, numbers, k, own, read);
 }
 
 // The tokens of family k get their numbers, its definitions their marks.
 pub fn write_family(
-    chained: &Chained,
+    columns: &Columns,
     numbers: &mut [u32],
     marks: &mut [u8],
     k: usize,
     own: &[u16],
     read: &[u16],
 )
-    requires { let code = chained.now.code.now in
-        (k < chained.now.count) × Chain code.lines.now code.tokens.now code.text.now k numbers.old chained.now.first.now }
-    ensures { let code = chained.now.code.now in
-        Writes code.lines.now code.tokens.now code.text.now k chained.now.defs.now own.now read.now numbers.old numbers.new marks.old marks.new }
+    requires { let code = columns.now.code.now in
+        Chain code.lines.now code.tokens.now code.text.now k numbers.old columns.now.first.now × (k < 1024) }
+    ensures { let code = columns.now.code.now in
+        Writes code.lines.now code.tokens.now code.text.now k columns.now.defs.now own.now read.now numbers.old numbers.new marks.old marks.new }
 {
-    write_tokens(chained, numbers, k, own, read);
-    mark_lines(chained, marks, chained.code.lines.len(), k);
+    let Columns { code, defs, .. } = *columns;
+    write_tokens(columns, numbers, k, own, read);
+    mark_lines(code, marks, code.lines.len(), k, defs);
 }

@@ -10,11 +10,12 @@ ghost use Rattle.definitions.specs.Model.{line};
 ghost use Rattle.definitions.specs.Family.{names};
 ghost use Rattle.definitions.specs.Recover.{takes_address, address_taken, read_tokens};
 ghost use Rattle.model.specs.Listings.{listing_of, tokens_of};
+ghost use Rattle.families.specs.Families.{Table, Defs};
 ghost use Rattle.families.specs.Tokens.{family_name};
 ghost use Rattle.chains.specs.Chains.{Chain};
 ghost use Rattle.walks.specs.Lines.{takes, reads, Seen};
 
-use crate::chained::Chained;
+use crate::chained::Columns;
 use chains::links::{line_at, next_at};
 use model::listing::Listing;
 use recover::sets::put;
@@ -28,14 +29,12 @@ fn takes_at(code: &Listing, i: usize, p: usize) -> bool
 }
 
 // A line from 1 on takes the address of family k.
-fn lines_take(chained: &Chained, numbers: &[u32], k: usize) -> bool
-    requires { let code = chained.now.code.now in
-        Chain code.lines.now code.tokens.now code.text.now k numbers.now chained.now.first.now }
-    ensures { let L = listing_of chained.now.code.now in result ≡ any (λ i. takes_address (family_name L k) (line L i).tokens) (range 1 (length L - 1)) }
+fn lines_take(code: &Listing, numbers: &[u32], first: &[u16], k: usize) -> bool
+    requires { Chain code.now.lines.now code.now.tokens.now code.now.text.now k numbers.now first.now }
+    ensures { let L = listing_of code.now in result ≡ any (λ i. takes_address (family_name L k) (line L i).tokens) (range 1 (length L - 1)) }
 {
-    let code = chained.code;
     // A `while`: it follows the chain's links, which is no range.
-    let mut p = number(chained.first, k);
+    let mut p = number(first, k);
     while p < code.tokens.len() {
         if takes_at(code, line_at(numbers, p), p) {
             return true;
@@ -54,12 +53,18 @@ pub fn is_rsp(table: &[u16], k: usize) -> bool
 }
 
 // The address of family k is taken: never that of rsp.
-pub fn address_taken(chained: &Chained, numbers: &[u32], k: usize) -> bool
-    requires { let code = chained.now.code.now in
-        (k < chained.now.count) × Chain code.lines.now code.tokens.now code.text.now k numbers.now chained.now.first.now }
-    ensures { let L = listing_of chained.now.code.now in result ≡ address_taken L (family_name L k) }
+pub fn address_taken(
+    code: &Listing,
+    table: &[u16],
+    numbers: &[u32],
+    first: &[u16],
+    count: usize,
+    k: usize,
+) -> bool
+    requires { Table (listing_of code.now) count table.now × (k < count) × (k < 1024) × Chain code.now.lines.now code.now.tokens.now code.now.text.now k numbers.now first.now }
+    ensures { let L = listing_of code.now in result ≡ address_taken L (family_name L k) }
 {
-    lines_take(chained, numbers, k) && !is_rsp(chained.table, k)
+    lines_take(code, numbers, first, k) && !is_rsp(table, k)
 }
 
 // The token at place p of line i is not the register that the line defines.
@@ -79,18 +84,13 @@ fn mark_if(seen: &mut [u8], i: usize, yes: bool)
 }
 
 // Marks the lines from 1 on that read family k; line 0 may be marked too.
-fn see_lines(chained: &Chained, numbers: &[u32], k: usize, seen: &mut [u8])
-    requires { let code = chained.now.code.now in
-        Chain code.lines.now code.tokens.now code.text.now k numbers.now chained.now.first.now × (length code.lines.now ≤ length seen.old) }
-    ensures { let code = chained.now.code.now in
+fn see_lines(columns: &Columns, numbers: &[u32], k: usize, seen: &mut [u8])
+    requires { let code = columns.now.code.now in
+        Chain code.lines.now code.tokens.now code.text.now k numbers.now columns.now.first.now × Defs (listing_of code) columns.now.defs.now × (length code.lines.now ≤ length seen.old) }
+    ensures { let code = columns.now.code.now in
         Seen code.lines.now code.tokens.now code.text.now k seen.new }
 {
-    let Chained {
-        code,
-        first,
-        defs,
-        ..
-    } = *chained;
+    let Columns { code, first, defs } = *columns;
     text::zero(seen, 0);
     // A `while`, as in `lines_take`.
     let mut p = number(first, k);
@@ -123,17 +123,17 @@ fn list_lines(code: &Listing, k: usize, seen: &[u8], reads: &mut [u16]) -> usize
 
 // Lists the lines from 1 on that read family k; answers how many there are. `seen` has a byte for each line.
 pub fn read_lines(
-    chained: &Chained,
+    columns: &Columns,
     numbers: &[u32],
     k: usize,
     seen: &mut [u8],
     reads: &mut [u16],
 ) -> usize
-    requires chain { let code = chained.now.code.now in
-        Chain code.lines.now code.tokens.now code.text.now k numbers.now chained.now.first.now }
-    requires room { let n = length chained.now.code.now.lines.now in (n ≤ length seen.old) × (n ≤ length reads.old) }
-    ensures { (result ≤ length chained.now.code.now.lines.now) × (let L = listing_of chained.now.code.now in take result reads.new ≡ filter (λ i. any (names (family_name L k)) (read_tokens (line L i))) (range 1 (length L - 1))) }
+    requires chain { let code = columns.now.code.now in
+        Chain code.lines.now code.tokens.now code.text.now k numbers.now columns.now.first.now × Defs (listing_of code) columns.now.defs.now × (length code.lines.now ≤ length seen.old) }
+    requires lines_nonzero { let n = length columns.now.code.now.lines.now in (0 < n) × (n ≤ length reads.old) × (n ≤ 65536) }
+    ensures { (result ≤ length columns.now.code.now.lines.now) × (let L = listing_of columns.now.code.now in take result reads.new ≡ filter (λ i. any (names (family_name L k)) (read_tokens (line L i))) (range 1 (length L - 1))) }
 {
-    see_lines(chained, numbers, k, seen);
-    list_lines(chained.code, k, seen, reads)
+    see_lines(columns, numbers, k, seen);
+    list_lines(columns.code, k, seen, reads)
 }

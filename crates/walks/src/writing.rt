@@ -9,7 +9,7 @@ ghost use Rattle.definitions.specs.Lists.{up_to};
 ghost use Rattle.chains.specs.Chains.{Chain};
 ghost use Rattle.walks.specs.Lines.{own_place, Written, line_marked, lines_marked};
 
-use crate::chained::Chained;
+use crate::chained::Columns;
 use chains::links::{line_at, next_at};
 use model::listing::Listing;
 use words::{number, word};
@@ -58,18 +58,13 @@ fn token_number(
 }
 
 // The tokens of family k get their numbers: `own` has the number of each line's definition, `read` that of its reads.
-pub fn write_tokens(chained: &Chained, numbers: &mut [u32], k: usize, own: &[u16], read: &[u16])
-    requires { let code = chained.now.code.now in
-        (k < chained.now.count) × Chain code.lines.now code.tokens.now code.text.now k numbers.old chained.now.first.now }
-    ensures { let code = chained.now.code.now in
-        Written code.lines.now code.tokens.now code.text.now k chained.now.defs.now own.now read.now numbers.old numbers.new }
+pub fn write_tokens(columns: &Columns, numbers: &mut [u32], k: usize, own: &[u16], read: &[u16])
+    requires { let code = columns.now.code.now in
+        Chain code.lines.now code.tokens.now code.text.now k numbers.old columns.now.first.now × (k < 1024) }
+    ensures { let code = columns.now.code.now in
+        Written code.lines.now code.tokens.now code.text.now k columns.now.defs.now own.now read.now numbers.old numbers.new }
 {
-    let Chained {
-        code,
-        first,
-        defs,
-        ..
-    } = *chained;
+    let Columns { code, first, defs } = *columns;
     // A `while`: it follows the chain's links, and writes over each once it is read.
     let mut p = number(first, k);
     while p < numbers.len() {
@@ -94,11 +89,10 @@ fn mark_line(code: &Listing, marks: &mut [u8], i: usize, k: usize, defs: &[u16])
 }
 
 // Marks the first token of each of the first n lines that defines family k.
-pub fn mark_lines(chained: &Chained, marks: &mut [u8], n: usize, k: usize)
-    requires { k < chained.now.count }
-    ensures { marks.new ≡ lines_marked chained.now.code.now.lines.now k chained.now.defs.now marks.old (up_to n) }
+pub fn mark_lines(code: &Listing, marks: &mut [u8], n: usize, k: usize, defs: &[u16])
+    requires { k < 1024 }
+    ensures { marks.new ≡ lines_marked code.now.lines.now k defs.now marks.old (up_to n) }
 {
-    let Chained { code, defs, .. } = *chained;
     for i in 0..n {
         mark_line(code, marks, i, k, defs);
     }
