@@ -20,8 +20,6 @@ use words::{narrow, number};
 // The words that one family after another uses, of a listing of at most N lines.
 #[derive(Drop)]
 pub struct Scratch<const N: usize> {
-    // The lines that read the family.
-    pub reads: [u16; N],
     // A mark for each line, and for each definition.
     pub seen: [u8; N],
     // The number of the definition on each line, 0 where there is none.
@@ -67,21 +65,20 @@ fn number_reads(
     }
 }
 
-// The sweeps of family k, then the numbers of its definitions and of its reads on n lines: `defs` has the family that each line defines, and m
-// lines read the family. Answers how many sweeps there were; none where the budget does not allow them.
+// The sweeps of family k, then the numbers of its definitions and of its reads on n lines: `defs` has the family that each line defines, `reads`
+// the lines that read the family. Answers how many sweeps there were; none where the budget does not allow them.
 pub fn family_lines<const N: usize>(
     space: &mut [u64],
     defs: &[u16],
     k: usize,
     n: usize,
     budget: usize,
-    m: usize,
+    reads: &[u16],
     scratch: &mut Scratch<N>,
 ) -> Option<usize>
-    requires n_nonzero { (0 < n) × (n ≤ N) × (N ≤ 1024) × (space_words n ≤ length space.old) × Agree n (row_words n) space.old }
-    requires reads_below { (m ≤ N) × Below n (take m scratch.old.reads) }
-    requires k_bound { (k < 1024) × (n ≤ length defs.now) }
-    ensures { FamilyLines n (row_words n) k defs.now budget space.old space.new (take m scratch.old.reads) (take n scratch.new.own) (take n scratch.new.read) result }
+    requires n_nonzero { (0 < n) × (n ≤ 1024) × (space_words n ≤ length space.old) × Agree n (row_words n) space.old × Below n reads.now }
+    requires k_bound { (k < 1024) × (n ≤ length defs.now) × (n ≤ N) }
+    ensures { FamilyLines n (row_words n) k defs.now budget space.old space.new reads.now (take n scratch.new.own) (take n scratch.new.read) result }
 {
     let c = sweep::number(defs, narrow(k + 1), &mut scratch.nums, n);
     let family = Definitions {
@@ -89,7 +86,6 @@ pub fn family_lines<const N: usize>(
         nums: &scratch.nums,
     };
     let sweeps = sweep::solve(&family, space, budget)?;
-    let reads = &scratch.reads[..m];
     let rep = &mut scratch.rep[..c + 1];
     let rank = &mut scratch.rank[..c + 1];
     family_reps(

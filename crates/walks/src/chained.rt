@@ -33,7 +33,7 @@ pub struct Chained<'a> {
 
 impl<'a> Chained<'a> {
     pub fn columns(&self) -> Columns<'a>
-        ensures { (result.code ≡ self.now.code) × (result.first ≡ self.now.first) × (result.defs ≡ self.now.defs) }
+        ensures { result ≡ record { code = self.now.code; first = self.now.first; defs = self.now.defs } }
     {
         Columns {
             code: self.code,

@@ -15,7 +15,13 @@ ghost use Rattle.webs.specs.Steps.{State, FamilyDone, AllDone};
 use family_tokens::{family_reads, write_family, write_zeros};
 use numbering::{Scratch, family_lines};
 use walks::chained::Chained;
-use walks::reads::address_taken;
+
+// The words that the families share: the lines that read one, and what its numbers take.
+#[derive(Drop)]
+struct Words<const N: usize> {
+    reads: [u16; N],
+    scratch: Scratch<N>,
+}
 
 // Family k, whose address is not taken.
 fn family_free<const N: usize>(
@@ -25,7 +31,7 @@ fn family_free<const N: usize>(
     budget: usize,
     numbers: &mut [u32],
     marks: &mut [u8],
-    scratch: &mut Scratch<N>,
+    words: &mut Words<N>,
 ) -> Option<usize>
     requires known { let code = chained.now.code.now in
         (k < chained.now.count) × State code.lines.now code.tokens.now code.text.now (row_words (length code.lines.now)) k space.old numbers.old marks.old }
@@ -35,15 +41,32 @@ fn family_free<const N: usize>(
         FamilyDone code.lines.now code.tokens.now code.text.now (row_words (length code.lines.now)) k budget space.old space.new numbers.new marks.new result }
 {
     let n = chained.code.lines.len();
-    let m = family_reads(chained, numbers, k, &mut scratch.seen, &mut scratch.reads);
-    let sweeps = family_lines(space, chained.defs, k, n, budget, m, scratch)?;
+    let columns = chained.columns();
+    let m = family_reads(
+        &columns,
+        chained.table,
+        chained.count,
+        numbers,
+        k,
+        &mut words.scratch.seen,
+        &mut words.reads,
+    );
+    let sweeps = family_lines(
+        space,
+        chained.defs,
+        k,
+        n,
+        budget,
+        &words.reads[..m],
+        &mut words.scratch,
+    )?;
     write_family(
-        chained,
+        &columns,
         numbers,
         marks,
         k,
-        &scratch.own[..n],
-        &scratch.read[..n],
+        &words.scratch.own[..n],
+        &words.scratch.read[..n],
     );
     Some(sweeps)
 }
@@ -56,7 +79,7 @@ fn family<const N: usize>(
     budget: usize,
     numbers: &mut [u32],
     marks: &mut [u8],
-    scratch: &mut Scratch<N>,
+    words: &mut Words<N>,
 ) -> Option<usize>
     requires known { let code = chained.now.code.now in
         (k < chained.now.count) × State code.lines.now code.tokens.now code.text.now (row_words (length code.lines.now)) k space.old numbers.old marks.old }
@@ -65,17 +88,17 @@ fn family<const N: usize>(
         FamilyDone code.lines.now code.tokens.now code.text.now (row_words (length code.lines.now)) k budget space.old space.new numbers.new marks.new result }
 {
     let n = chained.code.lines.len();
-    if address_taken(chained, numbers, k) {
+    if chained.address_taken(numbers, k) {
         write_zeros(
-            chained,
+            &chained.columns(),
             numbers,
             k,
-            &mut scratch.own[..n],
-            &mut scratch.read[..n],
+            &mut words.scratch.own[..n],
+            &mut words.scratch.read[..n],
         );
         return Some(0);
     }
-    family_free(chained, k, space, budget, numbers, marks, scratch)
+    family_free(chained, k, space, budget, numbers, marks, words)
 }
 
 // All families, one after the other. To zero the words that they share is most of what a short listing costs.
@@ -92,15 +115,17 @@ pub fn all_families<const N: usize>(
     ensures { let code = chained.now.code.now in
         AllDone budget (numbered_webs (listing_of code) (webs_over (listing_of code) (preds_of (length code.lines.now) (row_words (length code.lines.now)) space.old))) numbers.new marks.new result }
 {
-    let mut scratch = Scratch::<N> {
+    let mut words = Words::<N> {
         reads: [0; N],
-        seen: [0; N],
-        nums: [0; N],
-        rep: [0; N],
-        rank: [0; N],
-        set: [0; N],
-        own: [0; N],
-        read: [0; N],
+        scratch: Scratch {
+            seen: [0; N],
+            nums: [0; N],
+            rep: [0; N],
+            rank: [0; N],
+            set: [0; N],
+            own: [0; N],
+            read: [0; N],
+        },
     };
     let mut total = 0;
     for k in 0..chained.count {
@@ -111,7 +136,7 @@ pub fn all_families<const N: usize>(
             budget - total,
             numbers,
             marks,
-            &mut scratch,
+            &mut words,
         )?;
     }
     Some(total)
