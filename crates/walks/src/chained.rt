@@ -32,6 +32,7 @@ pub struct Chained<'a> {
 }
 
 impl<'a> Chained<'a> {
+    // The columns, without what is known of them.
     pub fn columns(&self) -> Columns<'a>
         ensures { result ≡ record { code = self.now.code; first = self.now.first; defs = self.now.defs } }
     {
