@@ -1,8 +1,8 @@
 // The keywords of a line as bits of one byte, for the flow graph and for `recover_loops`.
 //
 // `mask` passes over the words of a line's tokens once: of a token that is no keyword only the word is read, of a keyword also its text.
-// `Keywords` holds a column of them; each question of a line is then a test of one bit. Contracts cite `mask` of specs/Masks.antt, `has_kw` of
-// Rattle.definitions.specs.Statements, and `is_loop` and `is_switch` of Rattle.definitions.specs.FlowGraph.
+// `masks` makes a column of them, and `Keywords` holds one; each question of a line is then a test of one bit. Contracts cite `mask` of
+// specs/Masks.antt, `has_kw` of Rattle.definitions.specs.Statements, and `is_loop` and `is_switch` of Rattle.definitions.specs.FlowGraph.
 
 #![tactic(auto, using(crate::proofs::MaskLaws::asking))]
 
@@ -98,27 +98,36 @@ fn mask(code: &Listing, i: usize) -> u8
     m
 }
 
+// The bits of every line. The column is empty, and there is an entry for each line.
+#[tactic(auto, using(crate::proofs::Filling::filling))]
+pub fn masks(code: &Listing, masks: &mut [u8])
+    requires lines_in_bounds { length code.now.lines.now ≤ length masks.old }
+    requires by_index { (b : ℕ) → get_or masks.old b 0 ≡ 0 }
+    ensures { Masks (listing_of code.now) masks.new }
+{
+    for i in 0..code.lines.len() {
+        masks[i] = mask(code, i);
+    }
+}
+
 // Questions
 
 // A listing, and for each of its lines a byte whose bits say which keywords the line has.
 #[derive(Clone, Copy)]
 pub struct Keywords<'a, 'm> {
     pub code: Listing<'a>,
-    masks: &'m [u8],
-    ghost holds: { Masks (listing_of code) masks.now },
+    pub masks: &'m [u8],
+    pub ghost holds: { Masks (listing_of code) masks.now },
 }
 
 impl<'a, 'm> Keywords<'a, 'm> {
     // The column is empty, and there is an entry for each line.
-    #[tactic(auto, using(crate::proofs::Filling::filling))]
     pub fn new(code: &Listing<'a>, masks: &'m mut [u8]) -> Self
         requires lines_in_bounds { length code.now.lines.now ≤ length masks.old }
         requires by_index { (b : ℕ) → get_or masks.old b 0 ≡ 0 }
         ensures { result.code ≡ code.now }
     {
-        for i in 0..code.lines.len() {
-            masks[i] = mask(code, i);
-        }
+        crate::masks(code, masks);
         Keywords { code: *code, masks }
     }
 
