@@ -159,8 +159,9 @@ fn index_all(
     true
 }
 
-// Puts every label into its bucket.
-fn index(code: &Listing, heads: &mut [u16], nexts: &mut [u16])
+// Puts every label into its bucket. The buckets are empty, and there is an entry for each line. By the first multiplier, 500 labels such as
+// label_12, L7 or loc_401a3c are at most 3 to a bucket of 1,023, and 64 at most 2 to a bucket of 255.
+pub fn index(code: &Listing, heads: &mut [u16], nexts: &mut [u16])
     requires in_bounds { (256 ≤ length heads.old) × (length code.now.lines.now ≤ length nexts.old) × (length code.now.lines.now ≤ 1024) }
     requires by_index { (b : ℕ) → get_or heads.old b 0 ≡ 0 }
     ensures { let L = listing_of code.now in
@@ -183,16 +184,15 @@ fn index(code: &Listing, heads: &mut [u16], nexts: &mut [u16])
 #[derive(Clone, Copy)]
 pub struct Labels<'a, 'm> {
     pub code: Listing<'a>,
-    heads: &'m [u16],
-    nexts: &'m [u16],
-    ghost heads_room: { 256 ≤ length heads.now },
-    ghost nexts_room: { length code.lines.now ≤ length nexts.now },
-    ghost indexed: { Indexed (listing_of code) heads.now nexts.now (length code.lines.now) },
+    pub heads: &'m [u16],
+    pub nexts: &'m [u16],
+    pub ghost heads_room: { 256 ≤ length heads.now },
+    pub ghost nexts_room: { length code.lines.now ≤ length nexts.now },
+    pub ghost indexed: { Indexed (listing_of code) heads.now nexts.now (length code.lines.now) },
 }
 
 impl<'a, 'm> Labels<'a, 'm> {
-    // The buckets are empty, and there is an entry for each line. By the first multiplier, 500 labels such as label_12, L7 or loc_401a3c are at
-    // most 3 to a bucket of 1,023, and 64 at most 2 to a bucket of 255.
+    // The buckets are empty, and there is an entry for each line.
     pub fn new(code: &Listing<'a>, heads: &'m mut [u16], nexts: &'m mut [u16]) -> Self
         requires in_bounds { (256 ≤ length heads.old) × (length code.now.lines.now ≤ length nexts.old) × (length code.now.lines.now ≤ 1024) }
         requires by_index { (b : ℕ) → get_or heads.old b 0 ≡ 0 }

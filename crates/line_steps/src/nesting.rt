@@ -14,12 +14,12 @@ use line_keywords::Keywords;
 #[derive(Clone, Copy)]
 pub struct Blocks<'a, 'm> {
     pub keywords: Keywords<'a, 'm>,
-    ends: &'m [u16],
-    parents: &'m [u16],
-    ghost ends_room: { length keywords.code.lines.now ≤ length ends.now },
-    ghost parents_room: { length keywords.code.lines.now ≤ length parents.now },
-    ghost ended: { Ended (listing_of keywords.code) (blocks_of (listing_of keywords.code)) ends.now },
-    ghost enclosed: { Enclosed (listing_of keywords.code) (blocks_of (listing_of keywords.code)) parents.now },
+    pub ends: &'m [u16],
+    pub parents: &'m [u16],
+    pub ghost ends_room: { length keywords.code.lines.now ≤ length ends.now },
+    pub ghost parents_room: { length keywords.code.lines.now ≤ length parents.now },
+    pub ghost ended: { Ended (listing_of keywords.code) (blocks_of (listing_of keywords.code)) ends.now },
+    pub ghost enclosed: { Enclosed (listing_of keywords.code) (blocks_of (listing_of keywords.code)) parents.now },
 }
 
 impl<'a, 'm> Blocks<'a, 'm> {

@@ -9,3 +9,5 @@
 
 pub mod lookup;
 mod slots;
+
+pub use slots::Slot;

@@ -23,10 +23,10 @@ use model::listing::Listing;
 pub struct Lookup<'a, 'b> {
     pub code: Listing<'a>,
     pub count: usize,
-    table: &'b [u16],
-    slots: [Slot; 64],
-    ghost finds: { Finds (listing_of code) count table.now },
-    ghost keeps: { Memo (defined_families (listing_of code)) slots },
+    pub table: &'b [u16],
+    pub slots: [Slot; 64],
+    pub ghost finds: { Finds (listing_of code) count table.now },
+    pub ghost keeps: { Memo (defined_families (listing_of code)) slots },
 }
 
 impl<'a, 'b> Lookup<'a, 'b> {
@@ -76,7 +76,7 @@ impl<'a, 'b> Lookup<'a, 'b> {
     fn short_place(&mut self, s: &[u8]) -> Option<usize>
         requires { length s.now ≤ 7 }
         ensures value { result ≡ found (defined_families (listing_of self.old.code)) (family s.now) }
-        ensures kept { (self.new.code ≡ self.old.code) × (self.new.count ≡ self.old.count) }
+        ensures kept { (self.new.code ≡ self.old.code) × (self.new.count ≡ self.old.count) × (self.new.table ≡ self.old.table) }
     {
         let text = pack(s);
         let h = slot_of(text);
@@ -92,7 +92,7 @@ impl<'a, 'b> Lookup<'a, 'b> {
     // The same of any text.
     fn text_place(&mut self, s: &[u8]) -> Option<usize>
         ensures value { result ≡ found (defined_families (listing_of self.old.code)) (family s.now) }
-        ensures kept { (self.new.code ≡ self.old.code) × (self.new.count ≡ self.old.count) }
+        ensures kept { (self.new.code ≡ self.old.code) × (self.new.count ≡ self.old.count) × (self.new.table ≡ self.old.table) }
     {
         if s.len() <= 7 {
             self.short_place(s)
@@ -105,7 +105,7 @@ impl<'a, 'b> Lookup<'a, 'b> {
     pub fn token_place(&mut self, k: usize) -> Option<usize>
         ensures value { let u = get_or (tokens_of self.old.code) k no_token in
             result ≡ found (defined_families (listing_of self.old.code)) (fam_of u) }
-        ensures kept { (self.new.code ≡ self.old.code) × (self.new.count ≡ self.old.count) }
+        ensures kept { (self.new.code ≡ self.old.code) × (self.new.count ≡ self.old.count) × (self.new.table ≡ self.old.table) }
     {
         let code = self.code;
         if code.token_is(k, Kind::Register) {

@@ -55,7 +55,7 @@ fn write_line(
     ensures marks_after { let code = lookup.old.code in
         let fs = defined_families (listing_of code) in
         marks.new ≡ over (line_start code.lines.now i) (line_end code.lines.now code.tokens.now i) (token_mark fs d) (tokens_of code) marks.old }
-    ensures kept { lookup.new.code ≡ lookup.old.code }
+    ensures kept { (lookup.new.code ≡ lookup.old.code) × (lookup.new.count ≡ lookup.old.count) × (lookup.new.table ≡ lookup.old.table) }
 {
     let from = lookup.code.line_start(i);
     let to = lookup.code.line_end(i);
@@ -84,6 +84,7 @@ pub fn write_lines(
     ensures marks_after { let code = lookup.old.code in
         let fs = defined_families (listing_of code) in
         marks.new ≡ by_line code.lines.now code.tokens.now (λ i. token_mark fs (get_or starts.now i 0)) (tokens_of code) (length code.lines.now) }
+    ensures kept { (lookup.new.code ≡ lookup.old.code) × (lookup.new.count ≡ lookup.old.count) × (lookup.new.table ≡ lookup.old.table) }
 {
     for i in 0..lookup.code.lines.len() {
         let d = number(starts, i);

@@ -27,6 +27,8 @@ loop-k-preserved c = let a = c.args in
           (number_by l.lookup.code code l.invariant.0 l.k _ place _ _ c.number_of.ensures),
       over_next no_token (token_mark fs a.d) f us a.marks.now l.k l.marks l.invariant.2 (omega arith) t _ c.loop-k-test.true n (omega (arith, n, length_tokens code.tokens.now code.text.now, p.3))
           (mark_by l.lookup.code code l.invariant.0 l.k _ place _ _ c.mark_of.ensures),
+      c.token_place-c.ensures.kept.1 ∙ l.invariant.3,
+      c.token_place-c.ensures.kept.2 ∙ l.invariant.4,
     )
 
 pub returns : goal.returns
@@ -42,5 +44,5 @@ returns c = let a = c.args in
           (over_done no_token (token_number fs (λ p. get_or a.counts.now p 0)) s.result us a.numbers.now l.k l.numbers l.invariant.1 (omega arith) e.result (omega (arith, ordered)) c.loop-k-test.false);
       marks_after = line_by code.lines.now code.tokens.now a.i s.result e.result s.ensures e.ensures (token_mark fs a.d) us a.marks.now _
           (over_done no_token (token_mark fs a.d) s.result us a.marks.now l.k l.marks l.invariant.2 (omega arith) e.result (omega (arith, ordered)) c.loop-k-test.false);
-      kept = l.invariant.0;
+      kept = (l.invariant.0, l.invariant.3, l.invariant.4);
     }

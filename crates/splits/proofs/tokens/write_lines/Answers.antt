@@ -20,6 +20,8 @@ loop-i-init c = let a = c.args in
       tallied_start a.starts.now a.counts.now p.by_index.2,
       written_start code.lines.now code.tokens.now p.tokens_value.0 (number_at fs a.starts.now) (tokens_of code) a.numbers.now,
       written_start code.lines.now code.tokens.now p.tokens_value.0 (mark_at fs a.starts.now) (tokens_of code) a.marks.now,
+      refl,
+      refl,
     )
 
 pub overflow_add-counts : goal.overflow_add-counts
@@ -40,10 +42,12 @@ loop-i-preserved c = let a = c.args in
     let T = tallied_next a.starts.now l.i l.counts l.invariant.1 d.result d.ensures _ low refl in
     let numbers = rw l.invariant.0 at w.numbers_after in
     let marks = rw l.invariant.0 at w.marks_after in (
-      w.kept ∙ l.invariant.0,
+      w.kept.0 ∙ l.invariant.0,
       T,
       written_next code.lines.now code.tokens.now p.tokens_value.0 (number_at fs a.starts.now) us a.numbers.now l.i l.numbers l.invariant.2 c.loop-i-test.true n _ (numbers ∙ ap (λ f. over (line_start code.lines.now l.i) (line_end code.lines.now code.tokens.now l.i) f us l.numbers) (number_tallied fs a.starts.now l.i _ T)),
       written_next code.lines.now code.tokens.now p.tokens_value.0 (mark_at fs a.starts.now) us a.marks.now l.i l.marks l.invariant.3 c.loop-i-test.true n _ (marks ∙ ap (λ d. over (line_start code.lines.now l.i) (line_end code.lines.now code.tokens.now l.i) (token_mark fs d) us l.marks) d.ensures),
+      w.kept.1 ∙ l.invariant.4,
+      w.kept.2 ∙ l.invariant.5,
     )
 
 pub returns : goal.returns
@@ -56,4 +60,5 @@ returns c = let a = c.args in
     let z : l.i ≤ length code.lines.now = omega arith in record {
       numbers_after = written_end code.lines.now code.tokens.now p.0 (number_at fs a.starts.now) us a.numbers.now l.i l.numbers l.invariant.2 z c.loop-i-test.false p.2;
       marks_after = written_end code.lines.now code.tokens.now p.0 (mark_at fs a.starts.now) us a.marks.now l.i l.marks l.invariant.3 z c.loop-i-test.false p.3;
+      kept = (l.invariant.0, l.invariant.4, l.invariant.5);
     }
