@@ -3,10 +3,12 @@
 //
 //   slots      texts as numbers, and the slots
 //   lookup     the families of a listing, with what was looked up
+//   known      what was looked up, asked alone
 // Contracts cite `found` of specs/Found.antt and `fam_of` of Rattle.definitions.specs.Family.
 
 #![tactic(auto)]
 
+pub mod known;
 pub mod lookup;
 mod slots;
 
