@@ -33,7 +33,7 @@ fn trimmed(s: &[u8], popped: bool) -> &[u8]
 }
 
 // The text of token j of the first n tokens of line i, the last of them without its last code point where `popped` says so.
-fn dressed_text<'a>(code: &Listing<'a>, i: usize, n: usize, j: usize, popped: bool) -> &'a [u8]
+fn dressed_text<'a>(code: &Listing<'_, 'a>, i: usize, n: usize, j: usize, popped: bool) -> &'a [u8]
     requires { (j < n) × (n ≤ length (line (listing_of code.now) i).tokens) }
     ensures { result.now ≡ (get_or (dressed popped (take n (line (listing_of code.now) i).tokens)) j no_token).text }
 {

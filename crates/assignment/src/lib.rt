@@ -36,7 +36,7 @@ fn back(n: usize, k: usize) -> usize
 }
 
 // The text of token k of the right side of line i, as a part of the lent text.
-pub fn expr_text<'a>(code: &Listing<'a>, i: usize, k: usize) -> &'a [u8]
+pub fn expr_text<'a>(code: &Listing<'_, 'a>, i: usize, k: usize) -> &'a [u8]
     ensures { result.now ≡ (expr_token (line (listing_of code.now) i) k).text }
 {
     let n = code.token_count(i);

@@ -51,7 +51,7 @@ fn put_start(to: &mut Writer, w: usize, i: usize)
 // A listing, the web numbers of its tokens, and their ranks.
 #[derive(Clone, Copy)]
 pub struct Numbered<'a> {
-    pub code: &'a Listing<'a>,
+    pub code: &'a Listing<'a, 'a>,
     pub numbers: &'a [u32],
     pub ranks: &'a [u32],
     ghost ranked: { Ranked (tokens_of code.now) numbers.now (length code.now.tokens.now) ranks.now },

@@ -14,7 +14,7 @@ use model::listing::Listing;
 // The families of a listing that have a definition: the table that finds each, and how many there are.
 #[derive(Clone, Copy)]
 pub struct Families<'a> {
-    pub code: &'a Listing<'a>,
+    pub code: &'a Listing<'a, 'a>,
     pub table: &'a [u16],
     pub count: usize,
     pub ghost finds: { Finds (listing_of code.now) count table.now },

@@ -24,7 +24,7 @@ use pieces::reading::{cut_place, goto_symbol};
 use plan::{header, initialiser, is_line, piece, step, test};
 
 // The piece p without its last code point.
-fn seek_popped<'a>(code: &Listing<'a>, p: usize, s: State<'a>) -> State<'a>
+fn seek_popped<'a>(code: &Listing<'_, 'a>, p: usize, s: State<'a>) -> State<'a>
     ensures { let C = listing_of code.now in
         told result ≡ seek (told s.entry) (popped (piece C p).tokens) }
 {
@@ -36,7 +36,7 @@ fn seek_popped<'a>(code: &Listing<'a>, p: usize, s: State<'a>) -> State<'a>
 }
 
 // The condition that the leading test of the piece p gives a header, or 1 where it is none.
-fn seek_condition<'a>(code: &Listing<'a>, p: usize, s: State<'a>) -> State<'a>
+fn seek_condition<'a>(code: &Listing<'_, 'a>, p: usize, s: State<'a>) -> State<'a>
     requires { question_2 code.now.lines.now code.now.tokens.now code.now.text.now ≡ true }
     ensures { let C = listing_of code.now in
         told result ≡ seek (told s.entry) (or_else (leading_test (piece C p) 0) one) }
@@ -48,7 +48,7 @@ fn seek_condition<'a>(code: &Listing<'a>, p: usize, s: State<'a>) -> State<'a>
 }
 
 // The condition of a header of kind h: the leading test of the piece t, or 1. Asked of the number: `over` tells 4 from 5, and `Header` does not.
-fn seek_over<'a>(code: &Listing<'a>, h: usize, t: usize, s: State<'a>) -> State<'a>
+fn seek_over<'a>(code: &Listing<'_, 'a>, h: usize, t: usize, s: State<'a>) -> State<'a>
     requires { question_2 code.now.lines.now code.now.tokens.now code.now.text.now ≡ true }
     ensures { let C = listing_of code.now in
         told result ≡ seek (told s.entry) (over C h t) }
@@ -61,7 +61,7 @@ fn seek_over<'a>(code: &Listing<'a>, h: usize, t: usize, s: State<'a>) -> State<
 }
 
 // The target of the line of w, which is a header.
-fn header_target<'a>(code: &Listing<'a>, w: usize) -> Option<&'a [u8]>
+fn header_target<'a>(code: &Listing<'_, 'a>, w: usize) -> Option<&'a [u8]>
     requires { (question_2 code.now.lines.now code.now.tokens.now code.now.text.now ≡ true) × (is_goto w ≡ true) × (header_at w ≡ 0 → ⊥) }
     ensures { let C = listing_of code.now in
         name_of result ≡ goto_target (line_of C w) }
@@ -76,7 +76,7 @@ fn header_target<'a>(code: &Listing<'a>, w: usize) -> Option<&'a [u8]>
 }
 
 // The target of the piece p.
-fn piece_target<'a>(code: &Listing<'a>, p: usize) -> Option<&'a [u8]>
+fn piece_target<'a>(code: &Listing<'_, 'a>, p: usize) -> Option<&'a [u8]>
     ensures { let C = listing_of code.now in
         name_of result ≡ goto_target (piece C p) }
 {
@@ -85,7 +85,7 @@ fn piece_target<'a>(code: &Listing<'a>, p: usize) -> Option<&'a [u8]>
 }
 
 // The target of the line of w.
-pub fn word_target<'a>(code: &Listing<'a>, w: usize) -> Option<&'a [u8]>
+pub fn word_target<'a>(code: &Listing<'_, 'a>, w: usize) -> Option<&'a [u8]>
     requires { (question_2 code.now.lines.now code.now.tokens.now code.now.text.now ≡ true) × (is_goto w ≡ true) }
     ensures { let C = listing_of code.now in
         name_of result ≡ goto_target (line_of C w) }

@@ -64,7 +64,7 @@ pub fn step<'a>(kind: usize, t: &'a [u8], s: State<'a>) -> State<'a>
 }
 
 // The first n tokens of line i.
-pub fn seek_tokens<'a>(code: &Listing<'a>, i: usize, n: usize, s: State<'a>) -> State<'a>
+pub fn seek_tokens<'a>(code: &Listing<'_, 'a>, i: usize, n: usize, s: State<'a>) -> State<'a>
     requires { n ≤ length (line (listing_of code.now) i).tokens }
     ensures { let C = listing_of code.now in
         told result ≡ seek (told s.entry) (part 0 n (line C i).tokens) }
@@ -77,7 +77,7 @@ pub fn seek_tokens<'a>(code: &Listing<'a>, i: usize, n: usize, s: State<'a>) -> 
 }
 
 // The tokens of line i, the last without its last code point.
-pub fn seek_line<'a>(code: &Listing<'a>, i: usize, s: State<'a>) -> State<'a>
+pub fn seek_line<'a>(code: &Listing<'_, 'a>, i: usize, s: State<'a>) -> State<'a>
     ensures { let C = listing_of code.now in
         told result ≡ seek (told s.entry) (popped (line C i).tokens) }
 {
@@ -95,7 +95,13 @@ pub fn seek_line<'a>(code: &Listing<'a>, i: usize, s: State<'a>) -> State<'a>
 }
 
 // Token k of the m tokens of the condition of line i, unless it is empty.
-fn seek_test_token<'a>(code: &Listing<'a>, i: usize, m: usize, k: usize, s: State<'a>) -> State<'a>
+fn seek_test_token<'a>(
+    code: &Listing<'_, 'a>,
+    i: usize,
+    m: usize,
+    k: usize,
+    s: State<'a>,
+) -> State<'a>
     requires { k < m }
     ensures { let C = listing_of code.now in
         told result ≡ seek (told s.entry) (whole (test_token (line C i) m k ∷ [])) }
@@ -108,7 +114,7 @@ fn seek_test_token<'a>(code: &Listing<'a>, i: usize, m: usize, k: usize, s: Stat
 }
 
 // The condition of line i before place g.
-pub fn seek_test<'a>(code: &Listing<'a>, i: usize, g: usize, s: State<'a>) -> State<'a>
+pub fn seek_test<'a>(code: &Listing<'_, 'a>, i: usize, g: usize, s: State<'a>) -> State<'a>
     ensures { let C = listing_of code.now in
         told result ≡ seek (told s.entry) (test (line C i) g) }
 {

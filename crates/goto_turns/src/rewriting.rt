@@ -27,7 +27,7 @@ fn close_word(w: usize, d: usize) -> usize
 
 // The name of the label right behind place b, where there is one.
 #[tactic(auto, using(crate::proofs::Bodies::exits))]
-fn exit_name<'a>(code: &Listing<'a>, plan: &[usize], n: usize, b: usize) -> Option<&'a [u8]>
+fn exit_name<'a>(code: &Listing<'_, 'a>, plan: &[usize], n: usize, b: usize) -> Option<&'a [u8]>
     requires { (b < n) × (n ≤ length plan.now) }
     ensures { let C = listing_of code.now in
         name_of result ≡ exit_label (render C (take n plan.now)) b }

@@ -5,14 +5,14 @@ use model::listing::Listing;
 use rows::columns::first;
 
 // The listing in the first so many words and bytes of these columns.
-pub fn cut<'a>(
-    lines: &'a [u32],
-    tokens: &'a [u32],
+pub fn cut<'c, 'a>(
+    lines: &'c [u32],
+    tokens: &'c [u32],
     text: &'a [u8],
     line_count: usize,
     token_count: usize,
     byte_count: usize,
-) -> Listing<'a>
+) -> Listing<'c, 'a>
     ensures lines { result.lines.now ≡ take line_count lines.now }
     ensures tokens { result.tokens.now ≡ take token_count tokens.now }
     ensures text { result.text.now ≡ take byte_count text.now }

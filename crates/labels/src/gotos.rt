@@ -60,7 +60,7 @@ fn next_symbol(code: &Listing, from: usize, e: usize) -> Option<usize>
     None
 }
 
-impl<'a, 'm> Labels<'a, 'm> {
+impl Labels<'_, '_, '_> {
     // The line that a goto leads to, behind which the line's tokens stand from place `from` up to place e: the label that the first symbol names.
     pub fn goto_line(&self, from: usize, e: usize) -> Option<usize>
         requires { e ≤ length self.now.code.tokens.now }

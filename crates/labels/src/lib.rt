@@ -182,8 +182,8 @@ pub fn index(code: &Listing, heads: &mut [u16], nexts: &mut [u16])
 
 // A listing whose labels are in their buckets.
 #[derive(Clone, Copy)]
-pub struct Labels<'a, 'm> {
-    pub code: Listing<'a>,
+pub struct Labels<'c, 'a, 'm> {
+    pub code: Listing<'c, 'a>,
     pub heads: &'m [u16],
     pub nexts: &'m [u16],
     pub ghost heads_room: { 256 ≤ length heads.now },
@@ -191,9 +191,9 @@ pub struct Labels<'a, 'm> {
     pub ghost indexed: { Indexed (listing_of code) heads.now nexts.now (length code.lines.now) },
 }
 
-impl<'a, 'm> Labels<'a, 'm> {
+impl<'c, 'a, 'm> Labels<'c, 'a, 'm> {
     // The buckets are empty, and there is an entry for each line.
-    pub fn new(code: &Listing<'a>, heads: &'m mut [u16], nexts: &'m mut [u16]) -> Self
+    pub fn new(code: &Listing<'c, 'a>, heads: &'m mut [u16], nexts: &'m mut [u16]) -> Self
         requires in_bounds { (256 ≤ length heads.old) × (length code.now.lines.now ≤ length nexts.old) × (length code.now.lines.now ≤ 1024) }
         requires by_index { (b : ℕ) → get_or heads.old b 0 ≡ 0 }
         ensures { result.code ≡ code.now }

@@ -38,7 +38,7 @@ fn put_found(out: &mut [u64], f: Option<usize>) {
     }
 }
 
-fn listing<'a>(lines: &'a [u32], tokens: &'a [u32], text: &'a [u8]) -> Listing<'a> {
+fn listing<'c, 'a>(lines: &'c [u32], tokens: &'c [u32], text: &'a [u8]) -> Listing<'c, 'a> {
     Listing {
         lines,
         tokens,

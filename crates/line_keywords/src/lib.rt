@@ -114,15 +114,15 @@ pub fn masks(code: &Listing, masks: &mut [u8])
 
 // A listing, and for each of its lines a byte whose bits say which keywords the line has.
 #[derive(Clone, Copy)]
-pub struct Keywords<'a, 'm> {
-    pub code: Listing<'a>,
+pub struct Keywords<'c, 'a, 'm> {
+    pub code: Listing<'c, 'a>,
     pub masks: &'m [u8],
     pub ghost holds: { Masks (listing_of code) masks.now },
 }
 
-impl<'a, 'm> Keywords<'a, 'm> {
+impl<'c, 'a, 'm> Keywords<'c, 'a, 'm> {
     // The column is empty, and there is an entry for each line.
-    pub fn new(code: &Listing<'a>, masks: &'m mut [u8]) -> Self
+    pub fn new(code: &Listing<'c, 'a>, masks: &'m mut [u8]) -> Self
         requires lines_in_bounds { length code.now.lines.now ≤ length masks.old }
         requires by_index { (b : ℕ) → get_or masks.old b 0 ≡ 0 }
         ensures { result.code ≡ code.now }

@@ -12,8 +12,8 @@ use line_keywords::Keywords;
 
 // A listing with its keywords, and of each line the entries of the line that closes its block and of the innermost opener around it.
 #[derive(Clone, Copy)]
-pub struct Blocks<'a, 'm> {
-    pub keywords: Keywords<'a, 'm>,
+pub struct Blocks<'c, 'a, 'k, 'm> {
+    pub keywords: Keywords<'c, 'a, 'k>,
     pub ends: &'m [u16],
     pub parents: &'m [u16],
     pub ghost ends_room: { length keywords.code.lines.now ≤ length ends.now },
@@ -22,10 +22,10 @@ pub struct Blocks<'a, 'm> {
     pub ghost enclosed: { Enclosed (listing_of keywords.code) (blocks_of (listing_of keywords.code)) parents.now },
 }
 
-impl<'a, 'm> Blocks<'a, 'm> {
+impl<'c, 'a, 'k, 'm> Blocks<'c, 'a, 'k, 'm> {
     // None where a brace does not match. The columns have room for an entry for each line.
     pub fn new(
-        keywords: &Keywords<'a, 'm>,
+        keywords: &Keywords<'c, 'a, 'k>,
         ends: &'m mut [u16],
         parents: &'m mut [u16],
         counts: &mut [usize],

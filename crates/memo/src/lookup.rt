@@ -20,8 +20,8 @@ use model::listing::Listing;
 
 // A listing, the table of its `count` families, and what was looked up of them.
 #[derive(Drop)]
-pub struct Lookup<'a, 'b> {
-    pub code: Listing<'a>,
+pub struct Lookup<'c, 'a, 'b> {
+    pub code: Listing<'c, 'a>,
     pub count: usize,
     pub table: &'b [u16],
     pub slots: [Slot; 64],
@@ -29,9 +29,9 @@ pub struct Lookup<'a, 'b> {
     pub ghost keeps: { Memo (defined_families (listing_of code)) slots },
 }
 
-impl<'a, 'b> Lookup<'a, 'b> {
+impl<'c, 'a, 'b> Lookup<'c, 'a, 'b> {
     // Nothing was looked up yet.
-    pub fn new(code: &Listing<'a>, table: &'b [u16], count: usize) -> Lookup<'a, 'b>
+    pub fn new(code: &Listing<'c, 'a>, table: &'b [u16], count: usize) -> Lookup<'c, 'a, 'b>
         requires { Finds (listing_of code.now) count table.now }
         ensures { (result.code ≡ code.now) × (result.count ≡ count) }
     {

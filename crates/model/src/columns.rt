@@ -24,7 +24,7 @@ fn start(ws: &[u32], by: usize, k: usize) -> usize
     }
 }
 
-impl<'a> Listing<'a> {
+impl<'a> Listing<'_, 'a> {
     // Tokens among all tokens
 
     pub fn token_kind(&self, k: usize) -> usize

@@ -40,7 +40,7 @@ pub fn test_kind(code: &Listing, i: usize, m: usize, k: usize) -> usize
 }
 
 // Its text, as a part of the lent text.
-pub fn test_text<'a>(code: &Listing<'a>, i: usize, m: usize, k: usize) -> &'a [u8]
+pub fn test_text<'a>(code: &Listing<'_, 'a>, i: usize, m: usize, k: usize) -> &'a [u8]
     requires { k < m }
     ensures { result.now ≡ (test_token (line (listing_of code.now) i) m k).text }
 {

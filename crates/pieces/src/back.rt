@@ -14,7 +14,7 @@ use model::listing::Listing;
 use pseudo_types::texts::text_from;
 
 // The texts of the first g tokens of line i, one after the other.
-pub fn text_before<'a>(code: &Listing<'a>, i: usize, g: usize) -> &'a [u8]
+pub fn text_before<'a>(code: &Listing<'_, 'a>, i: usize, g: usize) -> &'a [u8]
     requires { question_2 code.now.lines.now code.now.tokens.now code.now.text.now ≡ true }
     ensures { result.now ≡ text_before (line (listing_of code.now) i) g }
 {

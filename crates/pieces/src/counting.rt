@@ -22,7 +22,7 @@ use pseudo_opt::registers::register_at;
 use pseudo_types::texts::text_from;
 
 // The texts of the tokens of line i from place 1 up to place n, which is not 0.
-fn text_between<'a>(code: &Listing<'a>, i: usize, n: usize) -> &'a [u8]
+fn text_between<'a>(code: &Listing<'_, 'a>, i: usize, n: usize) -> &'a [u8]
     requires text_value { question_2 code.now.lines.now code.now.tokens.now code.now.text.now ≡ true }
     requires fact { n ≡ 0 → ⊥ }
     ensures { result.now ≡ text_between (line (listing_of code.now) i) n }

@@ -48,7 +48,7 @@ pub fn first_symbol(code: &Listing, i: usize, k: usize) -> Option<usize>
 }
 
 // Its text, as a part of the lent text: empty where there is none, which `first_symbol` tells.
-pub fn target_after<'a>(code: &Listing<'a>, i: usize, k: usize) -> &'a [u8]
+pub fn target_after<'a>(code: &Listing<'_, 'a>, i: usize, k: usize) -> &'a [u8]
     ensures { let l = line (listing_of code.now) i in
         result.now ≡ or_else (first_symbol (drop (k + 1) l.tokens)) [] }
 {
@@ -68,7 +68,7 @@ pub fn goto_symbol(code: &Listing, i: usize) -> Option<usize>
 }
 
 // Its text, as a part of the lent text: empty where there is none, which `goto_symbol` tells.
-pub fn goto_target<'a>(code: &Listing<'a>, i: usize) -> &'a [u8]
+pub fn goto_target<'a>(code: &Listing<'_, 'a>, i: usize) -> &'a [u8]
     ensures { result.now ≡ or_else (goto_target (line (listing_of code.now) i)) [] }
 {
     let Some(k) = goto_symbol(code, i) else {

@@ -18,7 +18,7 @@ use family::Register;
 use model::listing::Listing;
 
 // The text of the condition behind place k of line i, of which `end` bytes are cut off at the end.
-fn condition_text<'a>(code: &Listing<'a>, i: usize, k: usize, end: usize) -> &'a [u8]
+fn condition_text<'a>(code: &Listing<'_, 'a>, i: usize, k: usize, end: usize) -> &'a [u8]
     requires { question_2 code.now.lines.now code.now.tokens.now code.now.text.now ≡ true }
     ensures { let s = text_from (line (listing_of code.now) i) (k + 1) in
         result.now ≡ part 2 (length s - end) s }
@@ -79,7 +79,7 @@ fn left(m: usize, end: usize, j: usize, n: usize) -> usize
 }
 
 // The text of token j of line i as a token of the condition behind place k, of which `end` bytes are cut off at the end.
-pub fn cut_text<'a>(code: &Listing<'a>, i: usize, k: usize, end: usize, j: usize) -> &'a [u8]
+pub fn cut_text<'a>(code: &Listing<'_, 'a>, i: usize, k: usize, end: usize, j: usize) -> &'a [u8]
     ensures { result.now ≡ (cut_token (line (listing_of code.now) i) k end j).text }
 {
     let m = code.token_count(i);

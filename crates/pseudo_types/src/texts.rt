@@ -27,7 +27,7 @@ pub fn token_start(tokens: &[u32], k: usize) -> usize
 }
 
 // The texts of the tokens of line i from place j on, one after the other, as a part of the lent text.
-pub fn text_from<'a>(code: &Listing<'a>, i: usize, j: usize) -> &'a [u8]
+pub fn text_from<'a>(code: &Listing<'_, 'a>, i: usize, j: usize) -> &'a [u8]
     requires { question_2 code.now.lines.now code.now.tokens.now code.now.text.now ≡ true }
     ensures { result.now ≡ text_from (line (listing_of code.now) i) j }
 {

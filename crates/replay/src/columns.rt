@@ -44,7 +44,7 @@ where
     Some((count, rest))
 }
 
-fn listing<'a>(lines: &'a [u32], tokens: &'a [u32], text: &'a [u8]) -> Listing<'a> {
+fn listing<'c, 'a>(lines: &'c [u32], tokens: &'c [u32], text: &'a [u8]) -> Listing<'c, 'a> {
     Listing {
         lines,
         tokens,

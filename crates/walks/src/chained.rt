@@ -23,7 +23,7 @@ pub struct Columns<'a> {
 // A listing whose families are numbered and whose tokens are chained: `table` finds the `count` families, the rest is as in `Columns`.
 #[derive(Clone, Copy)]
 pub struct Chained<'a> {
-    pub code: &'a Listing<'a>,
+    pub code: &'a Listing<'a, 'a>,
     pub table: &'a [u16],
     pub count: usize,
     pub first: &'a [u16],
