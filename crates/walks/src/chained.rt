@@ -15,7 +15,7 @@ use model::listing::Listing;
 // says what it needs.
 #[derive(Clone, Copy)]
 pub struct Columns<'a> {
-    pub code: &'a Listing<'a>,
+    pub code: &'a Listing<'a, 'a>,
     pub first: &'a [u16],
     pub defs: &'a [u16],
 }
