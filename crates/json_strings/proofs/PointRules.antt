@@ -1,18 +1,17 @@
 -- Rules for the needs of the code points: each premise is a field of what a need is handed.
---   point_bad, point_go, point_inside    the code point at a place, by its length
+--   length_short, point_within           the length of the code point at the start
+--   point_bad, point_go                  none; the code point, of which four loaded bytes hold as many as it has
 --   encode_1 .. encode_4                 the bytes of a code point, by its number
---   byte_past_end, byte_past             no byte past the end
 -- Assumes nothing.
 use Rattle.std.specs.Prelude.{Option, None, Some}
-use mathlib.Core.Path.{◌≡◌, refl, ◌∙◌}
+use mathlib.Core.Path.{◌≡◌, refl, sym, ◌∙◌}
 use mathlib.Core.Bool.{Bool, true, false, ◌&&◌, cond}
-use mathlib.Core.List.{List, [], ◌∷◌, ◌++◌}
-use Prim.Native.Nat.{ℕ, suc, ◌+◌, ◌/◌, ◌%◌, ◌≤◌, ◌<◌, zero-le, suc-le-suc}
+use mathlib.Core.List.{List, [], ◌∷◌}
+use Prim.Native.Nat.{ℕ, zero, suc, ◌+◌, ◌/◌, ◌%◌, ◌≤◌, ◌<◌, zero-le, suc-le-suc}
 use native.Mathlib.Omega.{arith}
 use borrow.Author.Tests.{ne_eqb, lt-ltb, le-ltb}
 use lib.Dec.{eqb, leb, eqb-suc-zero}
-use lib.ListN.{length, take, drop, length-take}
-use lib.Seq.{take-append_seam}
+use lib.ListN.{length, get_or, take, drop}
 use Rattle.definitions.specs.Utf8.{Range, within, following}
 use Rattle.text.specs.CodePoint.{starts_within}
 use Rattle.text.specs.CodePoint.{code_point as point_length}
@@ -83,17 +82,28 @@ point_is (a ∷ t) = go (following a)
 pub point_bad : (s : List ℕ) → point_length s ≡ 0 → code_point s ≡ None
 point_bad s e = point_is s ∙ rw e
 
-pub point_go : (s : List ℕ) → (point_length s ≡ 0 → ⊥) → code_point s ≡ got (take (point_length s) s) (drop (point_length s) s)
-point_go s e = point_is s ∙ rw (ne_eqb (point_length s) 0 e)
-
 pub point_within : (s : List ℕ) → point_length s ≤ length s
 point_within s = let h : 0 + point_length s ≤ length s = utf8_inside s 0 (point_length s) zero-le refl in omega arith
 
-pub four : (n : ℕ) → n ≤ 4 → length {A = ℕ} (take n (0 ∷ 0 ∷ 0 ∷ 0 ∷ [])) ≡ n
-four n h = rw length-take (omega arith)
+take_four : (t : List ℕ) (n : ℕ) → n ≤ 4 → n ≤ length t → take n (get_or t 0 0 ∷ get_or t 1 0 ∷ get_or t 2 0 ∷ get_or t 3 0 ∷ []) ≡ take n t
+take_four t zero h k = refl
+take_four [] (suc n) h k = absurd (omega arith)
+take_four (a ∷ t) (suc zero) h k = refl
+take_four (a ∷ []) (suc (suc n)) h k = absurd (omega arith)
+take_four (a ∷ (b ∷ t)) (suc (suc zero)) h k = refl
+take_four (a ∷ (b ∷ [])) (suc (suc (suc n))) h k = absurd (omega arith)
+take_four (a ∷ (b ∷ (c ∷ t))) (suc (suc (suc zero))) h k = refl
+take_four (a ∷ (b ∷ (c ∷ []))) (suc (suc (suc (suc n)))) h k = absurd (omega arith)
+take_four (a ∷ (b ∷ (c ∷ (d ∷ t)))) (suc (suc (suc (suc zero)))) h k = refl
+take_four (a ∷ (b ∷ (c ∷ (d ∷ t)))) (suc (suc (suc (suc (suc n))))) h k = absurd (omega arith)
 
-pub take_front : (n : ℕ) (a b : List ℕ) → length a ≡ n → take n (a ++ b) ≡ a
-take_front n a b e = rw (← e, take-append_seam a b)
+pub point_go : (s : List ℕ) (n a b c d : ℕ) (rest : List ℕ) → n ≡ point_length s → (n ≡ 0 → ⊥)
+    → a ≡ get_or s 0 0 → b ≡ get_or s 1 0 → c ≡ get_or s 2 0 → d ≡ get_or s 3 0 → rest ≡ drop n s
+    → got (take n (a ∷ b ∷ c ∷ d ∷ [])) rest ≡ code_point s
+point_go s n a b c d rest e f p q r t u =
+    let h : n ≤ 4 = rw e (length_short s) in
+    let k : n ≤ length s = rw e (point_within s) in
+    rw (p, q, r, t, u, take_four s n h k) (sym (point_is s ∙ rw (← e, ne_eqb n 0 f)))
 
 -- The bytes of a code point
 
@@ -114,4 +124,4 @@ module _ (u : ℕ) where
   unfolding encode
   encode_4 l = rw (le-ltb u 128 (omega arith), le-ltb u 2048 (omega arith), le-ltb u 65536 l)
 
-pub ruleset points = (length_short, four, point_within, take_front, point_bad, point_go, encode_1, encode_2, encode_3, encode_4)
+pub ruleset points = (length_short, point_within, point_bad, encode_1, encode_2, encode_3, encode_4)

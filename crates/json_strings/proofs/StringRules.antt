@@ -14,8 +14,7 @@ use native.Mathlib.Omega.{arith}
 use borrow.Author.Tests.{eq-eqb, ne_eqb, le-leb, lt-leb, leb-true, lt-ltb, le-ltb, ltb-true, not-true}
 use lib.Dec.{leb, ltb, eqb}
 use lib.ListN.{length, set, take, drop, length-append, length-take, length-drop, take-append-drop}
-use borrow.Rule.Slice.PartMut.{put_mid}
-use lib.Seq.{drop-drop, sets, sets-eq, length-sets, length-take-le, drop-append-le, take-append-add, take-append-le, take-append_seam, take_at, take-take}
+use lib.Seq.{sets, sets-eq, length-sets, length-take-le, drop-append-le, take-append-add, take-append-le, take-append_seam, take_at, take-take}
 use Rattle.definitions.specs.Lists.{part}
 use Rattle.loop_theory.proofs.Cases.{and_split}
 use Rattle.json_definitions.specs.Parser.{Got, got, after, lexeme}
@@ -75,10 +74,6 @@ module _ (l u : List ℕ) (a to : ℕ) (h : a ≤ to) (k : to + length u ≤ len
       ap (take a) (sets-eq u l to k ∙ append_assoc (take to l) u (drop (to + length u) l))
       ∙ take-append-le a (take to l) (u ++ drop (to + length u) l) (rw front h)
       ∙ take-take a to l h
-
--- text to which the bytes u were copied, as a part
-pub copied : (l u v : List ℕ) (to k : ℕ) → v ≡ u → k ≡ length u → to + length u ≤ length l → put_mid to k l v ≡ sets l to u
-copied l u v to k e f h = rw (e, f, sets-eq u l to h, drop-drop (length u) to l) (sym (append_assoc (take to l) u (drop (to + length u) l)))
 
 -- What is read so far, before what is left to read
 prepend_prepend : (u v : List ℕ) (o : Option (Got (List ℕ))) → prepend u (prepend v o) ≡ prepend (u ++ v) o

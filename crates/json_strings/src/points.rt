@@ -1,13 +1,20 @@
 // One code point, as one to four bytes: as it stands in the text, and made of its number.
 #![tactic(auto, using(crate::proofs::PointRules::points))]
 
-ghost use Rattle.std.specs.Prelude.{◌≡◌, ◌<◌};
+ghost use Rattle.std.specs.Prelude.{◌≡◌, ◌<◌, get_or};
 ghost use Rattle.json_definitions.specs.Strings.{encode, code_point};
 ghost use Rattle.json_strings.specs.Answers.{bytes_of, character_of};
 
 use crate::bytes::Bytes;
 
-// The code point at the start.
+// Byte k, 0 past the end.
+fn byte_at(s: &[u8], k: usize) -> u8
+    ensures { result ≡ get_or s.now k 0 }
+{
+    s.get(k).copied().unwrap_or(0)
+}
+
+// The code point at the start. Four bytes are loaded whatever its length is: a copy of n bytes would be a call.
 pub fn code_point(s: &[u8]) -> Option<(Bytes, &[u8])>
     ensures { character_of result ≡ code_point s.now }
 {
@@ -15,9 +22,8 @@ pub fn code_point(s: &[u8]) -> Option<(Bytes, &[u8])>
     if n == 0 {
         return None;
     }
-    let (point, rest) = s.split_at(n);
-    let mut all = [0; 4];
-    all[..n].copy_from_slice(point);
+    let (_, rest) = s.split_at(n);
+    let all = [byte_at(s, 0), byte_at(s, 1), byte_at(s, 2), byte_at(s, 3)];
     Some((Bytes { n, all }, rest))
 }
 

@@ -1,10 +1,11 @@
 // Strings, into lent text.
 #![tactic(auto, using(crate::proofs::StringRules::points_read))]
 
-ghost use Rattle.std.specs.Prelude.{◌≡◌, not, ◌&&◌, ◌-◌, ◌≤◌, leb, ltb, eqb, length, take, IfSome};
+ghost use Rattle.std.specs.Prelude.{◌≡◌, not, ◌&&◌, ◌+◌, ◌-◌, ◌≤◌, leb, ltb, eqb, length, take, IfSome};
+ghost use Rattle.std.proofs.lemmas.List.Edits.{sets};
 ghost use Rattle.json_definitions.specs.Strings.{character, string};
 ghost use Rattle.json_theory.specs.Steps.{up_to_quote};
-ghost use Rattle.json_strings.specs.Answers.{character_of, string_of, limited};
+ghost use Rattle.json_strings.specs.Answers.{bytes_of, character_of, string_of, limited};
 
 use crate::bytes::Bytes;
 use crate::escapes::escape;
@@ -19,6 +20,32 @@ fn character(s: &[u8]) -> Option<(Bytes, &[u8])>
         b'\\' => escape(rest),
         0..0x20 => None,
         _ => code_point(s),
+    }
+}
+
+// Stores the bytes of a code point at place `to`, one by one: a copy of a length that only a run tells would be a call.
+fn put(text: &mut [u8], to: usize, point: Bytes)
+    requires { to + length (bytes_of point) ≤ length text.old }
+    ensures { text.new ≡ sets text.old to (bytes_of point) }
+{
+    match point.as_slice() {
+        [] => {}
+        [a] => text[to] = *a,
+        [a, b] => {
+            text[to] = *a;
+            text[to + 1] = *b;
+        }
+        [a, b, c] => {
+            text[to] = *a;
+            text[to + 1] = *b;
+            text[to + 2] = *c;
+        }
+        [a, b, c, d, ..] => {
+            text[to] = *a;
+            text[to + 1] = *b;
+            text[to + 2] = *c;
+            text[to + 3] = *d;
+        }
     }
 }
 
@@ -55,7 +82,7 @@ fn characters<'a>(s: &'a [u8], text: &mut [u8], from: usize) -> Option<(usize, &
             if text.len() - to < bytes.len() {
                 return None;
             }
-            text[to..to + bytes.len()].copy_from_slice(bytes);
+            put(text, to, p);
             to += bytes.len();
             rest = behind;
         }

@@ -1,6 +1,6 @@
 use native.Mathlib.Omega.{arith}
 use Rattle.std.proofs.Common.{◌≤◌, length, ◌-◌}
-use Rattle.json_strings.proofs.StringRules.{going_start, characters_quote, characters_past, plain_full, plain_next, characters_bad, characters_full, characters_less, characters_next, copied}
+use Rattle.json_strings.proofs.StringRules.{going_start, characters_quote, characters_past, plain_full, plain_next, characters_bad, characters_full, characters_less, characters_next}
 use Rattle.json_strings.proofs.strings.characters.Goals as goal
 
 pub loop-c-init : goal.loop-c-init
@@ -28,8 +28,8 @@ pub loop-c-preserved : goal.loop-c-preserved
 loop-c-preserved c =
     let room : length c.as_slice-bytes.result.now ≤ length c.loop-c.text - c.loop-c.to = omega arith in
     let told = rw (← c.as_slice-bytes.ensures) at c.in_ok-p.ensures in
-    characters_next _ _ _ _ _ _ c.loop-c.invariant _ _ c.in-Some.ensures.cases.0 c.if-c-eq34.false c.as_slice-bytes.result.now _ told _ room
-    (copied _ _ _ _ _ c.copy_from_slice.ensures.after (omega arith) (omega (arith, c.loop-c.invariant.high)))
+    let stored = rw (← c.as_slice-bytes.ensures) at c.put.ensures in
+    characters_next _ _ _ _ _ _ c.loop-c.invariant _ _ c.in-Some.ensures.cases.0 c.if-c-eq34.false c.as_slice-bytes.result.now _ told _ room stored
 
 pub returns-clause-result_after : goal.returns-clause-result_after
 returns-clause-result_after c = characters_past _ _ _ _ _ _ c.loop-c.invariant c.in_default.ensures.cases
