@@ -59,10 +59,12 @@ impl Writer<'_> {
         ensures { Wrote self.old (escaped c) self.new }
     {
         if c == b'"' || c == b'\\' {
-            self.put(&[b'\\', c]);
+            self.put_byte(b'\\');
+            self.put_byte(c);
         } else if c < 0x20 {
             self.put(b"\\u00");
-            self.put(&[hex_letter(c / 16), hex_letter(c % 16)]);
+            self.put_byte(hex_letter(c / 16));
+            self.put_byte(hex_letter(c % 16));
         } else {
             self.put_byte(c);
         }

@@ -32,7 +32,10 @@ impl Writer<'_> {
         ensures { Wrote self.old (decimal n) self.new }
     {
         let mut digits = Buffer::new();
-        self.put(digits.format(n).as_bytes());
+        let text = digits.format(n).as_bytes();
+        for digit in text {
+            self.put_byte(*digit);
+        }
     }
 
     pub fn put_address(&mut self, a: Option<u64>)

@@ -1,5 +1,6 @@
-// A lent slice that is written from its start on.
-ghost use Rattle.std.specs.Prelude.{◌≡◌, ◌<◌, ◌^◌, [], ◌∷◌};
+// A lent slice that is written from its start or from a place on.
+ghost use Rattle.std.specs.Prelude.{◌≡◌, ◌<◌, ◌≤◌, ◌+◌, ◌^◌, [], ◌∷◌, ◌++◌, length, take};
+ghost use Rattle.write.specs.Holds.{Filled};
 
 // The slice, and the place behind what is written. What has no room is only counted, up to the greatest place.
 #[derive(Drop)]
@@ -7,6 +8,16 @@ pub struct Writer<'a> {
     out: &'a mut [u8],
     at: usize,
     ghost fits: { at < 2 ^ 64 },
+}
+
+// Stores the bytes at place `at`. A loop, since `copy_from_slice` of a length that only a run tells is a call, which costs more than most texts here.
+fn copy(out: &mut [u8], at: usize, bytes: &[u8])
+    requires { at + length bytes.now ≤ length out.old }
+    ensures { Filled (take at out.old ++ bytes.now) (at + length bytes.now) out.new }
+{
+    for j in 0..bytes.len() {
+        out[at + j] = bytes[j];
+    }
 }
 
 impl<'a> Writer<'a> {
@@ -20,13 +31,22 @@ impl<'a> Writer<'a> {
         Writer { out, at: 0 }
     }
 
+    // What is written stands behind place `at`, which may be behind the end.
+    pub fn behind(out: &'a mut [u8], at: usize) -> Writer<'a>
+        ensures same { result.out.ghost_name ≡ out.entry.ghost_name }
+        ensures slice { result.out.now ≡ out.old }
+        ensures start { result.at ≡ at }
+    {
+        Writer { out, at }
+    }
+
     #[inline]
     pub fn put(&mut self, bytes: &[u8])
         ensures { Wrote self.old bytes.now self.new }
     {
         let end = self.at.saturating_add(bytes.len());
         if end <= self.out.len() {
-            self.out[self.at..end].copy_from_slice(bytes);
+            copy(self.out, self.at, bytes);
         }
         self.at = end;
     }
@@ -35,7 +55,10 @@ impl<'a> Writer<'a> {
     pub fn put_byte(&mut self, byte: u8)
         ensures { Wrote self.old (byte ∷ []) self.new }
     {
-        self.put(&[byte]);
+        if self.at < self.out.len() {
+            self.out[self.at] = byte;
+        }
+        self.at = self.at.saturating_add(1);
     }
 
     // How many bytes are written or counted.
