@@ -1,7 +1,7 @@
 -- Rules for the needs of the strings.
---   plain_start, plain_next, plain_then      the loops over bytes that are written as they stand
+--   plain_start, plain_then                  blocks of bytes that are written as they stand
 --   letters, marked, alone                   one byte
---   run_put, run_next, run_none              a run of them, and what is left behind it
+--   run_put, run_byte, run_next, run_none    a run of them, one of them, and what is left behind it
 -- Assumes nothing.
 use Prim.Native.Nat.{ℕ, ◌-◌, ◌/◌, ◌%◌, ◌≤◌, ◌<◌}
 use mathlib.Core.Path.{◌≡◌, refl, sym, ap, ◌∙◌}
@@ -16,7 +16,7 @@ use Rattle.loop_theory.proofs.Cases.{and_split}
 use Rattle.json_definitions.specs.Writer.{hex_letter, escaped, characters_text}
 use Rattle.json_append.specs.Appended.{Plain, Wrote, Begun}
 use Rattle.json_append.specs.declared.writer.Writer.{Writer}
-use Rattle.json_append.proofs.Appends.{wrote_nothing, wrote_then, wrote_as, wrote_2}
+use Rattle.json_append.proofs.Appends.{wrote_nothing, wrote_then, wrote_as, wrote_2, begun_next, begun_start}
 
 -- Bytes that are written as they stand
 
@@ -37,11 +37,6 @@ plain_then s t r f g =
       cut = f.cut ∙ rw g.cut (sym (append_assoc f.front g.front r));
       same = f.same ∙ rw g.same (sym (append_assoc f.front g.front (characters_text r)));
     }
-
-pub plain_next : (s rest : List ℕ) (c : ℕ) (t : List ℕ) (b : Bool) → Plain s rest → rest ≡ c ∷ t → b ≡ (not (eqb c 34) && (not (eqb c 92) && leb 32 c)) → b ≡ true → Plain s t
-unfolding characters_text
-plain_next s rest c t b f q e h =
-    plain_then s rest t f (record { front = c ∷ []; cut = q; same = rw (q, plain_byte c (sym e ∙ h)) })
 
 -- One byte
 
@@ -70,9 +65,15 @@ pub run_next : (c : ℕ) (s t : List ℕ) → s ≡ c ∷ t → escaped c ++ cha
 unfolding characters_text
 run_next c s t q = rw q
 
+pub run_byte : (w : Writer) (t : List ℕ) (m : Writer) (s : List ℕ) (c : ℕ) (r : List ℕ) (b : Bool) (w' : Writer) → Begun w t m (characters_text s) → s ≡ c ∷ r
+    → b ≡ (not (eqb c 34) && (not (eqb c 92) && leb 32 c)) → b ≡ true → Wrote m (c ∷ []) w' → Begun w t w' (characters_text r)
+run_byte w t m s c r b w' g q e h f =
+    let one : (c ∷ []) ++ characters_text r ≡ characters_text s = ap (λ (u : List ℕ). u ++ characters_text r) (sym (plain_byte c (sym e ∙ h))) ∙ run_next c s r q in
+    begun_next w t m (characters_text s) g (c ∷ []) w' f (characters_text r) one
+
 pub run_none : (s : List ℕ) → length s ≡ 0 → characters_text s ≡ []
 unfolding characters_text
 run_none [] h = refl
 run_none (c ∷ s) h = absurd (omega arith)
 
-pub ruleset strings = (wrote_as, wrote_2, plain_start, plain_then, plain_next, letters, marked, alone, run_put)
+pub ruleset strings = (wrote_as, wrote_2, plain_start, plain_then, letters, marked, alone, run_put)

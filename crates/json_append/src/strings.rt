@@ -29,20 +29,6 @@ fn skip_plain_blocks(s: &[u8]) -> &[u8]
     rest
 }
 
-// What is left behind the bytes at the start that are written as they stand.
-fn skip_plain(s: &[u8]) -> &[u8]
-    ensures { Plain s.now result.now }
-{
-    let mut rest = skip_plain_blocks(s);
-    while let Some((c, tail)) = rest.split_first() {
-        if !is_plain(*c) {
-            break;
-        }
-        rest = tail;
-    }
-    rest
-}
-
 #[tactic(auto, unfolding(json_definitions::specs::Writer::hex_letter))]
 fn hex_letter(d: u8) -> u8
     requires { d < 16 }
@@ -59,15 +45,27 @@ impl Writer<'_> {
         ensures { Wrote self.old (escaped c) self.new }
     {
         if c == b'"' || c == b'\\' {
-            self.put_byte(b'\\');
-            self.put_byte(c);
+            self.put(&[b'\\', c]);
         } else if c < 0x20 {
             self.put(b"\\u00");
-            self.put_byte(hex_letter(c / 16));
-            self.put_byte(hex_letter(c % 16));
+            self.put(&[hex_letter(c / 16), hex_letter(c % 16)]);
         } else {
             self.put_byte(c);
         }
+    }
+
+    // The blocks of eight bytes at the start that are written as they stand. What is left behind them is the answer.
+    fn put_plain_blocks<'a>(&mut self, s: &'a [u8]) -> &'a [u8]
+        ensures begun { Begun self.old (characters_text s.now) self.new (characters_text result.now) }
+        ensures shorter { length result.now ≤ length s.now }
+    {
+        // For speed, no block is looked at where the first byte tells that it is none.
+        if s.len() < 8 || !is_plain(s[0]) {
+            return s;
+        }
+        let rest = skip_plain_blocks(s);
+        self.put(&s[..s.len() - rest.len()]);
+        rest
     }
 
     // The bytes at the start that are written as they stand. What is left behind them is the answer.
@@ -75,8 +73,14 @@ impl Writer<'_> {
         ensures begun { Begun self.old (characters_text s.now) self.new (characters_text result.now) }
         ensures shorter { length result.now ≤ length s.now }
     {
-        let rest = skip_plain(s);
-        self.put(&s[..s.len() - rest.len()]);
+        let mut rest = self.put_plain_blocks(s);
+        while let Some((c, tail)) = rest.split_first() {
+            if !is_plain(*c) {
+                break;
+            }
+            self.put_byte(*c);
+            rest = tail;
+        }
         rest
     }
 
@@ -84,10 +88,15 @@ impl Writer<'_> {
     pub fn put_characters(&mut self, s: &[u8])
         ensures { Wrote self.old (characters_text s.now) self.new }
     {
-        let mut rest = self.put_plain(s);
-        while let Some((c, tail)) = rest.split_first() {
+        // A `loop`, so that `put_plain` is called at one place and is part of this function.
+        let mut rest = s;
+        loop {
+            rest = self.put_plain(rest);
+            let Some((c, tail)) = rest.split_first() else {
+                return;
+            };
             self.put_character(*c);
-            rest = self.put_plain(tail);
+            rest = tail;
         }
     }
 }

@@ -55,10 +55,7 @@ impl<'a> Writer<'a> {
     pub fn put_byte(&mut self, byte: u8)
         ensures { Wrote self.old (byte ∷ []) self.new }
     {
-        if self.at < self.out.len() {
-            self.out[self.at] = byte;
-        }
-        self.at = self.at.saturating_add(1);
+        self.put(&[byte]);
     }
 
     // How many bytes are written or counted.

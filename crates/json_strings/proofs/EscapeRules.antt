@@ -2,19 +2,20 @@
 --   hex_digit_*                hexadecimal digits, by the value that `char::to_digit` gives
 --   low_surrogate_*, code_unit_*, escape_*
 -- Assumes nothing.
-use Rattle.std.specs.Prelude.{None}
+use Rattle.std.specs.Prelude.{Option, None, Some}
 use mathlib.Core.Path.{◌≡◌, refl}
-use mathlib.Core.Bool.{and-false}
+use mathlib.Core.Bool.{Bool, true, false, cond, and-false}
 use mathlib.Core.List.{List, [], ◌∷◌}
 use Prim.Native.Nat.{ℕ, ◌+◌, ◌*◌, ◌-◌, ◌≤◌, ◌<◌}
 use native.Mathlib.Omega.{arith}
 use borrow.Author.Tests.{eq-eqb, ne_eqb, le-leb, lt-leb, lt-ltb, le-ltb}
-use lib.Dec.{leb}
+use lib.Dec.{leb, ltb}
 use lib.ListN.{length}
 use Rattle.std.proofs.lemmas.Bool.Decides.{nat_tests}
 use Rattle.std.specs.Char.{digit_value}
 use Rattle.json_scan.proofs.Rules.{steps}
-use Rattle.json_definitions.specs.Parser.{got, after, ◌>>=◌, literal}
+use Rattle.json_definitions.specs.Parser.{Got, Parser, got, after, ◌>>=◌, literal}
+use Rattle.json_theory.proofs.Results.{never}
 use Rattle.json_definitions.specs.Strings.{encode, hex_value, hex_digit, hex_4, low_surrogate, code_unit, short_escape, escape}
 
 -- Hexadecimal digits
@@ -40,6 +41,29 @@ module _ (c : ℕ) (s : List ℕ) where
   pub hex_digit_no : (digit_value c < 16 → ⊥) → hex_digit (c ∷ s) ≡ None
   unfolding hex_digit
   hex_digit_no h = rw (le-ltb (hex_value c) 16 (hex_value_none c h))
+
+hex_digit_less : (s : List ℕ) (g : Got ℕ) → hex_digit s ≡ Some g → length g.rest < length s
+unfolding hex_digit
+hex_digit_less [] g e = never g e
+hex_digit_less (c ∷ s) g e = go (ltb (hex_value c) 16) e
+  where
+    go : (b : Bool) → cond b (got (hex_value c) s) None ≡ Some g → length g.rest < length (c ∷ s)
+    go true q = let z : record { value = hex_value c; rest = s } ≡ g = cc in rw (← z) (omega arith)
+    go false q = never g q
+
+after_none : (o : Option (Got ℕ)) (f : ℕ → Parser ℕ) → ((g : Got ℕ) → o ≡ Some g → f g.value g.rest ≡ None) → after o f ≡ None
+unfolding after
+after_none None f h = refl
+after_none (Some g) f h = h g refl
+
+pub hex_4_short : (s : List ℕ) → length s < 4 → hex_4 s ≡ None
+unfolding hex_4
+hex_4_short s h =
+    after_none (hex_digit s) _ (λ a p. after_none (hex_digit a.rest) _ (λ b q. after_none (hex_digit b.rest) _ (λ c r.
+    let i = hex_digit_less s a p in
+    let j = hex_digit_less a.rest b q in
+    let k = hex_digit_less b.rest c r in
+    rw (hex_digit_short c.rest (omega arith)) (unfold after in refl))))
 
 -- Escapes
 
@@ -97,6 +121,7 @@ pub ruleset escapes = (
   hex_digit_short,
   hex_digit_yes,
   hex_digit_no,
+  hex_4_short,
   low_surrogate_low,
   low_surrogate_high,
   low_surrogate_go,

@@ -22,6 +22,10 @@ fn hex_4(s: &[u8]) -> Option<(u32, &[u8])>
     ensures value { number_of result ≡ hex_4 s.now }
     ensures small { IfSome result (λ r. r.0 < 65536) }
 {
+    // One test in place of the four of `hex_digit`, for speed.
+    if s.len() < 4 {
+        return None;
+    }
     let (a, s) = hex_digit(s)?;
     let (b, s) = hex_digit(s)?;
     let (c, s) = hex_digit(s)?;
