@@ -1,6 +1,7 @@
 -- The table of names and the place that a hash gives: what is computed once, over the whole table, and the rules for the functions that look
 -- into it.
---   letters_is           the name in a cell
+--   two_yes, two_no, two_low, two_high, three_yes, three_no, three_low    a text that is compared byte by byte
+--   letters_two, letters_three            the name in a cell
 --   below                what a test finds of every number below n
 --   cell_is              the cell at place p holds the name at place p
 --   place_start, place_least, place_only   an entry of the hashes is a place, that of the name with this hash
@@ -10,28 +11,84 @@
 use Rattle.std.specs.Prelude.{Option, None, Some}
 use Rattle.std.specs.Option.{option_map}
 use mathlib.Core.Path.{◌≡◌, refl, sym, ap, ◌∙◌}
-use mathlib.Core.Bool.{Bool, true, false, ◌&&◌, cond}
+use mathlib.Core.Bool.{Bool, true, false, ◌&&◌, and-true, cond}
 use mathlib.Core.List.{List, [], ◌∷◌}
 use Prim.Native.Nat.{ℕ, zero, suc, ◌+◌, ◌*◌, ◌-◌, ◌≤◌, ◌<◌}
 use native.Mathlib.Nat.{add-zero, add-suc, suc-add, zero-add, le_of_suc-le-suc, not-suc-le-zero}
 use lib.Dec.{eqb, leb, ltb}
 use native.Mathlib.Omega.{arith}
-use borrow.Author.Tests.{eqb-true, leb-true, ltb-true}
-use lib.ListN.{length, get_or, take}
-use lib.Seq.{take_all}
-use Rattle.definitions.specs.Lists.{◌≟◌, all, range, up_to, position, concat}
+use borrow.Author.Tests.{eq-eqb, ne_eqb, eqb-true, leb-true, ltb-true}
+use lib.ListN.{length, get_or, take, drop}
+use Rattle.std.specs.Bool.{nat_eq}
+use Rattle.definitions.specs.Lists.{◌≟◌, all, range, up_to, position, concat, part}
 use Rattle.definitions.specs.Family.{legacy}
-use Rattle.text.proofs.Texts.{≟_eq}
+use Rattle.text.proofs.Parts.{part_tail}
+use Rattle.text.proofs.Texts.{≟_eq, ≟_length, ne_≟}
 use Rattle.legacy.specs.Table.{letters, all_names, name_at, hash, row_name}
+
+-- A text, byte by byte
+
+module _ (s : List ℕ) (a b : ℕ) where
+  pub two_yes : 2 ≤ length s → length s < 3 → get_or s 0 0 ≡ a → nat_eq (get_or s 1 0) b ≡ (s ≟ a ∷ b ∷ [])
+  unfolding ◌≟◌
+  two_yes l m e = go s l m e
+    where
+      go : (s : List ℕ) → 2 ≤ length s → length s < 3 → get_or s 0 0 ≡ a → nat_eq (get_or s 1 0) b ≡ (s ≟ a ∷ b ∷ [])
+      go [] l m e = absurd (omega arith)
+      go (x ∷ []) l m e = absurd (omega arith)
+      go (x ∷ y ∷ []) l m e = rw (eq-eqb x a e, and-true (eqb y b)) refl
+      go (x ∷ y ∷ z ∷ t) l m e = absurd (omega arith)
+
+  pub two_no : (get_or s 0 0 ≡ a → ⊥) → nat_eq (get_or s 0 0) a ≡ (s ≟ a ∷ b ∷ [])
+  two_no e = rw (ne_eqb (get_or s 0 0) a e) (sym (ne_≟ s (a ∷ b ∷ []) (λ q. e (ap (λ (t : List ℕ). get_or t 0 0) q))))
+
+  pub two_low : length s < 2 → false ≡ (s ≟ a ∷ b ∷ [])
+  two_low l = sym (≟_length s (a ∷ b ∷ []) (λ e. omega arith))
+
+  pub two_high : 3 ≤ length s → false ≡ (s ≟ a ∷ b ∷ [])
+  two_high l = sym (≟_length s (a ∷ b ∷ []) (λ e. omega arith))
+
+  module _ (c : ℕ) where
+    three_from : (s : List ℕ) (r : Bool) → 1 ≤ length s → get_or s 0 0 ≡ a → r ≡ (drop 1 s ≟ b ∷ c ∷ []) → r ≡ (s ≟ a ∷ b ∷ c ∷ [])
+    unfolding ◌≟◌
+    three_from [] r l e q = absurd (omega arith)
+    three_from (x ∷ t) r l e q = rw (eq-eqb x a e) q
+
+    pub three_yes : (r : Bool) → 1 ≤ length s → get_or s 0 0 ≡ a → r ≡ (part 1 (length s) s ≟ b ∷ c ∷ []) → r ≡ (s ≟ a ∷ b ∷ c ∷ [])
+    three_yes r l e q = three_from s r l e (q ∙ ap (λ (t : List ℕ). t ≟ b ∷ c ∷ []) (part_tail s 1))
+
+    pub three_no : (get_or s 0 0 ≡ a → ⊥) → nat_eq (get_or s 0 0) a ≡ (s ≟ a ∷ b ∷ c ∷ [])
+    three_no e = rw (ne_eqb (get_or s 0 0) a e) (sym (ne_≟ s (a ∷ b ∷ c ∷ []) (λ q. e (ap (λ (t : List ℕ). get_or t 0 0) q))))
+
+    pub three_low : length s < 1 → false ≡ (s ≟ a ∷ b ∷ c ∷ [])
+    three_low l = sym (≟_length s (a ∷ b ∷ c ∷ []) (λ e. omega arith))
+
+pub ruleset two = (two_yes, two_no, two_low, two_high)
+
+pub ruleset three = (three_yes, three_no, three_low)
 
 -- The name in a cell
 
-pub letters_is : (s cell : List ℕ) (n : ℕ) → length cell ≡ 3 → n ≡ cond (eqb (get_or cell 2 0) 0) 2 3 → (s ≟ take n cell) ≡ (s ≟ letters cell)
-letters_is s cell n h e = rw e (go (eqb (get_or cell 2 0) 0))
-  where
-    go : (b : Bool) → (s ≟ take (cond b 2 3) cell) ≡ (s ≟ cond b (take 2 cell) cell)
-    go true = refl
-    go false = rw (take_all 3 cell (omega arith))
+module _ (s cell : List ℕ) (r : Bool) (h : length cell ≡ 3) where
+  pub letters_two : get_or cell 2 0 ≡ 0 → r ≡ (s ≟ get_or cell 0 0 ∷ get_or cell 1 0 ∷ []) → r ≡ (s ≟ letters cell)
+  letters_two g e = rw (eq-eqb (get_or cell 2 0) 0 g) (e ∙ ap (s ≟◌) (two cell h))
+    where
+      two : (c : List ℕ) → length c ≡ 3 → get_or c 0 0 ∷ get_or c 1 0 ∷ [] ≡ take 2 c
+      two [] h = absurd (omega arith)
+      two (x ∷ []) h = absurd (omega arith)
+      two (x ∷ y ∷ c) h = refl
+
+  pub letters_three : (get_or cell 2 0 ≡ 0 → ⊥) → r ≡ (s ≟ get_or cell 0 0 ∷ get_or cell 1 0 ∷ get_or cell 2 0 ∷ []) → r ≡ (s ≟ letters cell)
+  letters_three g e = rw (ne_eqb (get_or cell 2 0) 0 g) (e ∙ ap (s ≟◌) (three cell h))
+    where
+      three : (c : List ℕ) → length c ≡ 3 → get_or c 0 0 ∷ get_or c 1 0 ∷ get_or c 2 0 ∷ [] ≡ c
+      three [] h = absurd (omega arith)
+      three (x ∷ []) h = absurd (omega arith)
+      three (x ∷ y ∷ []) h = absurd (omega arith)
+      three (x ∷ y ∷ z ∷ []) h = refl
+      three (x ∷ y ∷ z ∷ w ∷ c) h = absurd (omega arith)
+
+pub ruleset cells = (letters_two, letters_three)
 
 -- A test of every number below n
 

@@ -5,7 +5,7 @@
 
 #![tactic(auto)]
 
-ghost use Rattle.std.specs.Prelude.{◌≡◌, ℕ, ◌<◌, IfSome};
+ghost use Rattle.std.specs.Prelude.{◌≡◌, [], ◌∷◌, ℕ, ◌<◌, IfSome};
 ghost use Rattle.definitions.specs.Lists.{◌≟◌, position};
 ghost use Rattle.legacy.specs.Table.{letters, all_names, name_at, hash, row_name};
 
@@ -20,12 +20,38 @@ const NAMES: [[u8; 3]; 36] = [
     *b"sp\0", *b"spl", *b"ah\0", *b"bh\0", *b"ch\0", *b"dh\0",
 ];
 
-// The text is the name in a cell of the table.
+// The text is these two bytes.
+#[tactic(auto, using(crate::proofs::Table::two))]
+fn is_two(s: &[u8], a: u8, b: u8) -> bool
+    ensures { result ≡ (s.now ≟ a ∷ b ∷ []) }
+{
+    match s {
+        [x, y] => *x == a && *y == b,
+        _ => false,
+    }
+}
+
+// The text is these three bytes.
+#[tactic(auto, using(crate::proofs::Table::three))]
+fn is_three(s: &[u8], a: u8, b: u8, c: u8) -> bool
+    ensures { result ≡ (s.now ≟ a ∷ b ∷ c ∷ []) }
+{
+    match s {
+        [x, rest @ ..] => *x == a && is_two(rest, b, c),
+        [] => false,
+    }
+}
+
+// The text is the name in a cell of the table. Byte by byte, for speed: to compare a part of the cell the table would be copied to memory.
+#[tactic(auto, using(crate::proofs::Table::cells))]
 fn is_name(cell: [u8; 3], s: &[u8]) -> bool
     ensures { result ≡ (s.now ≟ letters cell) }
 {
-    let n = if cell[2] == 0 { 2 } else { 3 };
-    s == &cell[..n]
+    if cell[2] == 0 {
+        is_two(s, cell[0], cell[1])
+    } else {
+        is_three(s, cell[0], cell[1], cell[2])
+    }
 }
 
 // The text is the name at place p of the table.
