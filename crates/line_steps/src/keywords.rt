@@ -2,33 +2,37 @@
 // constant time, an else-close time linear in the line's tokens and in the bytes of its punctuation.
 //
 // Contracts cite `is_else_close`, `is_loop`, `is_switch` and `is_case` of Rattle.definitions.specs.FlowGraph.
-ghost use Rattle.std.specs.Prelude.{◌≡◌, ◌&&◌, ◌||◌, eqb};
+ghost use Rattle.std.specs.Prelude.{◌≡◌, ◌&&◌, ◌||◌, eqb, get_or};
 ghost use Rattle.definitions.specs.Lists.{any, contains};
-ghost use Rattle.definitions.specs.Model.{token, line, Punct};
+ghost use Rattle.definitions.specs.Model.{line, no_token, Punct};
 ghost use Rattle.definitions.specs.FlowGraph.{is_else_close, is_loop, is_switch, is_case};
-ghost use Rattle.model.specs.Listings.{listing_of};
+ghost use Rattle.model.specs.Listings.{listing_of, tokens_of};
 
 use line_keywords::Keywords;
 use model::kind::Kind;
 use model::listing::Listing;
 use pseudo_opt::keywords::is_kw;
 
-// Token j of line i is a punct that contains `}`.
+// Token k of all is a punct that contains `}`.
+#[inline(always)]
 #[tactic(auto, using(text::proofs::Bools::bools, crate::proofs::Tests::contains_of))]
-fn is_close(code: &Listing, i: usize, j: usize) -> bool
-    ensures { let L = listing_of code.now in
-        result ≡ (eqb (token (line L i) j).kind Punct && contains 125 (token (line L i) j).text) }
+fn is_close(code: &Listing, k: usize) -> bool
+    ensures { let t = get_or (tokens_of code.now) k no_token in
+        result ≡ (eqb t.kind Punct && contains 125 t.text) }
 {
-    code.is(i, j, Kind::Punct) && text::contains(code.text_at(i, j), b'}')
+    code.token_is(k, Kind::Punct) && text::contains(code.token_text(k), b'}')
 }
 
+// By the tokens' places among all, and not by those in the line, from which the line's start and end would be read for each.
+#[tactic(auto, using(pseudo_opt::proofs::Passes::passes))]
 fn has_close(code: &Listing, i: usize) -> bool
     ensures { let L = listing_of code.now in
         result ≡ any (λ t. eqb t.kind Punct && contains 125 t.text) (line L i).tokens }
 {
-    let n = code.token_count(i);
-    for j in 0..n {
-        if is_close(code, i, j) {
+    let s = code.line_start(i);
+    let e = code.line_end(i);
+    for k in s..e {
+        if is_close(code, k) {
             return true;
         }
     }
