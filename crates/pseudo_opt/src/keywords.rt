@@ -21,7 +21,8 @@ pub fn is_kw(code: &Listing, i: usize, j: usize, kw: &[u8]) -> bool
     code.is(i, j, Kind::Keyword) && text::equal(code.text_at(i, j), kw)
 }
 
-// Token k of all is the keyword kw.
+// Token k of all is the keyword kw. Inlined, so that a token of another kind costs no call.
+#[inline(always)]
 fn kw_at(code: &Listing, k: usize, kw: &[u8]) -> bool
     ensures { result ≡ is_kw kw.now (get_or (tokens_of code.now) k no_token) }
 {
