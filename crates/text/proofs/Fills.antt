@@ -1,8 +1,7 @@
 -- Rules for `search` at the needs of a loop that stores at place i of a lent slice, one place a turn: o is the slice now, d the slice at entry.
 --   filled f xs d i      f of the first i elements of xs, and d from there on
 --   fill_next, fill_end  a store of f of the element at i; after the last one
---   zeroed_to i k d      d with zeros from place k up to place i
---   zero_start, zero_next, zero_end    before the first store of 0; a store; after the last one
+--   same_next            a store of a at place i, behind as many of them
 -- Assumes nothing.
 use mathlib.Core.Path.{◌≡◌, sym}
 use mathlib.Core.List.{List, [], ◌∷◌, ◌++◌, map, append-nil, append_assoc}

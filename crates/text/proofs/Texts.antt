@@ -4,7 +4,7 @@
 --   eq_≟               the same list is ==
 --   ne_≟               lists that differ are not ==
 --   ≟_sym              s == t is t == s
---   ≟_length           texts of two lengths are not ==
+--   ≟_length, other_length   texts of two lengths are not ==
 --   starts_part         s starts with p: its first bytes, as many as p has, are == p
 --   starts_short        a text that is shorter than p does not start with it
 --   ends_part           s ends with p, where s is no shorter: its last bytes, as many as p has, are == p
@@ -65,6 +65,9 @@ pub ≟_sym : (s t : List ℕ) → (s ≟ t) ≡ (t ≟ s)
 
 pub ≟_length : (s t : List ℕ) → (length s ≡ length t → ⊥) → (s ≟ t) ≡ false
 ≟_length s t h = ne_≟ s t (λ e. h (ap length e))
+
+pub other_length : (s t : List ℕ) → (length s ≡ length t → ⊥) → false ≡ (s ≟ t)
+other_length s t h = sym (≟_length s t h)
 
 eqb_sym : (a b : ℕ) → eqb a b ≡ eqb b a
 eqb_sym a b = flip (eqb a b) refl
