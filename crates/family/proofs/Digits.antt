@@ -1,6 +1,6 @@
 -- Names of `r` and digits, and of `var_`.
 --   digits_low, digits_high, digits_next, digits_end    the loop over digits
---   is_numbered_by, flag, no_flag, number_inside    `r` and one or more digits, by where the digits end
+--   is_numbered_by, flag, no_flag    `r` and one or more digits, by where the digits end
 --   numbered_some, numbered_none    the family, by the width that the suffix says
 --   other_numbered, other_var, other_none    a name that is not in the table
 -- Assumes nothing.

@@ -1,7 +1,7 @@
 -- How long the rows of a listing are at most: 28 bytes for each token, and its text.
 --   name_short         the name of a token's family is at most 3 bytes longer than its text
 --   rows_short         the rows of a listing within question 1 of which question 2 is answered yes
---   refused_short      a refusal
+--   refused_short      a refusal, of any number of at most 20 digits
 -- Assumes nothing.
 use Rattle.std.specs.Prelude.{Option, None, Some}
 use Prim.Native.Nat.{ℕ, zero, suc, ◌+◌, ◌*◌, ◌-◌, ◌/◌, ◌%◌, ◌≤◌, ◌<◌}
@@ -27,9 +27,34 @@ use Rattle.model.specs.Places.{start_from, token_start, line_start, line_end}
 use Rattle.model.proofs.Decode.{token_at}
 use Rattle.model.proofs.Formed.{formed_lines, formed_tokens, line_order, line_within, token_order, token_within}
 use Rattle.text.proofs.Parts.{length_part}
-use Rattle.json_definitions.specs.Writer.{decimal}
+use Rattle.json_definitions.specs.Writer.{digits_of, decimal}
 use Rattle.json_append.proofs.ValueRules.{decimal_short}
 use Rattle.rows.specs.Rows.{name_of, number_text, place_text, mark_text, web_text, row_text, token_row, row_at, line_rows, all_rows, refused_text, Short}
+
+-- Digits
+
+digits_one : (f n : ℕ) → n < 10 → length (digits_of f n) ≤ 1
+unfolding digits_of
+digits_one zero n h = omega arith
+digits_one (suc f) n h = if_has (λ (ds : List ℕ). length ds ≤ 1) (ltb n 10) (λ _. omega arith) (λ e. absurd (omega (arith, ltb-false n 10 e)))
+
+digits_more : (m d : ℕ) → ((f n : ℕ) → n < m → length (digits_of f n) ≤ d) → (f n : ℕ) → n < 10 * m → length (digits_of f n) ≤ suc d
+unfolding digits_of
+digits_more m d short zero n h = omega arith
+digits_more m d short (suc f) n h =
+    let front = short f (n / 10) (omega arith) in
+    if_has (λ (ds : List ℕ). length ds ≤ suc d) (ltb n 10) (λ _. omega arith) (λ _. rw length-append (omega arith))
+
+digits_10 : (f n : ℕ) → n < 10000000000 → length (digits_of f n) ≤ 10
+digits_10 =
+    digits_more 1000000000 9 (digits_more 100000000 8 (digits_more 10000000 7 (digits_more 1000000 6 (digits_more 100000 5
+    (digits_more 10000 4 (digits_more 1000 3 (digits_more 100 2 (digits_more 10 1 digits_one))))))))
+
+digits_20 : (f n : ℕ) → n < 100000000000000000000 → length (digits_of f n) ≤ 20
+digits_20 =
+    digits_more 10000000000000000000 19 (digits_more 1000000000000000000 18 (digits_more 100000000000000000 17 (digits_more 10000000000000000 16
+    (digits_more 1000000000000000 15 (digits_more 100000000000000 14 (digits_more 10000000000000 13 (digits_more 1000000000000 12
+    (digits_more 100000000000 11 (digits_more 10000000000 10 digits_10)))))))))
 
 -- Names
 
@@ -150,6 +175,6 @@ rows_short l t x numbers marks words one two =
     covered_short l t x numbers marks (leb-true (length l) 1024 sizes.0) (leb-true (length t) 16384 sizes.1) (formed_lines l t x two) (formed_tokens l t x two)
     (λ k. omega (arith, words k))
 
-pub refused_short : (n : ℕ) → n < 18446744073709551616 → length (refused_text n) ≤ 29
-unfolding refused_text
-refused_short n h = simp length-append (omega (arith, decimal_short 20 n (omega arith) (omega arith) h))
+pub refused_short : (n : ℕ) → n < 100000000000000000000 → length (refused_text n) ≤ 29
+unfolding refused_text decimal
+refused_short n h = simp length-append (omega (arith, digits_20 n n h))

@@ -1,5 +1,4 @@
 -- The first words of a column, as many as there are.
---   taken_at_most    they are the first n of all
 --   taken_less       they are no more than all
 --   taken            the rules
 -- Assumes nothing.
