@@ -37,7 +37,7 @@ pub struct Found {
 }
 
 // What the scan has seen: brackets opened and closed, whose difference is the depth and may go below 0; comparisons at depth 0, ` && ` and
-// ` || ` counting two; the last comparison.
+// ` || ` counting two; the last comparison. The scan changes it in place: handed on by value, all of it would be copied at each byte.
 #[derive(Clone, Copy)]
 pub struct Seen {
     pub opened: usize,
@@ -100,24 +100,20 @@ fn is_logical(s: &[u8]) -> bool
     text::starts_with(s, b" && ") || text::starts_with(s, b" || ")
 }
 
-fn see_logical(s: &[u8], r: Seen) -> Seen
-    requires { weight r + 2 ≤ 18446744073709551615 }
-    ensures { (seen result ≡ see_logical s.now (seen r)) × (weight result ≤ weight r + 2) }
+fn see_logical(s: &[u8], r: &mut Seen)
+    requires { weight r.old + 2 ≤ 18446744073709551615 }
+    ensures { (seen r.new ≡ see_logical s.now (seen r.old)) × (weight r.new ≤ weight r.old + 2) }
 {
     if r.opened == r.closed {
         if is_logical(s) {
-            return Seen {
-                count: r.count + 2,
-                ..r
-            };
+            r.count += 2;
         }
     }
-    r
 }
 
 // The comparison that counts where s starts with one: at depth 0.
-fn comparison_at(s: &[u8], r: Seen) -> Option<Comparison>
-    ensures { option_map named result ≡ comparison_at s.now (seen r) }
+fn comparison_at(s: &[u8], r: &Seen) -> Option<Comparison>
+    ensures { option_map named result ≡ comparison_at s.now (seen r.now) }
 {
     if r.opened == r.closed {
         return comparison_of(s);
@@ -125,72 +121,54 @@ fn comparison_at(s: &[u8], r: Seen) -> Option<Comparison>
     None
 }
 
-fn see_bracket(c: u8, r: Seen) -> Seen
-    requires { weight r + 1 ≤ 18446744073709551615 }
-    ensures { (seen result ≡ see_bracket c (seen r)) × (weight result ≤ weight r + 1) }
+fn see_bracket(c: u8, r: &mut Seen)
+    requires { weight r.old + 1 ≤ 18446744073709551615 }
+    ensures { (seen r.new ≡ see_bracket c (seen r.old)) × (weight r.new ≤ weight r.old + 1) }
 {
     match c {
-        b'(' => Seen {
-            opened: r.opened + 1,
-            ..r
-        },
-        b')' => Seen {
-            closed: r.closed + 1,
-            ..r
-        },
-        _ => r,
+        b'(' => r.opened += 1,
+        b')' => r.closed += 1,
+        _ => {}
     }
 }
 
-#[derive(Drop)]
-pub struct Step {
-    pub seen: Seen,
-    pub next: usize,
-}
-
-// What stands at byte i of the token `place`, and where to go on.
-fn see_byte(s: &[u8], place: usize, i: usize, r: Seen) -> Step
-    requires { (i < length s.now) × (weight r + 3 ≤ 18446744073709551615) }
+// What stands at byte i of the token `place`; the answer is where to go on.
+fn see_byte(s: &[u8], place: usize, i: usize, r: &mut Seen) -> usize
+    requires { (i < length s.now) × (weight r.old + 3 ≤ 18446744073709551615) }
     ensures r_value { let s = s.entry.now in
-        scan_text place i 0 (drop i s) (seen r) ≡ scan_text place result.next 0 (drop result.next s) (seen result.seen) }
-    ensures i_lt_next { (i < result.next) × (result.next ≤ length s.now) × (weight result.seen ≤ weight r + 3) }
+        scan_text place i 0 (drop i s) (seen r.old) ≡ scan_text place result 0 (drop result s) (seen r.new) }
+    ensures i_lt_next { (i < result) × (result ≤ length s.now) × (weight r.new ≤ weight r.old + 3) }
 {
     let rest = text::part(s, i, s.len());
-    let n = see_logical(rest, r);
-    match comparison_at(rest, r) {
-        Some(which) => Step {
-            seen: Seen {
-                count: n.count + 1,
-                found: Some(Found {
-                    place,
-                    byte: i,
-                    which,
-                }),
-                ..n
-            },
-            next: i + which.width(),
-        },
-        None => Step {
-            seen: see_bracket(s[i], n),
-            next: i + 1,
-        },
+    let w = comparison_at(rest, r);
+    see_logical(rest, r);
+    match w {
+        Some(which) => {
+            r.count += 1;
+            r.found = Some(Found {
+                place,
+                byte: i,
+                which,
+            });
+            i + which.width()
+        }
+        None => {
+            see_bracket(s[i], r);
+            i + 1
+        }
     }
 }
 
 // The text of the punct token `place`.
-fn scan_text(s: &[u8], place: usize, r: Seen) -> Seen
-    requires { weight r + 3 * length s.now ≤ 18446744073709551615 }
-    ensures { (seen result ≡ scan_text place 0 0 s.now (seen r)) × (weight result ≤ weight r + 3 * length s.now) }
+fn scan_text(s: &[u8], place: usize, r: &mut Seen)
+    requires { weight r.old + 3 * length s.now ≤ 18446744073709551615 }
+    ensures { (seen r.new ≡ scan_text place 0 0 s.now (seen r.old)) × (weight r.new ≤ weight r.old + 3 * length s.now) }
 {
-    let mut n = r;
     let mut i = 0;
     // A `while`: a turn passes over one byte, or over a comparison of three or four, so the places are no range.
     while i < s.len() {
-        let t = see_byte(s, place, i, n);
-        n = t.seen;
-        i = t.next;
+        i = see_byte(s, place, i, r);
     }
-    n
 }
 
 // 1 where the byte c is b.
@@ -212,26 +190,23 @@ fn count(s: &[u8], b: u8) -> usize
 }
 
 // The brackets of a keyword.
-fn see_brackets(s: &[u8], r: Seen) -> Seen
-    requires { weight r + 3 * length s.now ≤ 18446744073709551615 }
+fn see_brackets(s: &[u8], r: &mut Seen)
+    requires { weight r.old + 3 * length s.now ≤ 18446744073709551615 }
     ensures { let s = s.entry.now in
-        (seen result ≡ add_brackets (occurs 40 s) (occurs 41 s) (seen r)) × (weight result ≤ weight r + 3 * length s) }
+        (seen r.new ≡ add_brackets (occurs 40 s) (occurs 41 s) (seen r.old)) × (weight r.new ≤ weight r.old + 3 * length s) }
 {
-    Seen {
-        opened: r.opened + count(s, b'('),
-        closed: r.closed + count(s, b')'),
-        ..r
-    }
+    r.opened += count(s, b'(');
+    r.closed += count(s, b')');
 }
 
 // Token k of the m tokens of the condition: its kind decides.
 #[tactic(auto, using(crate::proofs::Scanning::tokens), unfolding(crate::specs::Tests::test_token))]
-fn scan_token(code: &Listing, i: usize, m: usize, k: usize, r: Seen) -> Seen
+fn scan_token(code: &Listing, i: usize, m: usize, k: usize, r: &mut Seen)
     requires k_lt_m { k < m }
     requires text_bound { let t = test_token (line (listing_of code.now) i) m k in
-        weight r + 3 * length t.text ≤ 18446744073709551615 }
+        weight r.old + 3 * length t.text ≤ 18446744073709551615 }
     ensures { let t = test_token (line (listing_of code.now) i) m k in
-        (seen result ≡ scan_token k t (seen r)) × (weight result ≤ weight r + 3 * length t.text) }
+        (seen r.new ≡ scan_token k t (seen r.old)) × (weight r.new ≤ weight r.old + 3 * length t.text) }
 {
     match Kind::of(test_kind(code, i, m, k)) {
         Some(Kind::Keyword) => see_brackets(test_text(code, i, m, k), r),
@@ -244,7 +219,7 @@ fn scan_token(code: &Listing, i: usize, m: usize, k: usize, r: Seen) -> Seen
             | Kind::Address
             | Kind::Prefix,
         )
-        | None => r,
+        | None => {}
     }
 }
 
@@ -260,7 +235,7 @@ fn scan(code: &Listing, i: usize, m: usize) -> Seen
         found: None,
     };
     for k in 0..m {
-        r = scan_token(code, i, m, k, r);
+        scan_token(code, i, m, k, &mut r);
     }
     r
 }

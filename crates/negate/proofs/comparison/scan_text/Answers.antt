@@ -5,8 +5,8 @@ use Rattle.negate.proofs.comparison.scan_text.Goals as goal
 pub loop-i-init : goal.loop-i-init
 loop-i-init c = search (texts, rules)
 
-pub see_byte-t-requires : goal.see_byte-t-requires
-see_byte-t-requires c = search (texts, rules)
+pub see_byte-i-requires : goal.see_byte-i-requires
+see_byte-i-requires c = search (texts, rules)
 
 pub loop-i-smaller : goal.loop-i-smaller
 loop-i-smaller c = search (texts, rules)

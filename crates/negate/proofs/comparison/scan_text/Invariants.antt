@@ -8,7 +8,7 @@ use mathlib.Core.Path.{◌≡◌}
 use Rattle.negate.proofs.comparison.scan_text.Given as goal
 
 abbrev pub invariant-loop-i : goal.invariant-loop-i
-invariant-loop-i l = (l.i ≤ length l.s) × (scan_text l.place 0 0 l.s (seen l.initial.n) ≡ scan_text l.place l.i 0 (drop l.i l.s) (seen l.n)) × (weight l.n ≤ weight l.initial.n + 3 * l.i)
+invariant-loop-i l = (l.i ≤ length l.s) × (scan_text l.place 0 0 l.s (seen l.initial.r) ≡ scan_text l.place l.i 0 (drop l.i l.s) (seen l.r)) × (weight l.r ≤ weight l.initial.r + 3 * l.i)
 
 abbrev pub decreases-loop-i : goal.decreases-loop-i
 decreases-loop-i l = length l.s - l.i

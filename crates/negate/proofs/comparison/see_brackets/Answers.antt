@@ -8,4 +8,4 @@ use native.Mathlib.Omega.{arith}
 use Rattle.negate.proofs.comparison.see_brackets.Goals as goal
 
 pub returns : goal.returns
-returns c = (ap₂ (λ (o k : ℕ). record { opened = c.args.r.opened + o; closed = c.args.r.closed + k; count = c.args.r.count; found = option_map found_of c.args.r.found }) c.count.ensures.0 c.count-2.ensures.0, omega arith)
+returns c = (ap₂ (λ (o k : ℕ). record { opened = c.args.r.now.opened + o; closed = c.args.r.now.closed + k; count = c.args.r.now.count; found = option_map found_of c.args.r.now.found }) c.count.ensures.0 c.count-2.ensures.0, omega arith)
