@@ -10,7 +10,8 @@ pub struct Writer<'a> {
     ghost fits: { at < 2 ^ 64 },
 }
 
-// Stores the bytes at place `at`. A loop, since `copy_from_slice` of a length that only a run tells is a call, which costs more than most texts here.
+// Stores the bytes at place `at`. A loop: `copy_from_slice` of a length that only a run tells is a call of memcpy, slower on short texts, which
+// the library for C would need from outside.
 fn copy(out: &mut [u8], at: usize, bytes: &[u8])
     requires { at + length bytes.now ≤ length out.old }
     ensures { Filled (take at out.old ++ bytes.now) (at + length bytes.now) out.new }

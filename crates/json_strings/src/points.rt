@@ -14,7 +14,7 @@ fn byte_at(s: &[u8], k: usize) -> u8
     s.get(k).copied().unwrap_or(0)
 }
 
-// The code point at the start. Four bytes are loaded whatever its length is: a copy of n bytes would be a call.
+// The code point at the start. Four bytes are loaded whatever its length is: a copy of n bytes is a call of memcpy, slower than that.
 pub fn code_point(s: &[u8]) -> Option<(Bytes, &[u8])>
     ensures { character_of result ≡ code_point s.now }
 {

@@ -23,7 +23,7 @@ fn character(s: &[u8]) -> Option<(Bytes, &[u8])>
     }
 }
 
-// Stores the bytes of a code point at place `to`, one by one: a copy of a length that only a run tells would be a call.
+// Stores the bytes of a code point at place `to`, one by one: a copy of a length that only a run tells is a call of memcpy, slower than that.
 fn put(text: &mut [u8], to: usize, point: Bytes)
     requires { to + length (bytes_of point) ≤ length text.old }
     ensures { text.new ≡ sets text.old to (bytes_of point) }
