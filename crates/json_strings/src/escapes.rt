@@ -18,6 +18,7 @@ fn hex_digit(s: &[u8]) -> Option<(u32, &[u8])>
     Some((v, rest))
 }
 
+#[inline(always)] // read at one place in the loop over characters, mostly
 fn hex_4(s: &[u8]) -> Option<(u32, &[u8])>
     ensures value { number_of result ≡ hex_4 s.now }
     ensures small { IfSome result (λ r. r.0 < 65536) }
