@@ -5,7 +5,7 @@
 --   logical_yes, logical_no, logical_deep            ` && ` and ` || `
 --   counts_here, counts_deep                         a comparison counts at depth 0
 --   bracket_open, bracket_close, bracket_other       one byte
---   byte_found, byte_passed, found_after, found_within            what stands at a byte, and where to go on
+--   byte_found, byte_passed, byte_other, found_after, found_within            what stands at a byte, and where to go on
 --   text_next, text_end                              the loop over a text
 --   count_add, count_all                             the loop that counts a byte
 --   token_punct, token_keyword, token_other, token_none    what a token adds, by its kind
@@ -16,7 +16,7 @@
 use Rattle.std.specs.Option.{option_map}
 use Rattle.std.specs.Prelude.{if◌then◌else◌, Option, None, Some}
 use mathlib.Core.Path.{◌≡◌, refl, sym, ap, ◌∙◌}
-use mathlib.Core.Bool.{Bool, true, false, ◌||◌, not, cond}
+use mathlib.Core.Bool.{Bool, true, false, ◌||◌, not, cond, and-false}
 use mathlib.Core.List.{List, [], ◌∷◌}
 use Prim.Native.Nat.{ℕ, zero, suc, ◌+◌, ◌-◌, ◌*◌, ◌≤◌, ◌<◌}
 use native.Mathlib.Nat.{add-zero, add-suc, suc-add}
@@ -244,6 +244,29 @@ module _ (s : List ℕ) (i : ℕ) (h : i < length s) (rest : List ℕ) (e : rest
         let at : comparison_at (get_or s i 0 ∷ drop (i + 1) s) r ≡ None = ap (λ (x : List ℕ). comparison_at x r) (sym here) ∙ sym c ∙ ap (option_map named) is in
         ap (λ (x : List ℕ). scan_text place i 0 x r) (drop_step 0 s i h)
         ∙ (scan_none place i (get_or s i 0) (drop (i + 1) s) r at ∙ rw (q, g, here, add-one i))
+
+-- A byte that is no blank: no comparison starts there, nor ` && ` or ` || `
+module _ (c : ℕ) (t : List ℕ) (r : Seen) (h : c ≡ 32 → ⊥) where
+  no_blank : eqb 32 c ≡ false
+  no_blank = ne_eqb 32 c (λ e. h (sym e))
+
+  none_found : find (λ k. starts_with k.op (c ∷ t)) comparisons ≡ None
+  unfolding comparisons find starts_with
+  none_found = rw no_blank
+
+  none_at : comparison_at (c ∷ t) r ≡ None
+  none_at = if_has (λ (x : Option Comparison). x ≡ None) (at_depth_0 r) (λ _. none_found) (λ _. refl)
+
+  none_logical : see_logical (c ∷ t) r ≡ r
+  unfolding see_logical starts_with
+  none_logical = rw (no_blank, and-false (at_depth_0 r))
+
+pub byte_other : (s : List ℕ) (i place : ℕ) (r m : Seen) → i < length s → (get_or s i 0 ≡ 32 → ⊥) → m ≡ see_bracket (get_or s i 0) r
+    → scan_text place i 0 (drop i s) r ≡ scan_text place (i + 1) 0 (drop (i + 1) s) m
+byte_other s i place r m h b q =
+    let c = get_or s i 0 in
+    let t = drop (i + 1) s in
+    ap (λ (x : List ℕ). scan_text place i 0 x r) (drop_step 0 s i h) ∙ (scan_none place i c t r (none_at c t r b) ∙ rw (q, none_logical c t r b, add-one i))
 
 -- A text
 

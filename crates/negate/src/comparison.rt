@@ -139,6 +139,11 @@ fn see_byte(s: &[u8], place: usize, i: usize, r: &mut Seen) -> usize
         scan_text place i 0 (drop i s) (seen r.old) ≡ scan_text place result 0 (drop result s) (seen r.new) }
     ensures i_lt_next { (i < result) × (result ≤ length s.now) × (weight r.new ≤ weight r.old + 3) }
 {
+    // Each comparison, ` && ` and ` || ` starts with a blank.
+    if s[i] != b' ' {
+        see_bracket(s[i], r);
+        return i + 1;
+    }
     let rest = text::part(s, i, s.len());
     let w = comparison_at(rest, r);
     see_logical(rest, r);

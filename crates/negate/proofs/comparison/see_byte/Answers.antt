@@ -2,9 +2,12 @@
 -- Assumes nothing.
 use Rattle.negate.specs.Comparisons.{seen}
 use native.Mathlib.Omega.{arith}
-use Rattle.negate.proofs.Scanning.{byte_passed, byte_found, found_after, found_within}
+use Rattle.negate.proofs.Scanning.{byte_passed, byte_other, byte_found, found_after, found_within}
 use borrow.Author.Rules.{rules}
 use Rattle.negate.proofs.comparison.see_byte.Goals as goal
+
+pub returns-then-s-i-ne32-clause-r_value : goal.returns-then-s-i-ne32-clause-r_value
+returns-then-s-i-ne32-clause-r_value c = search (byte_other, rules)
 
 pub part-rest-requires : goal.part-rest-requires
 part-rest-requires c = search (byte_passed, rules)
@@ -21,8 +24,8 @@ overflow_add-r c = search (byte_passed, rules)
 pub width-requires : goal.width-requires
 width-requires c = search (byte_passed, rules)
 
-pub overflow_add-result : goal.overflow_add-result
-overflow_add-result c = let a = c.args in
+pub overflow_add-result-in-Some : goal.overflow_add-result-in-Some
+overflow_add-result-in-Some c = let a = c.args in
     omega (arith, found_within a.s.now a.i c.requires.0 c.part-rest.result.now c.part-rest.ensures (seen a.r.now) (seen c.see_logical.new.r) c.comparison_at-w.result c.comparison_at-w.ensures c.in-Some.which c.in-Some.is c.width.result c.width.ensures)
 
 pub returns-in-Some : goal.returns-in-Some
