@@ -23,7 +23,7 @@ use native.Mathlib.Nat.{add-zero, add-suc, suc-add}
 use native.Mathlib.Numerals.{add-one}
 use native.Mathlib.Decide.{dec_le}
 use native.Mathlib.Omega.{arith}
-use borrow.Author.Tests.{eq-eqb, ne_eqb}
+use borrow.Author.Tests.{eq-eqb, ne_eqb, eqb-true}
 use lib.Dec.{T, eqb}
 use lib.ListN.{length, get_or, drop, length-drop}
 use lib.Seq.{drop-drop}
@@ -190,7 +190,34 @@ module _ (place pos c : ℕ) (s : List ℕ) (r : Seen) where
   unfolding scan_text
   scan_none e = rw (e, scan_text)
 
-module _ (s : List ℕ) (i : ℕ) (h : i < length s) (rest : List ℕ) (e : rest ≡ part i (length s) s) (r n : Seen) (w : Option Which)
+-- Where a comparison stands, no ` && ` or ` || ` does: their second bytes differ
+other_second : (b c : ℕ) (p q s : List ℕ) → (b ≡ c → ⊥) → starts_with (32 ∷ (b ∷ p)) s ≡ true → starts_with (32 ∷ (c ∷ q)) s ≡ false
+unfolding starts_with
+other_second b c p q [] h e = refl
+other_second b c p q (x ∷ []) h e = and-false (eqb 32 x)
+other_second b c p q (x ∷ (y ∷ s)) h e = go (eqb c y) refl
+  where
+    go : (k : Bool) → eqb c y ≡ k → starts_with (32 ∷ (c ∷ q)) (x ∷ (y ∷ s)) ≡ false
+    go false f = rw (f, and-false (eqb 32 x))
+    go true f = true_false e (rw (ne_eqb b y (λ z. h (z ∙ sym (eqb-true c y f))), and-false (eqb 32 x)))
+
+no_logical : (x : Which) (s : List ℕ) → starts_with (named x).op s ≡ true → (starts_with (ascii " && ") s || starts_with (ascii " || ") s) ≡ false
+unfolding named
+no_logical x s h = go x h
+  where
+    second : (b : ℕ) (p : List ℕ) → (b ≡ 38 → ⊥) → (b ≡ 124 → ⊥) → starts_with (32 ∷ (b ∷ p)) s ≡ true
+        → (starts_with (ascii " && ") s || starts_with (ascii " || ") s) ≡ false
+    second b p u v e = rw (other_second b 38 p (38 ∷ (32 ∷ [])) s u e, other_second b 124 p (124 ∷ (32 ∷ [])) s v e)
+
+    go : (x : Which) → starts_with (named x).op s ≡ true → (starts_with (ascii " && ") s || starts_with (ascii " || ") s) ≡ false
+    go Equal e = second 61 (61 ∷ (32 ∷ [])) (λ z. omega arith) (λ z. omega arith) e
+    go Unequal e = second 33 (61 ∷ (32 ∷ [])) (λ z. omega arith) (λ z. omega arith) e
+    go AtMost e = second 60 (61 ∷ (32 ∷ [])) (λ z. omega arith) (λ z. omega arith) e
+    go AtLeast e = second 62 (61 ∷ (32 ∷ [])) (λ z. omega arith) (λ z. omega arith) e
+    go Less e = second 60 (32 ∷ []) (λ z. omega arith) (λ z. omega arith) e
+    go Greater e = second 62 (32 ∷ []) (λ z. omega arith) (λ z. omega arith) e
+
+module _ (s : List ℕ) (i : ℕ) (h : i < length s) (rest : List ℕ) (e : rest ≡ part i (length s) s) (r : Seen) (w : Option Which)
     (c : option_map named w ≡ comparison_at rest r) where
   here : rest ≡ get_or s i 0 ∷ drop (i + 1) s
   here = e ∙ part_tail s i ∙ drop_step 0 s i h
@@ -202,11 +229,14 @@ module _ (s : List ℕ) (i : ℕ) (h : i < length s) (rest : List ℕ) (e : rest
     there : comparison_at rest r ≡ Some o
     there = sym c ∙ ap (option_map named) is
 
-    within : (v : ℕ) → v ≡ op_width x → (i < i + v) × (i + v ≤ length s)
-    within v q =
+    starts : starts_with o.op rest ≡ true
+    starts =
         let found : comparison_in rest ≡ Some o =
         if_has (λ x. x ≡ Some o → comparison_in rest ≡ Some o) (at_depth_0 r) (λ _ q. q) (λ _ q. none_some q) there in
-        let starts : starts_with o.op rest ≡ true = find_passes (λ (k : Comparison). starts_with k.op rest) comparisons o found in
+        find_passes (λ (k : Comparison). starts_with k.op rest) comparisons o found
+
+    within : (v : ℕ) → v ≡ op_width x → (i < i + v) × (i + v ≤ length s)
+    within v q =
         let long : length rest ≡ length s - i = ap length (e ∙ part_tail s i) ∙ length-drop i s in
         go o.op starts (named_long x).0 q long
       where
@@ -224,10 +254,12 @@ module _ (s : List ℕ) (i : ℕ) (h : i < length s) (rest : List ℕ) (e : rest
     found_within v q = (within v q).1
 
     module _ (place : ℕ) where
-      pub byte_found : n ≡ see_logical rest r → (v : ℕ) → v ≡ op_width x
+      pub byte_found : (v : ℕ) → v ≡ op_width x
           → scan_text place i 0 (drop i s) r
-          ≡ scan_text place (i + v) 0 (drop (i + v) s) (record { opened = n.opened; closed = n.closed; count = n.count + 1; found = Some (found_in place i (named x)) })
-      byte_found g v q =
+          ≡ scan_text place (i + v) 0 (drop (i + v) s) (record { opened = r.opened; closed = r.closed; count = r.count + 1; found = Some (found_in place i (named x)) })
+      unfolding see_logical
+      byte_found v q =
+          let g : r ≡ see_logical rest r = rw (no_logical x rest starts, and-false (at_depth_0 r)) in
           let long = (named_long x).0 in
           let m = length o.op - 1 in
           let at : comparison_at (get_or s i 0 ∷ drop (i + 1) s) r ≡ Some o = ap (λ (x : List ℕ). comparison_at x r) (sym here) ∙ there in
@@ -236,11 +268,11 @@ module _ (s : List ℕ) (i : ℕ) (h : i < length s) (rest : List ℕ) (e : rest
           ap (λ (x : List ℕ). scan_text place i 0 x r) (drop_step 0 s i h)
           ∙ (scan_some place i (get_or s i 0) (drop (i + 1) s) r o at
           ∙ (skipped place (suc i) m (drop (i + 1) s) (add_found (found_in place i o) (see_logical (get_or s i 0 ∷ drop (i + 1) s) r))
-          ∙ rw (drop-drop m (i + 1) s, a, b, g, here)))
+          ∙ rw (drop-drop m (i + 1) s, a, b, ← here, ← g)))
 
   module _ (is : w ≡ None) (place : ℕ) where
-    pub byte_passed : n ≡ see_logical rest r → (m : Seen) → m ≡ see_bracket (get_or s i 0) n → scan_text place i 0 (drop i s) r ≡ scan_text place (i + 1) 0 (drop (i + 1) s) m
-    byte_passed g m q =
+    pub byte_passed : (n : Seen) → n ≡ see_logical rest r → (m : Seen) → m ≡ see_bracket (get_or s i 0) n → scan_text place i 0 (drop i s) r ≡ scan_text place (i + 1) 0 (drop (i + 1) s) m
+    byte_passed n g m q =
         let at : comparison_at (get_or s i 0 ∷ drop (i + 1) s) r ≡ None = ap (λ (x : List ℕ). comparison_at x r) (sym here) ∙ sym c ∙ ap (option_map named) is in
         ap (λ (x : List ℕ). scan_text place i 0 x r) (drop_step 0 s i h)
         ∙ (scan_none place i (get_or s i 0) (drop (i + 1) s) r at ∙ rw (q, g, here, add-one i))

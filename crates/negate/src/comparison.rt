@@ -145,9 +145,8 @@ fn see_byte(s: &[u8], place: usize, i: usize, r: &mut Seen) -> usize
         return i + 1;
     }
     let rest = text::part(s, i, s.len());
-    let w = comparison_at(rest, r);
-    see_logical(rest, r);
-    match w {
+    match comparison_at(rest, r) {
+        // Where a comparison stands, no ` && ` or ` || ` does.
         Some(which) => {
             r.count += 1;
             r.found = Some(Found {
@@ -158,6 +157,7 @@ fn see_byte(s: &[u8], place: usize, i: usize, r: &mut Seen) -> usize
             i + which.width()
         }
         None => {
+            see_logical(rest, r);
             see_bracket(s[i], r);
             i + 1
         }

@@ -5,26 +5,27 @@
 --   ne_≟               lists that differ are not ==
 --   ≟_sym              s == t is t == s
 --   ≟_length, other_length   texts of two lengths are not ==
---   starts_part         s starts with p: its first bytes, as many as p has, are == p
---   starts_short        a text that is shorter than p does not start with it
+--   equal_differ, equal_next, equal_end   the loop of `equal`, at place i
+--   starts_part, starts_go   s starts with p: its first bytes, as many as p has, are == p
+--   starts_short, starts_no   a text that is shorter than p does not start with it
 --   ends_part           s ends with p, where s is no shorter: its last bytes, as many as p has, are == p
 --   ends_short          a text that is shorter than p does not end with it
---   pointwise_≟, starts_same, ends_same, any_contains      std's words mean the same
+--   pointwise_≟, ends_same, any_contains      std's words mean the same
 -- Assumes nothing.
 use mathlib.Core.Path.{◌≡◌, refl, sym, ap, ◌∙◌}
 use mathlib.Core.Bool.{Bool, true, false, ◌&&◌, ◌||◌}
 use mathlib.Core.List.{List, [], ◌∷◌}
-use Prim.Native.Nat.{ℕ, ◌-◌, ◌≤◌, ◌<◌}
+use Prim.Native.Nat.{ℕ, ◌+◌, ◌-◌, ◌≤◌, ◌<◌}
 use native.Mathlib.Omega.{arith}
 use borrow.Author.Tests.{eq-eqb, ne_eqb, eqb-true, eqb-false, le-leb, lt-leb, leb-false}
 use lib.Dec.{eqb, leb}
-use lib.ListN.{length, take, drop, length-take}
+use lib.ListN.{length, get_or, take, drop, length-take}
 use lib.Pointwise.{pointwise}
 use Rattle.std.specs.Bool.{nat_eq}
 use Rattle.std.specs.List.{list_any}
 use Rattle.std.specs.List as std
 use Rattle.definitions.specs.Lists.{◌≟◌, starts_with, ends_with, contains, any, part}
-use Rattle.text.proofs.Parts.{part_tail}
+use Rattle.text.proofs.Parts.{drop_step, drop_end, part_tail}
 
 both_true : (a b : Bool) → (a && b) ≡ true → (a ≡ true) × (b ≡ true)
 both_true true b h = (refl, h)
@@ -69,6 +70,19 @@ pub ≟_length : (s t : List ℕ) → (length s ≡ length t → ⊥) → (s ≟
 pub other_length : (s t : List ℕ) → (length s ≡ length t → ⊥) → false ≡ (s ≟ t)
 other_length s t h = sym (≟_length s t h)
 
+module _ (a b : List ℕ) (i : ℕ) (inv : (a ≟ b) ≡ (drop i a ≟ drop i b)) where
+  pub equal_differ : i < length a → i < length b → (get_or a i 0 ≡ get_or b i 0 → ⊥) → false ≡ (a ≟ b)
+  unfolding ◌≟◌
+  equal_differ ha hb e = sym (inv ∙ rw (drop_step 0 a i ha, drop_step 0 b i hb, ne_eqb (get_or a i 0) (get_or b i 0) e))
+
+  pub equal_next : i < length a → i < length b → get_or a i 0 ≡ get_or b i 0 → (a ≟ b) ≡ (drop (i + 1) a ≟ drop (i + 1) b)
+  unfolding ◌≟◌
+  equal_next ha hb e = inv ∙ rw (drop_step 0 a i ha, drop_step 0 b i hb, eq-eqb (get_or a i 0) (get_or b i 0) e)
+
+  pub equal_end : length a ≡ length b → length a ≤ i → true ≡ (a ≟ b)
+  unfolding ◌≟◌
+  equal_end n h = sym (inv ∙ rw (drop_end a i h, drop_end b i (omega arith)))
+
 eqb_sym : (a b : ℕ) → eqb a b ≡ eqb b a
 eqb_sym a b = flip (eqb a b) refl
   where
@@ -82,9 +96,15 @@ starts_part [] s = refl
 starts_part (a ∷ p) [] = refl
 starts_part (a ∷ p) (b ∷ s) = rw (starts_part p s) (ap (λ (x : Bool). x && (take (length p) s ≟ p)) (eqb_sym a b))
 
+pub starts_go : (p s : List ℕ) (r : Bool) → r ≡ (take (length p) s ≟ p) → r ≡ starts_with p s
+starts_go p s r e = e ∙ sym (starts_part p s)
+
 module _ (p s : List ℕ) where
   pub starts_short : length s < length p → starts_with p s ≡ false
   starts_short h = starts_part p s ∙ ≟_length (take (length p) s) p (rw length-take (λ e. omega arith))
+
+  pub starts_no : length s < length p → false ≡ starts_with p s
+  starts_no h = sym (starts_short h)
 
   pub ends_part : length p ≤ length s → ends_with p s ≡ (part (length s - length p) (length s) s ≟ p)
   ends_part h = rw (le-leb (length p) (length s) h, part_tail)
@@ -105,9 +125,6 @@ any_contains b [] = refl
 any_contains b (a ∷ s) = rw (any_contains b s) (ap (λ (x : Bool). x || contains b s) (eqb_sym a b))
 
 module _ (p s : List ℕ) where
-  pub starts_same : std.starts_with nat_eq s p ≡ starts_with p s
-  starts_same = pointwise_≟ p (take (length p) s) ∙ ≟_sym p (take (length p) s) ∙ sym (starts_part p s)
-
   pub ends_same : std.ends_with nat_eq s p ≡ ends_with p s
   ends_same = pointwise_≟ p (drop (length s - length p) s) ∙ ≟_sym p (drop (length s - length p) s) ∙ go (leb (length p) (length s)) refl
     where
@@ -118,4 +135,8 @@ module _ (p s : List ℕ) where
           let z : length s - length p ≡ 0 = omega arith in
           rw (z, e) (≟_length s p (λ q. omega arith))
 
-pub ruleset std_words = (pointwise_≟, any_contains, starts_same, ends_same)
+pub ruleset std_words = (any_contains, ends_same)
+
+pub ruleset equal_steps = (other_length, pointwise_≟, equal_differ, equal_next, equal_end)
+
+pub ruleset starts = (starts_go, starts_no)
