@@ -1,6 +1,6 @@
 -- The tokens of planned lines, and lines one after the other.
 --   begins_piece, begins_guard, begins_while, begins_for    the tokens of a word's line
---   line_ended                               the line that the word stands for
+--   line_written, line_ended                 the line that the word stands for
 --   plain_sound, goto_sound                  the words of either pass are sound
 --   word_sound, emitted_next, emitted_end    the lines before place i are done
 -- Assumes nothing.
@@ -27,7 +27,7 @@ use Rattle.definitions.specs.RecoverGotoLoops.{leading_test, one}
 use Rattle.definitions.specs.Calls.{Columns}
 use Rattle.loop_theory.proofs.Cases.{and_split}
 use Rattle.write.specs.State.{done, end_line}
-use Rattle.write.specs.Holds.{columns_of, open_lent, lines_lent, Holds, Writes}
+use Rattle.write.specs.Holds.{columns_of, open_lent, lines_lent, Holds, Writing, Same, Writes}
 use Rattle.write.specs.declared.Writer.{Writer}
 use Rattle.write.proofs.Steps.{same_more, lines_written}
 use Rattle.plan.specs.Plan.{Form, Form.kept, Form.continued, Form.broken, Form.closed, Piece, Test, Test.guard, Test.always, Test.leading, Header, Header.no_header, Header.while_over, Header.for_over, form_of, form_tokens, piece_of, piece_tokens, test_tokens, while_tokens, header_tokens, header_of, indent_at, header_at, piece_at, test_at, initialiser_at, step_at, planned, plan_of, line_of, render}
@@ -187,23 +187,31 @@ line_parts : (S : List Line) (w : ℕ) → line_of S w ≡ pseudo_line (line S (
 unfolding planned plan_of
 line_parts S w = refl
 
-pub line_ended : (l a t x : List ℕ) (w : ℕ) → length a ≡ length l → {out₀ out₁ out₂ : Writer}
-    → Begins (line_of (listing l t x) w).tokens out₀ out₁
-    → (s i : ℕ) (o : Option ℕ) → s ≡ piece_at w / 4 → i ≡ indent_at w → o ≡ (line (with_addresses l a (listing l t x)) s).address
-    → Writes lines_lent (end_line o i) out₁ out₂ → LineAdded (line_of (with_addresses l a (listing l t x)) w) out₀ out₂
-line_ended l a t x w q {out₀} {out₁} {out₂} b s i o u v g f =
-    let S = with_addresses l a (listing l t x) in
-    let ts = (line_of (listing l t x) w).tokens in
-    let same : pseudo_line o i ts ≡ line_of S w =
-    ap₂ (λ o i. pseudo_line o i ts) (g ∙ ap (λ j. (line S j).address) u) v
-    ∙ (ap (pseudo_line (line S (piece_at w / 4)).address (indent_at w)) (sym (tokens_same S l t x (columns_source l a t x q) w)) ∙ sym (line_parts S w)) in
-    record {
-      same = same_more b.same f.same;
-      added = λ M h.
-          let k : Holds (opened M ts) (columns_of out₁) out₁.written =
-          subst (λ (o : Columns). Holds (opened M ts) o out₁.written) (sym b.kept) (b.begins (columns_of out₀) M h) in
-          subst (λ m. Holds (done (M ++ (m ∷ []))) (columns_of out₂) out₂.written) same (lines_written f (opened M ts) k);
-    }
+module _ (l a t x : List ℕ) (w : ℕ) (q : length a ≡ length l) {out₀ out₁ out₂ : Writer} where
+  pub line_written : Same out₀ out₁
+      → ((M : List Line) → Holds (done M) (columns_of out₀) out₀.written → Holds (opened M (line_of (listing l t x) w).tokens) (columns_of out₁) out₁.written)
+      → (s i : ℕ) (o : Option ℕ) → s ≡ piece_at w / 4 → i ≡ indent_at w → o ≡ (line (with_addresses l a (listing l t x)) s).address
+      → Same out₁ out₂ → Writing (end_line o i) (columns_of out₁) out₁.written (columns_of out₂) out₂.written
+      → LineAdded (line_of (with_addresses l a (listing l t x)) w) out₀ out₂
+  line_written b begins s i o u v g f ends =
+      let S = with_addresses l a (listing l t x) in
+      let ts = (line_of (listing l t x) w).tokens in
+      let same : pseudo_line o i ts ≡ line_of S w =
+      ap₂ (λ o i. pseudo_line o i ts) (g ∙ ap (λ j. (line S j).address) u) v
+      ∙ (ap (pseudo_line (line S (piece_at w / 4)).address (indent_at w)) (sym (tokens_same S l t x (columns_source l a t x q) w)) ∙ sym (line_parts S w)) in
+      record {
+        same = same_more b f;
+        added = λ M h. subst (λ m. Holds (done (M ++ (m ∷ []))) (columns_of out₂) out₂.written) same (ends (opened M ts) (begins M h));
+      }
+
+  pub line_ended : Begins (line_of (listing l t x) w).tokens out₀ out₁
+      → (s i : ℕ) (o : Option ℕ) → s ≡ piece_at w / 4 → i ≡ indent_at w → o ≡ (line (with_addresses l a (listing l t x)) s).address
+      → Writes lines_lent (end_line o i) out₁ out₂ → LineAdded (line_of (with_addresses l a (listing l t x)) w) out₀ out₂
+  line_ended b s i o u v g f =
+      let ts = (line_of (listing l t x) w).tokens in
+      line_written b.same
+      (λ M h. subst (λ (o : Columns). Holds (opened M ts) o out₁.written) (sym b.kept) (b.begins (columns_of out₀) M h))
+      s i o u v g f.same (lines_written f)
 
 -- All lines
 

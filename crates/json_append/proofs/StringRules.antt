@@ -1,5 +1,5 @@
 -- Rules for the needs of the strings.
---   plain_start, plain_then                  blocks of bytes that are written as they stand
+--   plain_start, plain_next, plain_then      bytes that are written as they stand: none, one more, a block more
 --   letters, marked, alone                   one byte
 --   run_put, run_byte, run_next, run_none    a run of them, one of them, and what is left behind it
 -- Assumes nothing.
@@ -37,6 +37,11 @@ plain_then s t r f g =
       cut = f.cut ∙ rw g.cut (sym (append_assoc f.front g.front r));
       same = f.same ∙ rw g.same (sym (append_assoc f.front g.front (characters_text r)));
     }
+
+pub plain_next : (s rest : List ℕ) (c : ℕ) (t : List ℕ) (b : Bool) → Plain s rest → rest ≡ c ∷ t → b ≡ (not (eqb c 34) && (not (eqb c 92) && leb 32 c)) → b ≡ true → Plain s t
+unfolding characters_text
+plain_next s rest c t b f q e h =
+    plain_then s rest t f (record { front = c ∷ []; cut = q; same = rw (q, plain_byte c (sym e ∙ h)) })
 
 -- One byte
 
@@ -76,4 +81,4 @@ unfolding characters_text
 run_none [] h = refl
 run_none (c ∷ s) h = absurd (omega arith)
 
-pub ruleset strings = (wrote_as, wrote_2, plain_start, plain_then, letters, marked, alone, run_put)
+pub ruleset strings = (wrote_as, wrote_2, plain_start, plain_then, plain_next, letters, marked, alone, run_put)

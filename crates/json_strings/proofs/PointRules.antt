@@ -1,6 +1,7 @@
 -- Rules for the needs of the code points: each premise is a field of what a need is handed.
 --   length_short, point_within           the length of the code point at the start
---   point_bad, point_go                  none; the code point, of which four loaded bytes hold as many as it has
+--   point_bad, point_go                  none; the code point, by its length
+--   point_loaded                         the code point, of which four loaded bytes hold as many as it has
 --   encode_1 .. encode_4                 the bytes of a code point, by its number
 -- Assumes nothing.
 use Rattle.std.specs.Prelude.{Option, None, Some}
@@ -82,6 +83,9 @@ point_is (a ∷ t) = go (following a)
 pub point_bad : (s : List ℕ) → point_length s ≡ 0 → code_point s ≡ None
 point_bad s e = point_is s ∙ rw e
 
+pub point_go : (s : List ℕ) → (point_length s ≡ 0 → ⊥) → code_point s ≡ got (take (point_length s) s) (drop (point_length s) s)
+point_go s e = point_is s ∙ rw (ne_eqb (point_length s) 0 e)
+
 pub point_within : (s : List ℕ) → point_length s ≤ length s
 point_within s = let h : 0 + point_length s ≤ length s = utf8_inside s 0 (point_length s) zero-le refl in omega arith
 
@@ -97,13 +101,13 @@ take_four (a ∷ (b ∷ (c ∷ []))) (suc (suc (suc (suc n)))) h k = absurd (ome
 take_four (a ∷ (b ∷ (c ∷ (d ∷ t)))) (suc (suc (suc (suc zero)))) h k = refl
 take_four (a ∷ (b ∷ (c ∷ (d ∷ t)))) (suc (suc (suc (suc (suc n))))) h k = absurd (omega arith)
 
-pub point_go : (s : List ℕ) (n a b c d : ℕ) (rest : List ℕ) → n ≡ point_length s → (n ≡ 0 → ⊥)
+pub point_loaded : (s : List ℕ) (n a b c d : ℕ) (rest : List ℕ) → n ≡ point_length s → (n ≡ 0 → ⊥)
     → a ≡ get_or s 0 0 → b ≡ get_or s 1 0 → c ≡ get_or s 2 0 → d ≡ get_or s 3 0 → rest ≡ drop n s
     → got (take n (a ∷ b ∷ c ∷ d ∷ [])) rest ≡ code_point s
-point_go s n a b c d rest e f p q r t u =
+point_loaded s n a b c d rest e f p q r t u =
     let h : n ≤ 4 = rw e (length_short s) in
     let k : n ≤ length s = rw e (point_within s) in
-    rw (p, q, r, t, u, take_four s n h k) (sym (point_is s ∙ rw (← e, ne_eqb n 0 f)))
+    rw (p, q, r, t, u, take_four s n h k) (sym (point_go s (λ z. f (e ∙ z)) ∙ rw (← e) refl))
 
 -- The bytes of a code point
 
@@ -124,4 +128,4 @@ module _ (u : ℕ) where
   unfolding encode
   encode_4 l = rw (le-ltb u 128 (omega arith), le-ltb u 2048 (omega arith), le-ltb u 65536 l)
 
-pub ruleset points = (length_short, point_within, point_bad, encode_1, encode_2, encode_3, encode_4)
+pub ruleset points = (length_short, point_within, point_bad, point_go, encode_1, encode_2, encode_3, encode_4)

@@ -1,7 +1,7 @@
 -- The table of names and the place that a hash gives: what is computed once, over the whole table, and the rules for the functions that look
 -- into it.
 --   two_yes, two_no, two_low, two_high, three_yes, three_no, three_low    a text that is compared byte by byte
---   letters_two, letters_three            the name in a cell
+--   letters_is, letters_two, letters_three    the name in a cell
 --   below                what a test finds of every number below n
 --   cell_is              the cell at place p holds the name at place p
 --   place_start, place_least, place_only   an entry of the hashes is a place, that of the name with this hash
@@ -19,6 +19,7 @@ use lib.Dec.{eqb, leb, ltb}
 use native.Mathlib.Omega.{arith}
 use borrow.Author.Tests.{eq-eqb, ne_eqb, eqb-true, leb-true, ltb-true}
 use lib.ListN.{length, get_or, take, drop}
+use lib.Seq.{take_all}
 use Rattle.std.specs.Bool.{nat_eq}
 use Rattle.definitions.specs.Lists.{◌≟◌, all, range, up_to, position, concat, part}
 use Rattle.definitions.specs.Family.{legacy}
@@ -69,9 +70,16 @@ pub ruleset three = (three_yes, three_no, three_low)
 
 -- The name in a cell
 
+pub letters_is : (s cell : List ℕ) (n : ℕ) → length cell ≡ 3 → n ≡ cond (eqb (get_or cell 2 0) 0) 2 3 → (s ≟ take n cell) ≡ (s ≟ letters cell)
+letters_is s cell n h e = rw e (go (eqb (get_or cell 2 0) 0))
+  where
+    go : (b : Bool) → (s ≟ take (cond b 2 3) cell) ≡ (s ≟ cond b (take 2 cell) cell)
+    go true = refl
+    go false = rw (take_all 3 cell (omega arith))
+
 module _ (s cell : List ℕ) (r : Bool) (h : length cell ≡ 3) where
   pub letters_two : get_or cell 2 0 ≡ 0 → r ≡ (s ≟ get_or cell 0 0 ∷ get_or cell 1 0 ∷ []) → r ≡ (s ≟ letters cell)
-  letters_two g e = rw (eq-eqb (get_or cell 2 0) 0 g) (e ∙ ap (s ≟◌) (two cell h))
+  letters_two g e = e ∙ ap (s ≟◌) (two cell h) ∙ letters_is s cell 2 h (rw (eq-eqb (get_or cell 2 0) 0 g) refl)
     where
       two : (c : List ℕ) → length c ≡ 3 → get_or c 0 0 ∷ get_or c 1 0 ∷ [] ≡ take 2 c
       two [] h = absurd (omega arith)
@@ -79,14 +87,13 @@ module _ (s cell : List ℕ) (r : Bool) (h : length cell ≡ 3) where
       two (x ∷ y ∷ c) h = refl
 
   pub letters_three : (get_or cell 2 0 ≡ 0 → ⊥) → r ≡ (s ≟ get_or cell 0 0 ∷ get_or cell 1 0 ∷ get_or cell 2 0 ∷ []) → r ≡ (s ≟ letters cell)
-  letters_three g e = rw (ne_eqb (get_or cell 2 0) 0 g) (e ∙ ap (s ≟◌) (three cell h))
+  letters_three g e = e ∙ ap (s ≟◌) (three cell h) ∙ letters_is s cell 3 h (rw (ne_eqb (get_or cell 2 0) 0 g) refl)
     where
-      three : (c : List ℕ) → length c ≡ 3 → get_or c 0 0 ∷ get_or c 1 0 ∷ get_or c 2 0 ∷ [] ≡ c
+      three : (c : List ℕ) → length c ≡ 3 → get_or c 0 0 ∷ get_or c 1 0 ∷ get_or c 2 0 ∷ [] ≡ take 3 c
       three [] h = absurd (omega arith)
       three (x ∷ []) h = absurd (omega arith)
       three (x ∷ y ∷ []) h = absurd (omega arith)
-      three (x ∷ y ∷ z ∷ []) h = refl
-      three (x ∷ y ∷ z ∷ w ∷ c) h = absurd (omega arith)
+      three (x ∷ y ∷ z ∷ c) h = refl
 
 pub ruleset cells = (letters_two, letters_three)
 

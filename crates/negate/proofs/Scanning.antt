@@ -5,7 +5,7 @@
 --   logical_yes, logical_no, logical_deep            ` && ` and ` || `
 --   counts_here, counts_deep                         a comparison counts at depth 0
 --   bracket_open, bracket_close, bracket_other       one byte
---   byte_found, byte_passed, byte_other, found_after, found_within            what stands at a byte, and where to go on
+--   byte_found, comparison_found, byte_passed, byte_other, found_after, found_within            what stands at a byte, and where to go on
 --   text_next, text_end                              the loop over a text
 --   count_add, count_all                             the loop that counts a byte
 --   token_punct, token_keyword, token_other, token_none    what a token adds, by its kind
@@ -217,7 +217,7 @@ no_logical x s h = go x h
     go Less e = second 60 (32 ∷ []) (λ z. omega arith) (λ z. omega arith) e
     go Greater e = second 62 (32 ∷ []) (λ z. omega arith) (λ z. omega arith) e
 
-module _ (s : List ℕ) (i : ℕ) (h : i < length s) (rest : List ℕ) (e : rest ≡ part i (length s) s) (r : Seen) (w : Option Which)
+module _ (s : List ℕ) (i : ℕ) (h : i < length s) (rest : List ℕ) (e : rest ≡ part i (length s) s) (r n : Seen) (w : Option Which)
     (c : option_map named w ≡ comparison_at rest r) where
   here : rest ≡ get_or s i 0 ∷ drop (i + 1) s
   here = e ∙ part_tail s i ∙ drop_step 0 s i h
@@ -254,12 +254,10 @@ module _ (s : List ℕ) (i : ℕ) (h : i < length s) (rest : List ℕ) (e : rest
     found_within v q = (within v q).1
 
     module _ (place : ℕ) where
-      pub byte_found : (v : ℕ) → v ≡ op_width x
+      pub byte_found : n ≡ see_logical rest r → (v : ℕ) → v ≡ op_width x
           → scan_text place i 0 (drop i s) r
-          ≡ scan_text place (i + v) 0 (drop (i + v) s) (record { opened = r.opened; closed = r.closed; count = r.count + 1; found = Some (found_in place i (named x)) })
-      unfolding see_logical
-      byte_found v q =
-          let g : r ≡ see_logical rest r = rw (no_logical x rest starts, and-false (at_depth_0 r)) in
+          ≡ scan_text place (i + v) 0 (drop (i + v) s) (record { opened = n.opened; closed = n.closed; count = n.count + 1; found = Some (found_in place i (named x)) })
+      byte_found g v q =
           let long = (named_long x).0 in
           let m = length o.op - 1 in
           let at : comparison_at (get_or s i 0 ∷ drop (i + 1) s) r ≡ Some o = ap (λ (x : List ℕ). comparison_at x r) (sym here) ∙ there in
@@ -268,14 +266,24 @@ module _ (s : List ℕ) (i : ℕ) (h : i < length s) (rest : List ℕ) (e : rest
           ap (λ (x : List ℕ). scan_text place i 0 x r) (drop_step 0 s i h)
           ∙ (scan_some place i (get_or s i 0) (drop (i + 1) s) r o at
           ∙ (skipped place (suc i) m (drop (i + 1) s) (add_found (found_in place i o) (see_logical (get_or s i 0 ∷ drop (i + 1) s) r))
-          ∙ rw (drop-drop m (i + 1) s, a, b, ← here, ← g)))
+          ∙ rw (drop-drop m (i + 1) s, a, b, g, here)))
 
   module _ (is : w ≡ None) (place : ℕ) where
-    pub byte_passed : (n : Seen) → n ≡ see_logical rest r → (m : Seen) → m ≡ see_bracket (get_or s i 0) n → scan_text place i 0 (drop i s) r ≡ scan_text place (i + 1) 0 (drop (i + 1) s) m
-    byte_passed n g m q =
+    pub byte_passed : n ≡ see_logical rest r → (m : Seen) → m ≡ see_bracket (get_or s i 0) n → scan_text place i 0 (drop i s) r ≡ scan_text place (i + 1) 0 (drop (i + 1) s) m
+    byte_passed g m q =
         let at : comparison_at (get_or s i 0 ∷ drop (i + 1) s) r ≡ None = ap (λ (x : List ℕ). comparison_at x r) (sym here) ∙ sym c ∙ ap (option_map named) is in
         ap (λ (x : List ℕ). scan_text place i 0 x r) (drop_step 0 s i h)
         ∙ (scan_none place i (get_or s i 0) (drop (i + 1) s) r at ∙ rw (q, g, here, add-one i))
+
+module _ (s : List ℕ) (i : ℕ) (h : i < length s) (rest : List ℕ) (e : rest ≡ part i (length s) s) (r : Seen) (w : Option Which)
+    (c : option_map named w ≡ comparison_at rest r) (x : Which) (is : w ≡ Some x) (place : ℕ) where
+  pub comparison_found : (v : ℕ) → v ≡ op_width x
+      → scan_text place i 0 (drop i s) r
+      ≡ scan_text place (i + v) 0 (drop (i + v) s) (record { opened = r.opened; closed = r.closed; count = r.count + 1; found = Some (found_in place i (named x)) })
+  unfolding see_logical
+  comparison_found =
+      let g : r ≡ see_logical rest r = rw (no_logical x rest (starts s i h rest e r r w c x is), and-false (at_depth_0 r)) in
+      byte_found s i h rest e r r w c x is place g
 
 -- A byte that is no blank: no comparison starts there, nor ` && ` or ` || `
 module _ (c : ℕ) (t : List ℕ) (r : Seen) (h : c ≡ 32 → ⊥) where

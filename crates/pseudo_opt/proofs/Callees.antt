@@ -84,4 +84,6 @@ module _ (l t x : List ℕ) (i s e n : ℕ) (a : s ≡ line_start l i) (d : e �
     pub line_callee_end : n ≤ j → None ≡ r
     line_callee_end = callee_end (line (listing l t x) i).tokens r j n many inv g
 
-pub ruleset callees = (callee_start, line_callee_found, line_callee_next, line_callee_end)
+pub ruleset callees = (callee_start, callee_found, callee_next, callee_end)
+
+pub ruleset line_callees = (callee_start, line_callee_found, line_callee_next, line_callee_end)

@@ -2,7 +2,7 @@
 //
 // Contracts cite `is_callee` and `call_at` of Rattle.definitions.specs.Statements.
 
-#![tactic(auto, using(crate::proofs::Callees::callees))]
+#![tactic(auto, using(crate::proofs::Callees::line_callees))]
 
 ghost use Rattle.std.specs.Prelude.{◌≡◌, ◌&&◌, ◌+◌, eqb, get_or};
 ghost use Rattle.definitions.specs.Lists.{starts_with, ascii};

@@ -10,7 +10,7 @@
 --   starts_short, starts_no   a text that is shorter than p does not start with it
 --   ends_part           s ends with p, where s is no shorter: its last bytes, as many as p has, are == p
 --   ends_short          a text that is shorter than p does not end with it
---   pointwise_≟, ends_same, any_contains      std's words mean the same
+--   pointwise_≟, starts_same, ends_same, any_contains      std's words mean the same
 -- Assumes nothing.
 use mathlib.Core.Path.{◌≡◌, refl, sym, ap, ◌∙◌}
 use mathlib.Core.Bool.{Bool, true, false, ◌&&◌, ◌||◌}
@@ -125,6 +125,9 @@ any_contains b [] = refl
 any_contains b (a ∷ s) = rw (any_contains b s) (ap (λ (x : Bool). x || contains b s) (eqb_sym a b))
 
 module _ (p s : List ℕ) where
+  pub starts_same : std.starts_with nat_eq s p ≡ starts_with p s
+  starts_same = pointwise_≟ p (take (length p) s) ∙ ≟_sym p (take (length p) s) ∙ sym (starts_part p s)
+
   pub ends_same : std.ends_with nat_eq s p ≡ ends_with p s
   ends_same = pointwise_≟ p (drop (length s - length p) s) ∙ ≟_sym p (drop (length s - length p) s) ∙ go (leb (length p) (length s)) refl
     where
@@ -135,7 +138,7 @@ module _ (p s : List ℕ) where
           let z : length s - length p ≡ 0 = omega arith in
           rw (z, e) (≟_length s p (λ q. omega arith))
 
-pub ruleset std_words = (any_contains, ends_same)
+pub ruleset std_words = (pointwise_≟, any_contains, starts_same, ends_same)
 
 pub ruleset equal_steps = (other_length, pointwise_≟, equal_differ, equal_next, equal_end)
 

@@ -5,8 +5,8 @@
 --   lines_full, addresses_full, line_ends_full  no room for a line, or for its end in its word
 --   extension_none, extension_passed, extension_full    no last token, none in its column, no room for its new end
 --   bytes_added, token_ended, line_ended, token_extended    a step that writes
---   apart                                       a token that joins no other
---   same_self, same_more                        of the same columns
+--   apart_written, apart                        a token that joins no other
+--   same_self, same_more, not_written           of the same columns
 --   text_alone, tokens_alone                    a function that is lent one column leaves the other of the two
 --   open_written, lines_written                 what is written, of all four columns
 --   in_turn                                     one step behind another
@@ -272,17 +272,23 @@ apart_any (t ∷ T) u j =
     subst (λ (T : List Token). kinds_join (last_kind T) u.kind ≡ false → merge_last T u ≡ T ++ (u ∷ [])) (sym v.2)
     (λ j. merge_last_snoc v.0 v.1 u ∙ rw (glue_apart v.1 u [] (rw (last_snoc v.0 v.1) at j), append_assoc)) j
 
-pub apart : {w w' : Writer} (k : ℕ) (j : Bool) → j ≡ kinds_join w.written.last k → j ≡ false → Writes tokens_lent (end_token k) w w' → Writes tokens_lent (end_merged k) w w'
-apart k j is f writes = record {
-  same = writes.same;
-  kept = writes.kept;
-  holds = λ o s h. record {
+module _ (k : ℕ) (j : Bool) where
+  pub apart_written : {c c' : Cursor} {o o' : Columns} → j ≡ kinds_join c.last k → j ≡ false
+      → length o'.lines ≡ length o.lines → length o'.addresses ≡ length o.addresses → length o'.tokens ≡ length o.tokens → length o'.text ≡ length o.text
+      → Writing (end_token k) o c o' c' → Writing (end_merged k) o c o' c'
+  apart_written is f l a t x writes s h = record {
     given = λ r.
-        let held = h.given (room_before (grows_merged s k) (record { lines = refl; addresses = refl; tokens = writes.same.tokens_length; text = refl }) r) in
+        let held = h.given (room_before (grows_merged s k) (record { lines = l; addresses = a; tokens = t; text = x }) r) in
         let q = apart_any s.tokens (tok s.bytes k) (rw (← held.last) (sym is ∙ f)) in
-        rw q ((writes.holds o s h).given (rw q at r));
-  };
-}
+        rw q ((writes s h).given (rw q at r));
+  }
+
+  pub apart : {w w' : Writer} → j ≡ kinds_join w.written.last k → j ≡ false → Writes tokens_lent (end_token k) w w' → Writes tokens_lent (end_merged k) w w'
+  apart is f writes = record {
+    same = writes.same;
+    kept = writes.kept;
+    holds = λ o. apart_written is f refl refl writes.same.tokens_length refl (writes.holds o);
+  }
 
 -- A destination
 
@@ -309,6 +315,10 @@ same_more a b = record {
   tokens_length = b.tokens_length ∙ a.tokens_length;
   text_length = b.text_length ∙ a.text_length;
 }
+
+pub not_written : {lent : Columns → Writer → Columns} {f : State → State} {w : Writer} → columns_of w ≡ lent (columns_of w) w
+    → ((o : Columns) → Writing f (lent o w) w.written (lent o w) w.written) → Writes lent f w w
+not_written {w = w} k h = record { same = same_self w; kept = k; holds = h }
 
 -- what a function that is lent a column alone leaves of another
 module _ {f : State → State} {w w' : Writer} where

@@ -2,7 +2,7 @@
 -- Assumes nothing.
 use Rattle.negate.specs.Comparisons.{seen}
 use native.Mathlib.Omega.{arith}
-use Rattle.negate.proofs.Scanning.{byte_passed, byte_other, byte_found, found_after, found_within}
+use Rattle.negate.proofs.Scanning.{byte_passed, byte_other, comparison_found, found_after, found_within}
 use borrow.Author.Rules.{rules}
 use Rattle.negate.proofs.comparison.see_byte.Goals as goal
 
@@ -23,11 +23,11 @@ width-requires c = search (byte_passed, rules)
 
 pub overflow_add-result-in-Some : goal.overflow_add-result-in-Some
 overflow_add-result-in-Some c = let a = c.args in
-    omega (arith, found_within a.s.now a.i c.requires.0 c.part-rest.result.now c.part-rest.ensures (seen a.r.now) c.comparison_at.result c.comparison_at.ensures c.in-Some.which c.in-Some.is c.width.result c.width.ensures)
+    omega (arith, found_within a.s.now a.i c.requires.0 c.part-rest.result.now c.part-rest.ensures (seen a.r.now) (seen a.r.now) c.comparison_at.result c.comparison_at.ensures c.in-Some.which c.in-Some.is c.width.result c.width.ensures)
 
 pub returns-in-Some : goal.returns-in-Some
 returns-in-Some c = let a = c.args in
-    let w = c.width.result in record { r_value = byte_found a.s.now a.i c.requires.0 c.part-rest.result.now c.part-rest.ensures (seen a.r.now) c.comparison_at.result c.comparison_at.ensures c.in-Some.which c.in-Some.is _ w c.width.ensures; i_lt_next = (found_after a.s.now a.i c.requires.0 c.part-rest.result.now c.part-rest.ensures (seen a.r.now) c.comparison_at.result c.comparison_at.ensures c.in-Some.which c.in-Some.is w c.width.ensures, found_within a.s.now a.i c.requires.0 c.part-rest.result.now c.part-rest.ensures (seen a.r.now) c.comparison_at.result c.comparison_at.ensures c.in-Some.which c.in-Some.is w c.width.ensures, omega arith) }
+    let w = c.width.result in record { r_value = comparison_found a.s.now a.i c.requires.0 c.part-rest.result.now c.part-rest.ensures (seen a.r.now) c.comparison_at.result c.comparison_at.ensures c.in-Some.which c.in-Some.is _ w c.width.ensures; i_lt_next = (found_after a.s.now a.i c.requires.0 c.part-rest.result.now c.part-rest.ensures (seen a.r.now) (seen a.r.now) c.comparison_at.result c.comparison_at.ensures c.in-Some.which c.in-Some.is w c.width.ensures, found_within a.s.now a.i c.requires.0 c.part-rest.result.now c.part-rest.ensures (seen a.r.now) (seen a.r.now) c.comparison_at.result c.comparison_at.ensures c.in-Some.which c.in-Some.is w c.width.ensures, omega arith) }
 
 pub see_logical-requires : goal.see_logical-requires
 see_logical-requires c = search (byte_passed, rules)
