@@ -272,23 +272,22 @@ apart_any (t ∷ T) u j =
     subst (λ (T : List Token). kinds_join (last_kind T) u.kind ≡ false → merge_last T u ≡ T ++ (u ∷ [])) (sym v.2)
     (λ j. merge_last_snoc v.0 v.1 u ∙ rw (glue_apart v.1 u [] (rw (last_snoc v.0 v.1) at j), append_assoc)) j
 
-module _ (k : ℕ) (j : Bool) where
-  pub apart_written : {c c' : Cursor} {o o' : Columns} → j ≡ kinds_join c.last k → j ≡ false
-      → length o'.lines ≡ length o.lines → length o'.addresses ≡ length o.addresses → length o'.tokens ≡ length o.tokens → length o'.text ≡ length o.text
-      → Writing (end_token k) o c o' c' → Writing (end_merged k) o c o' c'
-  apart_written is f l a t x writes s h = record {
-    given = λ r.
-        let held = h.given (room_before (grows_merged s k) (record { lines = l; addresses = a; tokens = t; text = x }) r) in
-        let q = apart_any s.tokens (tok s.bytes k) (rw (← held.last) (sym is ∙ f)) in
-        rw q ((writes s h).given (rw q at r));
-  }
+pub apart_written : {c c' : Cursor} {o o' : Columns} (k : ℕ) (j : Bool) → j ≡ kinds_join c.last k → j ≡ false
+    → length o'.lines ≡ length o.lines → length o'.addresses ≡ length o.addresses → length o'.tokens ≡ length o.tokens → length o'.text ≡ length o.text
+    → Writing (end_token k) o c o' c' → Writing (end_merged k) o c o' c'
+apart_written k j is f l a t x writes s h = record {
+  given = λ r.
+      let held = h.given (room_before (grows_merged s k) (record { lines = l; addresses = a; tokens = t; text = x }) r) in
+      let q = apart_any s.tokens (tok s.bytes k) (rw (← held.last) (sym is ∙ f)) in
+      rw q ((writes s h).given (rw q at r));
+}
 
-  pub apart : {w w' : Writer} → j ≡ kinds_join w.written.last k → j ≡ false → Writes tokens_lent (end_token k) w w' → Writes tokens_lent (end_merged k) w w'
-  apart is f writes = record {
-    same = writes.same;
-    kept = writes.kept;
-    holds = λ o. apart_written is f refl refl writes.same.tokens_length refl (writes.holds o);
-  }
+pub apart : {w w' : Writer} (k : ℕ) (j : Bool) → j ≡ kinds_join w.written.last k → j ≡ false → Writes tokens_lent (end_token k) w w' → Writes tokens_lent (end_merged k) w w'
+apart k j is f writes = record {
+  same = writes.same;
+  kept = writes.kept;
+  holds = λ o. apart_written k j is f refl refl writes.same.tokens_length refl (writes.holds o);
+}
 
 -- A destination
 
