@@ -16,7 +16,7 @@ use Rattle.loop_theory.proofs.Cases.{and_split}
 use Rattle.json_definitions.specs.Writer.{hex_letter, escaped, characters_text}
 use Rattle.json_append.specs.Appended.{Plain, Wrote, Begun}
 use Rattle.json_append.specs.declared.writer.Writer.{Writer}
-use Rattle.json_append.proofs.Appends.{wrote_nothing, wrote_then, wrote_as, wrote_2, begun_next, begun_start}
+use Rattle.json_append.proofs.Appends.{wrote_as, wrote_2, begun_next}
 
 -- Bytes that are written as they stand
 
